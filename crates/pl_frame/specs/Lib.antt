@@ -1,0 +1,5 @@
+pub mod Causes
+pub mod Dialect
+pub mod Frame
+pub mod Optional
+pub mod Text

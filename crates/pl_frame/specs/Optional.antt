@@ -1,0 +1,23 @@
+-- Values with flags beside them, and texts in one buffer with their ends, seen as lists of optional values.
+use Rattle.std.specs.Prelude.{◌≡◌, ℕ, ◌-◌, ◌≤◌, Bool, true, false, if◌then◌else◌, List, [], ◌∷◌, length, take, drop, Option, None, Some, IsUtf8}
+
+-- each value where its flag is set, and no value elsewhere
+abbrev pub flagged : {X : Type 0} → List X → List Bool → List (Option X)
+flagged [] flags = []
+flagged (x ∷ xs) [] = []
+flagged (x ∷ xs) (flag ∷ flags) = (if flag then Some x else None) ∷ flagged xs flags
+
+-- the parts of a list behind a place, each up to its end
+abbrev pub parts_between : ℕ → List ℕ → List ℕ → List (List ℕ)
+parts_between from [] bytes = []
+parts_between from (end ∷ ends) bytes = take (end - from) (drop from bytes) ∷ parts_between end ends bytes
+
+-- the ends do not fall, from a place on, and the last of them is another place
+abbrev pub RiseTo : ℕ → List ℕ → ℕ → Type 0
+RiseTo from [] last = from ≡ last
+RiseTo from (end ∷ ends) last = (from ≤ end) × RiseTo end ends last
+
+-- every text is UTF-8
+abbrev pub AllUtf8 : List (List ℕ) → Type 0
+AllUtf8 [] = Unit {0}
+AllUtf8 (text ∷ texts) = IsUtf8 text × AllUtf8 texts

@@ -1,0 +1,118 @@
+-- The text of a frame: the byte order mark if asked, the header if asked, and then each row (docs/quoting.md).
+use Rattle.std.specs.Prelude.{ℕ, ◌+◌, Bool, true, false, ◌||◌, ◌==◌, if◌then◌else◌, List, [], ◌∷◌, ◌++◌, length, Option, None, Some, map, codes}
+use Rattle.std.specs.Fmt.{signed_decimal}
+use Rattle.std.specs.List.{list_any, join_with_byte, flat_map, range_with_len}
+use Rattle.pl_frame.specs.declared.data_type.DataType.{DataType}
+use Rattle.pl_frame.specs.declared.data_type.DataType.TheVariants as dtype
+use Rattle.pl_frame.specs.Frame.{Scalar, Truth, Number, Letters, ColumnValue, cell_at, height_of, names_of}
+
+-- When a cell is quoted. As a number: 0 Necessary, 1 Always, 2 NonNumeric, 3 Never.
+abbrev pub Style : Type 0
+Style = ℕ
+
+-- how a frame is written, as plain data
+pub record WriteOptions : Type 0 where
+  pub separator : ℕ
+  pub quote : ℕ
+  pub null : List ℕ
+  pub terminator : List ℕ
+  pub style : Style
+  pub include_bom : Bool
+  pub include_header : Bool
+
+-- comma, double quote, empty null text, line feed, quoted where necessary, no byte order mark, with a header
+abbrev pub default_write_options : WriteOptions
+default_write_options = record {
+  separator = 44;
+  quote = 34;
+  null = [];
+  terminator = 10 ∷ [];
+  style = 0;
+  include_bom = false;
+  include_header = true;
+}
+
+-- what the styles tell apart
+pub data TypeKind : Type 0 where
+  TextKind : TypeKind
+  NumberKind : TypeKind
+  OtherKind : TypeKind
+
+abbrev pub kind_of : DataType → TypeKind
+kind_of dtype.Boolean = OtherKind
+kind_of dtype.String = TextKind
+kind_of dtype.Categorical = TextKind
+kind_of (dtype.Enum categories) = TextKind
+kind_of dtype.Date = OtherKind
+kind_of dtype.Time = OtherKind
+kind_of (dtype.Datetime unit) = OtherKind
+kind_of dtype.Null = OtherKind
+kind_of _ = NumberKind
+
+-- the printed text of a truth value, a whole number or a text
+abbrev pub plain : Scalar → List ℕ
+plain (Truth true) = codes "true"
+plain (Truth false) = codes "false"
+plain (Number n) = signed_decimal n
+plain (Letters text) = text
+
+-- each quote twice
+abbrev pub doubled : ℕ → List ℕ → List ℕ
+doubled q text = flat_map (λ x. if x == q then q ∷ q ∷ [] else x ∷ []) text
+
+abbrev pub quoted : ℕ → List ℕ → List ℕ
+quoted q text = q ∷ (doubled q text ++ q ∷ [])
+
+-- the null text between quotes; it is never doubled
+abbrev pub quoted_null : ℕ → List ℕ → List ℕ
+quoted_null q null = q ∷ (null ++ q ∷ [])
+
+-- the text is empty or holds the separator, a line feed, a carriage return or the quote
+abbrev pub needs_quotes : ℕ → ℕ → List ℕ → Bool
+needs_quotes separator q [] = true
+needs_quotes separator q (x ∷ xs) = list_any (λ y. y == separator || y == 10 || y == 13 || y == q) (x ∷ xs)
+
+-- a text that is no null, by style
+abbrev pub written_text : WriteOptions → List ℕ → List ℕ
+written_text o text =
+    if o.style == 3 then text
+    else if o.style == 0 then (if needs_quotes o.separator o.quote text then quoted o.quote text else text)
+    else quoted o.quote text
+
+-- a value that is no text, by style
+abbrev pub written_value : WriteOptions → TypeKind → List ℕ → List ℕ
+written_value o kind text =
+    if o.style == 1 then quoted o.quote text
+    else if o.style == 2 then (elim kind [ TextKind ↦ quoted o.quote text | NumberKind ↦ text | OtherKind ↦ quoted o.quote text ])
+    else text
+
+-- the written cell
+abbrev pub written_cell : WriteOptions → DataType → Option Scalar → List ℕ
+written_cell o type None = if o.style == 1 then quoted_null o.quote o.null else o.null
+written_cell o type (Some (Letters text)) = written_text o text
+written_cell o type (Some value) = written_value o (kind_of type) (plain value)
+
+-- a line: texts joined by the separator, and the terminator
+abbrev pub line : WriteOptions → List (List ℕ) → List ℕ
+line o texts = join_with_byte o.separator texts ++ o.terminator
+
+abbrev pub header_line : WriteOptions → List (List ℕ) → List ℕ
+header_line o names = line o (map (written_text o) names)
+
+abbrev pub row_line : WriteOptions → List ColumnValue → ℕ → List ℕ
+row_line o columns row = line o (map (λ column. written_cell o column.dtype (cell_at column row)) columns)
+
+-- the lines of this many rows, from one on
+abbrev pub row_lines : WriteOptions → List ColumnValue → ℕ → ℕ → List ℕ
+row_lines o columns from count = flat_map (row_line o columns) (range_with_len from count)
+
+abbrev pub byte_order_mark : List ℕ
+byte_order_mark = 239 ∷ 187 ∷ 191 ∷ []
+
+-- what stands before the rows
+abbrev pub head_text : WriteOptions → List (List ℕ) → List ℕ
+head_text o names = (if o.include_bom then byte_order_mark else []) ++ (if o.include_header then header_line o names else [])
+
+-- the text of a frame
+abbrev pub text_of_frame : WriteOptions → List ColumnValue → List ℕ
+text_of_frame o columns = head_text o (names_of columns) ++ row_lines o columns 0 (height_of columns)

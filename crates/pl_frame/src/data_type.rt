@@ -1,0 +1,68 @@
+//! The types of columns.
+ghost use Rattle.std.specs.Prelude.{◌≡◌};
+
+use crate::name::PlSmallStr;
+use std::marker::Model;
+
+/// The unit in which a datetime counts from 1970-01-01T00:00:00.
+#[derive(Clone, Copy, Debug, PartialEq, Eq)]
+pub enum TimeUnit {
+    Milliseconds,
+    Microseconds,
+    Nanoseconds,
+}
+
+/// The type of a column.
+#[derive(Debug, Drop)]
+pub enum DataType {
+    Boolean,
+    Int8,
+    Int16,
+    Int32,
+    Int64,
+    Int128,
+    UInt8,
+    UInt16,
+    UInt32,
+    UInt64,
+    String,
+    Categorical,
+    /// One of these texts, where they are set.
+    Enum(Option<Categories>),
+    Date,
+    Time,
+    Datetime(TimeUnit),
+    /// Precision and scale, where they are set.
+    Decimal(Option<u32>, Option<u32>),
+    Null,
+}
+
+/// The texts of an enum, in order, perhaps with repeats.
+#[derive(Debug, Drop)]
+pub struct Categories {
+    texts: Vec<PlSmallStr>,
+}
+
+impl Model for Categories {
+    ghost use Rattle.std.specs.Prelude.{ℕ, List};
+
+    ghost Value = { List (List ℕ) };
+
+    ghost view = { λ categories. categories.texts.items };
+}
+
+impl Categories {
+    /// These texts, without taking memory.
+    pub fn new(texts: Vec<PlSmallStr>) -> Self
+        ensures { result ≡ texts.items }
+    {
+        Categories { texts }
+    }
+
+    /// The texts in order, without taking memory.
+    pub fn texts(&self) -> &[PlSmallStr]
+        ensures { result.now ≡ self.now }
+    {
+        &self.texts
+    }
+}

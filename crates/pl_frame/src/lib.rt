@@ -1,0 +1,7 @@
+//! What the CSV reader and writer share: types, schemas, columns and frames, the error type, and the outside as
+//! sources and sinks of bytes.
+#![tactic(auto)]
+
+pub mod data_type;
+pub mod error;
+pub mod name;

@@ -1,5 +1,5 @@
 -- What contracts see of the sources and sinks in memory.
-use Rattle.std.specs.Prelude.{◌≡◌, ℕ, ◌+◌, ◌-◌, ◌^◌, min, List, Result, OnOk, OnErr, IsErrOf}
+use Rattle.std.specs.Prelude.{◌≡◌, ℕ, ◌+◌, ◌-◌, ◌^◌, min, List, drop, Option, Some, Result, OnOk, OnErr, IsErrOf}
 
 -- a count after one more, which stays at the end of its type
 abbrev pub raised : ℕ → ℕ
@@ -9,6 +9,10 @@ raised count = min (count + 1) (2 ^ 64 - 1)
 pub record Reading : Type 0 where
   pub bytes : List ℕ
   pub place : ℕ
+
+-- the bytes that were not read
+abbrev pub left_of : Reading → Option (List ℕ)
+left_of reading = Some (drop reading.place reading.bytes)
 
 -- the bytes that a sink received, and how often memory was wanting
 pub record Writing : Type 0 where

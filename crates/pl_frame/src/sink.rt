@@ -1,8 +1,8 @@
 //! Where bytes go.
-ghost use Rattle.std.specs.Prelude.{◌≡◌, ℕ, ◌<◌, ◌≤◌, ◌↔◌, min, List, [], length, take, Option, Some, Err, IfOk, OnOk, OnErr, IsErrOf, Contains};
+ghost use Rattle.std.specs.Prelude.{◌≡◌, ℕ, ◌<◌, ◌≤◌, ◌↔◌, min, List, [], length, take, Option, Some, Err, IfOk, OnOk, OnErr, IsErrOf, IsOkUnless, Contains};
 ghost use Rattle.std.specs.Io.KnownBytes.{Appends, WriteAppends};
 ghost use Rattle.pl_frame.specs.Causes.{Rose, TakesSome};
-ghost use Rattle.pl_frame.specs.Outside.{raised, RisesAt};
+ghost use Rattle.pl_frame.specs.Outside.{raised, RisesAt, RisesAtErr};
 
 use std::alloc::Global;
 use std::marker::Model;
@@ -107,16 +107,13 @@ impl Sink for MemSink {
 
     fn write(&mut self, piece: &[u8]) -> Result<usize, SinkFault>
         requires { 0 < length piece.now }
-        ensures some { TakesSome result piece.now }
         ensures bytes { WriteAppends (Some self.old.received) (Some self.new.received) result piece.now }
-        ensures later { 0 ≤ 0 }
-        ensures later_wants { self.old.wants ≤ self.new.wants }
-        ensures device { IsErrOf result SinkFault.Device → Rose 0 0 }
-        ensures memory { IsErrOf result SinkFault.OutOfMemory → Rose self.old.wants self.new.wants }
 
-        // It takes all of the piece, and counts each time that memory was wanting.
+        // It takes all of the piece, or memory is wanting and that is counted.
         ensures all { IfOk result (λ n. n ≡ length piece.now) }
-        ensures wanted { RisesAt SinkFault.OutOfMemory self.old.wants self.new.wants result }
+        ensures refused { IsOkUnless result SinkFault.OutOfMemory }
+        ensures later_wants { self.old.wants ≤ self.new.wants }
+        ensures wanted { RisesAtErr self.old.wants self.new.wants result }
     {
         match self.received.extend_from_slice(piece) {
             Ok(()) => Ok(piece.len()),

@@ -3,7 +3,7 @@ ghost use Rattle.std.specs.Prelude.{◌≡◌, ℕ, ◌+◌, ◌<◌, ◌↔◌,
 ghost use Rattle.std.specs.Io.{ReadsAtMost};
 ghost use Rattle.std.specs.Io.KnownBytes.{ReadConsumes};
 ghost use Rattle.pl_frame.specs.Causes.{HasCause};
-ghost use Rattle.pl_frame.specs.Outside.{raised, RisesAtErr};
+ghost use Rattle.pl_frame.specs.Outside.{left_of, raised, RisesAtErr};
 
 use std::marker::Model;
 
@@ -84,19 +84,20 @@ impl<'a> MemSource<'a> {
 }
 
 impl<'a> Source for MemSource<'a> {
-    ghost left = { λ source. Some (drop source.place source.bytes) };
+    ghost left = { left_of };
 
     ghost faults = { λ _. 0 };
 
     fn read(&mut self, buf: &mut [u8]) -> Result<usize, Failed>
         requires { 0 < length buf.old }
         ensures bound { ReadsAtMost result buf.new }
-        ensures bytes { ReadConsumes (Some (drop self.old.place self.old.bytes)) (Some (drop self.new.place self.new.bytes)) result buf.new }
+        ensures bytes { ReadConsumes (left_of self.old) (left_of self.new) result buf.new }
         ensures cause { HasCause 0 0 result }
 
-        // It gives as many bytes as there are and have room, and all its bytes stay.
+        // It never fails and gives as many bytes as there are and have room.
         ensures count { result ≡ Ok (min (length (drop self.old.place self.old.bytes)) (length buf.old)) }
-        ensures state { IfOk result (λ n. self.new ≡ record { bytes = self.old.bytes; place = self.old.place + n }) }
+        ensures all { self.new.bytes ≡ self.old.bytes }
+        ensures place { IfOk result (λ n. self.new.place ≡ self.old.place + n) }
     {
         let rest = &self.bytes[self.place..];
         let count = rest.len().min(buf.len());
@@ -191,7 +192,9 @@ mod tests {
     use std::test::Fail;
 
     // Through the bound: what two reads of at most three bytes give.
-    fn first_two<So: Source>(mut source: So) -> (Result<usize, Failed>, Result<usize, Failed>) {
+    fn first_two<So: Source + Drop>(
+        mut source: So,
+    ) -> (Result<usize, Failed>, Result<usize, Failed>) {
         let mut buf = [0u8; 3];
         let first = source.read(&mut buf);
         (first, source.read(&mut buf))

@@ -2,4 +2,5 @@ pub mod Causes
 pub mod Dialect
 pub mod Frame
 pub mod Optional
+pub mod Outside
 pub mod Text

@@ -5,3 +5,5 @@
 pub mod data_type;
 pub mod error;
 pub mod name;
+pub mod numbers;
+pub mod texts;

@@ -2,6 +2,7 @@
 //! sources and sinks of bytes.
 #![tactic(auto)]
 
+pub mod column;
 pub mod data_type;
 pub mod error;
 pub mod name;

@@ -4,3 +4,4 @@
 mod integers;
 mod quoting;
 mod serializer;
+mod buffer;

@@ -1,5 +1,5 @@
 //! Comment prefixes.
-ghost use Rattle.std.specs.Prelude.{◌≡◌, ◌↔◌, IsTrue, IfOk, IsOkUnless, Some, List, [], ◌∷◌, nat_eq, not, ◌==◌};
+ghost use Rattle.std.specs.Prelude.{◌≡◌, ◌↔◌, IsTrue, IfOk, IsOkUnless, Some, nat_eq, not, ◌==◌};
 ghost use Rattle.std.specs.List.{starts_with, list_all};
 ghost use Rattle.pl_frame.specs.Dialect.{IsCommentPrefix};
 ghost use Rattle.pl_frame.specs.declared.error.PolarsError.TheVariants as error;

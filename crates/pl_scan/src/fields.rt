@@ -1,11 +1,11 @@
 //! The fields of a record.
-ghost use Rattle.std.specs.Prelude.{◌≡◌, ◌≢◌, ◌≤◌, ◌+◌, ℕ, Bool, List, length, Option, Some, None};
+ghost use Rattle.std.specs.Prelude.{◌≡◌, ◌≤◌, ◌+◌, ℕ, Bool, List, length, Option, Some, None};
 ghost use Rattle.std.specs.Iterator.{YieldsFirstBy, item_count};
 ghost use Rattle.std.specs.Option.{option_copied};
 ghost use Rattle.pl_frame.specs.Dialect.{marks, AreDistinct};
 ghost use Rattle.pl_scan.specs.Fields.{begins_quoted, cut_quoted, cut_plain, cut_field, cut_at, marked_fields, behind, fields_left, field_text};
 
-use memchr::{memchr, memchr2, memchr3};
+use memchr::memchr2;
 use std::marker::Model;
 
 // The length of the quoted field at the front.

@@ -1,5 +1,5 @@
 //! The items of a text.
-ghost use Rattle.std.specs.Prelude.{◌≡◌, ◌≤◌, ◌+◌, ◌<◌, ℕ, List, length, drop, take, Option, nat_eq, IsTrue, not};
+ghost use Rattle.std.specs.Prelude.{◌≡◌, ◌≤◌, ◌+◌, ◌<◌, List, length, drop, Option};
 ghost use Rattle.pl_scan.specs.Items.{item, items, Entry, text_of, item_text};
 ghost use Rattle.std.specs.Iterator.{YieldsFirstBy, item_count};
 ghost use Rattle.pl_frame.specs.Dialect.{marks};

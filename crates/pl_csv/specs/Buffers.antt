@@ -1,5 +1,5 @@
 -- What a buffer holds.
-use Rattle.std.specs.Prelude.{◌≡◌, ℕ, List, [], ◌∷◌, ◌++◌, map, Option, None, Some, Ok, Err}
+use Rattle.std.specs.Prelude.{◌≡◌, ℕ, ℤ, List, [], ◌∷◌, ◌++◌, map, Option, None, Some, Ok, Err}
 use Rattle.std.specs.Option.{option_map}
 use Rattle.pl_frame.specs.declared.data_type.DataType.{DataType}
 use Rattle.pl_frame.specs.declared.data_type.DataType.TheVariants as dtype
@@ -27,8 +27,21 @@ kind_of_fault cell_fault.Utf8 = Some fault.Utf8
 kind_of_fault cell_fault.Value = Some fault.Value
 kind_of_fault cell_fault.OutOfMemory = None
 
+-- the numbers have the cell's value at their end
+pub record AddsNumber (old new : List (Option ℤ)) (c : Cell) : Type 0 where
+  pub value : Option ℤ
+  pub is : c ≡ Ok (option_map Number value)
+  pub pushed : new ≡ old ++ value ∷ []
+
+-- the texts have the cell's value at their end
+pub record AddsText (old new : List (Option (List ℕ))) (c : Cell) : Type 0 where
+  pub value : Option (List ℕ)
+  pub is : c ≡ Ok (option_map Letters value)
+  pub pushed : new ≡ old ++ value ∷ []
+
 -- the buffer has the cell's value at its end
-pub record AddsCell (old new : Buffer) (c : Cell) (value : Option Scalar) : Type 0 where
+pub record AddsCell (old new : Buffer) (c : Cell) : Type 0 where
+  pub value : Option Scalar
   pub is : c ≡ Ok value
   pub type : buffer_type new ≡ buffer_type old
   pub values : buffer_values new ≡ buffer_values old ++ value ∷ []

@@ -3,3 +3,4 @@ pub mod Quoting
 pub mod Cells
 pub mod Reading
 pub mod Buffers
+pub mod Rows

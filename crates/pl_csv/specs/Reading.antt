@@ -6,7 +6,7 @@ use Rattle.pl_frame.specs.declared.error.FaultKind.{FaultKind}
 use Rattle.pl_frame.specs.declared.error.FaultKind.TheVariants as fault
 use Rattle.pl_frame.specs.Dialect.{Marks, marks}
 use Rattle.pl_frame.specs.Frame.{ColumnValue}
-use Rattle.pl_scan.specs.Fields.{fields}
+use Rattle.pl_scan.specs.Fields.{fields, extent}
 use Rattle.pl_scan.specs.Items.{Entry, CommentText, RecordText, text_of, item}
 use Rattle.pl_scan.specs.Start.{no_skips, data_left}
 use Rattle.pl_csv.specs.Cells.{cell, value_of, fault_of}
@@ -37,6 +37,10 @@ items_behind m comment b = items_behind_within m comment (length b) b
 pub record Row : Type 0 where
   pub fields : List (List ℕ)
   pub is_end : Bool
+
+-- the record at the front of a text
+abbrev pub row_at : Marks → List ℕ → Row
+row_at m b = record { fields = fields m b; is_end = length (drop (extent m b) b) == 0 }
 
 -- comments give no row
 abbrev pub row_of : Marks → Entry × List ℕ → Option Row

@@ -4,4 +4,5 @@
 mod buffer;
 mod integers;
 mod quoting;
+mod rows;
 mod serializer;

@@ -69,8 +69,7 @@ quoted_null q null = q ∷ (null ++ q ∷ [])
 
 -- the text is empty or holds the separator, a line feed, a carriage return or the quote
 abbrev pub needs_quotes : ℕ → ℕ → List ℕ → Bool
-needs_quotes separator q [] = true
-needs_quotes separator q (x ∷ xs) = list_any (λ y. y == separator || y == 10 || y == 13 || y == q) (x ∷ xs)
+needs_quotes separator q text = length text == 0 || list_any (λ x. x == separator || x == 10 || x == 13 || x == q) text
 
 -- a text that is no null, by style
 abbrev pub written_text : WriteOptions → List ℕ → List ℕ

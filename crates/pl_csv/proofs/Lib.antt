@@ -1,0 +1,3 @@
+pub mod IntegerLaws
+pub mod QuotingLaws
+pub mod WrittenLaws

@@ -5,5 +5,6 @@
 pub mod data_type;
 pub mod error;
 pub mod name;
+pub mod schema;
 pub mod sink;
 pub mod source;

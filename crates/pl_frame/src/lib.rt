@@ -7,6 +7,7 @@ pub mod data_type;
 pub mod error;
 pub mod name;
 pub mod numbers;
+pub mod schema;
 pub mod sink;
 pub mod source;
 pub mod texts;

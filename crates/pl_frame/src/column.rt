@@ -1,5 +1,5 @@
 //! Columns: a name, a type and values of that type.
-ghost use Rattle.std.specs.Prelude.{◌≡◌, ◌<◌, [], ◌∷◌, ◌++◌, length, IfOk, OnOk, OnErr, IfErr, IfSome, IsOkUnless, count_by, is_none, is_some};
+ghost use Rattle.std.specs.Prelude.{◌≡◌, ◌<◌, [], ◌∷◌, ◌++◌, length, IfOk, OnOk, OnErr, IfErr, IfSome, IsOkUnless, count_by, is_none, is_some, not, true, if◌then◌else◌};
 ghost use Rattle.pl_frame.specs.Columns.{scalar_of, number_cells, text_cells, is_int64, is_string, in_64_bits, is_outside, first_outside, IsFirstFault};
 ghost use Rattle.pl_frame.specs.Frame.{cell_at};
 
@@ -69,6 +69,48 @@ impl Model for Column {
 }
 
 impl Column {
+    /// A column of whole numbers. Refuses a number outside the range of the type, with its row, and want of memory.
+    pub fn whole(
+        alloc: Global,
+        name: PlSmallStr,
+        dtype: DataType,
+        values: Vec<Option<i128>>,
+    ) -> Result<Column, ColumnFault>
+        requires { dtype ≡ DataType.Int64 }
+        ensures column { IfOk result (λ c. c ≡ record { name = name; dtype = dtype; values = number_cells values.items }) }
+        ensures in_range { OnOk result (first_outside values.items ≡ None) }
+        ensures refused { IfErr result (IsFirstFault (first_outside values.items)) }
+    {
+        let mut numbers = Numbers::new(alloc);
+        numbers.reserve(values.len())?;
+        fill_numbers(&mut numbers, &values)?;
+        Ok(Column {
+            name,
+            dtype,
+            kept: Data::Int64(numbers),
+        })
+    }
+
+    /// A column of texts. Refuses only want of memory.
+    pub fn text(
+        alloc: Global,
+        name: PlSmallStr,
+        dtype: DataType,
+        values: Vec<Option<PlSmallStr>>,
+    ) -> Result<Column, ColumnFault>
+        requires { dtype ≡ DataType.String }
+        ensures column { IfOk result (λ c. c ≡ record { name = name; dtype = dtype; values = text_cells values.items }) }
+        ensures refused { IsOkUnless result ColumnFault.OutOfMemory }
+    {
+        let mut texts = Texts::new(alloc);
+        fill_texts(&mut texts, &values)?;
+        Ok(Column {
+            name,
+            dtype,
+            kept: Data::String(texts),
+        })
+    }
+
     /// A column of type `Int64` that takes these numbers over, without taking memory.
     pub fn from_int64(name: PlSmallStr, numbers: Numbers<i64>) -> Column
         ensures { result ≡ record { name = name; dtype = DataType.Int64; values = number_cells numbers } }
@@ -163,4 +205,61 @@ impl Column {
             Data::String(texts) => Some(texts),
         }
     }
+}
+
+// Puts numbers behind none, up to the first that is outside the range.
+fn fill_numbers(numbers: &mut Numbers<i64>, values: &[Option<i128>]) -> Result<(), ColumnFault>
+    requires { numbers.old ≡ [] }
+    ensures numbers { OnOk result (numbers.new ≡ values.now) }
+    ensures in_range { OnOk result (first_outside values.now ≡ None) }
+    ensures refused { IfErr result (IsFirstFault (first_outside values.now)) }
+{
+    for (row, value) in values.iter().enumerate() {
+        if !push_number(numbers, *value)? {
+            return Err(ColumnFault::OutOfRange { row });
+        }
+    }
+    Ok(())
+}
+
+// Puts a number at the end, and says whether it is in range.
+#[inline]
+fn push_number(numbers: &mut Numbers<i64>, value: Option<i128>) -> Result<bool, AllocError>
+    ensures tested { IfOk result (λ fits. fits ≡ not (is_outside value)) }
+    ensures pushed { IfOk result (λ fits. fits ≡ true → numbers.new ≡ numbers.old ++ value ∷ []) }
+{
+    match value {
+        None => numbers.push_null()?,
+        Some(number) => match narrow(number) {
+            Some(number) => numbers.push(number)?,
+            None => return Ok(false),
+        },
+    }
+    Ok(true)
+}
+
+// The number in 64 bits, if it is in their range.
+#[inline]
+fn narrow(number: i128) -> Option<i64>
+    ensures { result ≡ (if in_64_bits number then Some number else None) }
+{
+    if i128::from(i64::MIN) <= number && number <= i128::from(i64::MAX) {
+        Some(number as i64)
+    } else {
+        None
+    }
+}
+
+// Puts texts behind none.
+fn fill_texts(texts: &mut Texts, values: &[Option<PlSmallStr>]) -> Result<(), AllocError>
+    requires { texts.old ≡ [] }
+    ensures { OnOk result (texts.new ≡ values.now) }
+{
+    for value in values {
+        match value {
+            None => texts.push_null()?,
+            Some(text) => texts.push(text.as_str())?,
+        }
+    }
+    Ok(())
 }

@@ -2,6 +2,7 @@
 #![tactic(auto)]
 
 mod buffer;
+mod frames;
 mod integers;
 mod quoting;
 mod rows;

@@ -7,3 +7,4 @@ mod integers;
 mod quoting;
 mod rows;
 mod serializer;
+mod writer;

@@ -3,5 +3,6 @@ pub mod ColumnData
 pub mod Columns
 pub mod Dialect
 pub mod Frame
+pub mod Names
 pub mod Optional
 pub mod Text

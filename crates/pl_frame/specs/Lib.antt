@@ -1,5 +1,9 @@
 pub mod Causes
+pub mod ColumnData
+pub mod Columns
 pub mod Dialect
 pub mod Frame
 pub mod Optional
+pub mod Outside
+pub mod Schema
 pub mod Text

@@ -1,5 +1,5 @@
 -- The text of a frame: the byte order mark if asked, the header if asked, and then each row (docs/quoting.md).
-use Rattle.std.specs.Prelude.{ℕ, ◌+◌, Bool, true, false, ◌||◌, ◌==◌, if◌then◌else◌, List, [], ◌∷◌, ◌++◌, length, Option, None, Some, map, codes}
+use Rattle.std.specs.Prelude.{ℕ, Bool, true, false, ◌||◌, ◌==◌, if◌then◌else◌, List, [], length, ◌∷◌, ◌++◌, Option, None, Some, map, codes, ◌+◌}
 use Rattle.std.specs.Fmt.{signed_decimal}
 use Rattle.std.specs.List.{list_any, join_with_byte, flat_map, range_with_len}
 use Rattle.pl_frame.specs.declared.data_type.DataType.{DataType}
@@ -69,8 +69,7 @@ quoted_null q null = q ∷ (null ++ q ∷ [])
 
 -- the text is empty or holds the separator, a line feed, a carriage return or the quote
 abbrev pub needs_quotes : ℕ → ℕ → List ℕ → Bool
-needs_quotes separator q [] = true
-needs_quotes separator q (x ∷ xs) = list_any (λ y. y == separator || y == 10 || y == 13 || y == q) (x ∷ xs)
+needs_quotes separator q text = length text == 0 || list_any (λ x. x == separator || x == 10 || x == 13 || x == q) text
 
 -- a text that is no null, by style
 abbrev pub written_text : WriteOptions → List ℕ → List ℕ

@@ -1,0 +1,84 @@
+-- The number of a text of digits, read digit by digit.
+use Rattle.std.proofs.Common.{◌≡◌, ℕ, zero, suc, ◌+◌, ◌-◌, ◌*◌, ◌^◌, ◌<◌, ◌≤◌, Bool, true, false, cond, ◌&&◌, ltb, List, [], ◌∷◌, ◌++◌, length, take, drop, get_or, add-one, lit<, refl, sym, ◌∙◌, ap, subst, arith, inl, inr, Some, None, Option}
+use Rattle.std.proofs.Math.Nat.{pow-le-pow_right, pow-suc}
+use Rattle.std.specs.Str.{all_ascii_digits}
+use Rattle.std.specs.Char.{is_ascii_digit}
+use Rattle.std.proofs.lemmas.List.{take_more, take-append-drop, drop_more}
+use Rattle.std.proofs.lemmas.Bool.Decides.{nat_tests}
+use Rattle.std.proofs.lemmas.Grind.{common_steps}
+use Rattle.pl_csv.specs.Integers.{is_digits, number_after, number_of, number_below}
+
+pub number_after-append : (n : ℕ) (xs ys : List ℕ) → number_after n (xs ++ ys) ≡ number_after (number_after n xs) ys
+number_after-append n [] ys = refl
+number_after-append n (x ∷ xs) ys = number_after-append (n * 10 + (x - 48)) xs ys
+
+pub number_of_more : (xs : List ℕ) (i : ℕ) → i < length xs → number_of (take (i + 1) xs) ≡ number_of (take i xs) * 10 + (get_or xs i 0 - 48)
+number_of_more xs i h = ap number_of (take_more xs i 0 h) ∙ number_after-append 0 (take i xs) (get_or xs i 0 ∷ [])
+
+pub number_after-ge : (n : ℕ) (xs : List ℕ) → n ≤ number_after n xs
+number_after-ge n [] = omega arith
+number_after-ge n (x ∷ xs) = omega (arith, number_after-ge (n * 10 + (x - 48)) xs)
+
+-- the number of the first digits is no greater than that of all
+pub number_of-take : (xs : List ℕ) (i : ℕ) → number_of (take i xs) ≤ number_of xs
+number_of-take xs i =
+    subst (λ (ys : List ℕ). number_of (take i xs) ≤ number_of ys) (take-append-drop i xs)
+    (subst (λ (n : ℕ). number_of (take i xs) ≤ n) (sym (number_after-append 0 (take i xs) (drop i xs))) (number_after-ge (number_of (take i xs)) (drop i xs)))
+
+pub all_ascii_digits-append : (xs ys : List ℕ) → all_ascii_digits (xs ++ ys) ≡ (all_ascii_digits xs && all_ascii_digits ys)
+all_ascii_digits-append [] ys = refl
+all_ascii_digits-append (x ∷ xs) ys = by_test (is_ascii_digit x) (all_ascii_digits-append xs ys)
+  where
+    by_test : (t : Bool) → all_ascii_digits (xs ++ ys) ≡ (all_ascii_digits xs && all_ascii_digits ys)
+        → (t && all_ascii_digits (xs ++ ys)) ≡ ((t && all_ascii_digits xs) && all_ascii_digits ys)
+    by_test true e = e
+    by_test false e = refl
+
+pub all_ascii_digits_more : (xs : List ℕ) (i : ℕ) → i < length xs → all_ascii_digits (take i xs) ≡ true → is_ascii_digit (get_or xs i 0) ≡ true → all_ascii_digits (take (i + 1) xs) ≡ true
+all_ascii_digits_more xs i h front here = rw (take_more xs i 0 h, all_ascii_digits-append, front, here) refl
+
+-- a byte that is no digit spoils the whole
+pub all_ascii_digits_spoilt : (xs : List ℕ) (i : ℕ) → i < length xs → is_ascii_digit (get_or xs i 0) ≡ false → all_ascii_digits xs ≡ false
+all_ascii_digits_spoilt (x ∷ xs) zero h e = rw e refl
+all_ascii_digits_spoilt (x ∷ xs) (suc i) h e = by_test (is_ascii_digit x) (all_ascii_digits_spoilt xs i (omega arith) e)
+  where
+    by_test : (t : Bool) → all_ascii_digits xs ≡ false → (t && all_ascii_digits xs) ≡ false
+    by_test true e = e
+    by_test false _ = refl
+all_ascii_digits_spoilt [] i h e = absurd (omega arith)
+
+pub is_digits-cons : (xs : List ℕ) → 0 < length xs → is_digits xs ≡ all_ascii_digits xs
+is_digits-cons [] h = absurd (omega arith)
+is_digits-cons (x ∷ xs) h = refl
+
+-- what a reader of digits answers
+pub number_below-none : (limit : ℕ) (xs : List ℕ) → is_digits xs ≡ false → None ≡ number_below limit xs
+number_below-none limit xs e = rw e refl
+
+pub number_below-spoilt : (limit : ℕ) (xs : List ℕ) (i : ℕ) → i < length xs → is_ascii_digit (get_or xs i 0) ≡ false → None ≡ number_below limit xs
+number_below-spoilt limit xs i h e = number_below-none limit xs (is_digits-cons xs (omega arith) ∙ all_ascii_digits_spoilt xs i h e)
+
+pub number_below-some : (limit : ℕ) (xs : List ℕ) (n : ℕ) → 0 < length xs → all_ascii_digits xs ≡ true → n ≡ number_of xs → n < limit → Some n ≡ number_below limit xs
+number_below-some limit xs n some digits is fits =
+    rw (is_digits-cons xs some, digits, ← is) (grind (arith, nat_tests))
+
+pub number_below-past : (limit : ℕ) (xs : List ℕ) (i : ℕ) → limit ≤ number_of (take i xs) → None ≡ number_below limit xs
+number_below-past limit xs i past =
+    let all : limit ≤ number_of xs = omega (arith, number_of-take xs i) in
+    by_test (is_digits xs) all
+  where
+    by_test : (t : Bool) → limit ≤ number_of xs → None ≡ cond (t && (ltb (number_of xs) limit)) (Some (number_of xs)) None
+    by_test true h = grind (arith, nat_tests)
+    by_test false _ = refl
+
+-- one more digit behind a number of so many digits
+pub ten_more : (n i d : ℕ) → n < 10 ^ i → d < 10 → n * 10 + d < 10 ^ (i + 1)
+ten_more n i d h small = rw (add-one, pow-suc 10 i) (omega arith)
+
+-- at most 19 digits write a number that fits
+pub nineteen : (n i : ℕ) → n < 10 ^ i → i ≤ 19 → n < 2 ^ 64
+nineteen n i h few = omega (arith, pow-le-pow_right {n = 10} (lit< tt) {i = i} {j = 19} few)
+
+-- a digit writes less than ten
+pub digit_small : (x : ℕ) → is_ascii_digit x ≡ true → x - 48 < 10
+digit_small x h = grind (arith, nat_tests)

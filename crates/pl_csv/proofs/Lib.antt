@@ -1,0 +1,6 @@
+pub mod IntegerLaws
+pub mod QuotingLaws
+pub mod WrittenLaws
+pub mod RowLaws
+pub mod FaultLaws
+pub mod ReadLaws

@@ -8,3 +8,4 @@ mod quoting;
 mod rows;
 mod serializer;
 mod writer;
+mod reading;

@@ -5,7 +5,7 @@ mod buffer;
 mod frames;
 mod integers;
 mod quoting;
+mod reading;
 mod rows;
 mod serializer;
 mod writer;
-mod reading;

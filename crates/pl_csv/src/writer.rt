@@ -9,6 +9,7 @@ use pl_frame::column::{Column, Value};
 use std::alloc::AllocError;
 
 const SEPARATOR: u8 = b',';
+
 const QUOTE: u8 = b'"';
 
 // Appends a whole number of any width.

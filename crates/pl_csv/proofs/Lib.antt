@@ -1,3 +1,5 @@
 pub mod IntegerLaws
 pub mod QuotingLaws
 pub mod WrittenLaws
+pub mod RowLaws
+pub mod FaultLaws

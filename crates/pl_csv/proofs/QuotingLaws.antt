@@ -3,6 +3,8 @@ use Rattle.std.proofs.Common.{◌≡◌, ℕ, zero, suc, ◌+◌, ◌-◌, ◌<�
 use Rattle.std.proofs.lemmas.List.{take_all, drop_all}
 use Rattle.std.proofs.lemmas.Bool.Decides.{nat_tests}
 use Rattle.std.proofs.lemmas.Grind.{common_steps}
+use Rattle.std.specs.Str.{IsUtf8, is_utf8}
+use Rattle.std.proofs.lemmas.Str.{IsUtf8-from_is_utf8}
 use Rattle.memchr.specs.Find.{Nowhere, Passes, is_byte}
 use Rattle.pl_csv.specs.Quoting.{undouble}
 
@@ -32,3 +34,6 @@ written_more all to plain x rest left so_far next =
 pub undouble-none : (q : ℕ) (xs : List ℕ) → Nowhere (Passes (is_byte q) xs) 0 (length xs) → undouble q xs ≡ xs
 undouble-none q xs none =
     undouble-pass q xs (length xs) none (omega arith) ∙ rw (take_all (length xs) xs (omega arith), drop_all (length xs) xs (omega arith)) (append-nil xs)
+
+pub is_utf8-not : (bs : List ℕ) → ¬ (IsUtf8 bs) → is_utf8 bs ≡ false
+is_utf8-not bs h = not_true (is_utf8 bs) (λ e. h (IsUtf8-from_is_utf8 bs e))

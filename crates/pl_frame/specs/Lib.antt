@@ -1,4 +1,6 @@
 pub mod Causes
+pub mod ColumnData
+pub mod Columns
 pub mod Dialect
 pub mod Frame
 pub mod Optional

@@ -1,5 +1,5 @@
 -- Values with flags beside them, and texts in one buffer with their ends, seen as lists of optional values.
-use Rattle.std.specs.Prelude.{◌≡◌, ℕ, ◌-◌, ◌≤◌, Bool, true, false, if◌then◌else◌, List, [], ◌∷◌, length, take, drop, Option, None, Some, IsUtf8}
+use Rattle.std.specs.Prelude.{◌≡◌, ℕ, ◌-◌, ◌≤◌, Bool, if◌then◌else◌, List, [], ◌∷◌, length, take, drop, Option, None, Some, IsUtf8, true, false}
 
 -- each value where its flag is set, and no value elsewhere
 abbrev pub flagged : {X : Type 0} → List X → List Bool → List (Option X)
@@ -21,3 +21,9 @@ RiseTo from (end ∷ ends) last = (from ≤ end) × RiseTo end ends last
 abbrev pub AllUtf8 : List (List ℕ) → Type 0
 AllUtf8 [] = Unit {0}
 AllUtf8 (text ∷ texts) = IsUtf8 text × AllUtf8 texts
+
+-- a buffer of texts with their ends, and a flag for each text
+pub record AreTexts (bytes ends : List ℕ) (flags : List Bool) : Type 0 where
+  pub one_length : length ends ≡ length flags
+  pub rising : RiseTo 0 ends (length bytes)
+  pub utf8 : AllUtf8 (parts_between 0 ends bytes)

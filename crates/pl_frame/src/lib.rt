@@ -2,9 +2,12 @@
 //! sources and sinks of bytes.
 #![tactic(auto)]
 
+pub mod column;
 pub mod data_type;
 pub mod error;
 pub mod name;
+pub mod numbers;
 pub mod schema;
 pub mod sink;
 pub mod source;
+pub mod texts;

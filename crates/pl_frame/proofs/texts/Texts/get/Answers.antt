@@ -1,0 +1,18 @@
+use Rattle.std.proofs.Common.{arith, ◌<◌, length}
+use Rattle.pl_frame.proofs.OptionalLaws.{IsUtf8-part, slice_get-text, parts}
+use Rattle.pl_frame.proofs.texts.Texts.get.Goals as goal
+
+pub text_between-requires-clause-text : goal.text_between-requires-clause-text
+text_between-requires-clause-text c =
+    let within : c.args.i < length c.self.inside.ends.items = grind (arith, parts) in
+    rw c.deref-then-index.ensures.value
+    (IsUtf8-part c.self.inside.bytes.items c.self.inside.ends.items c.self.inside.present.items c.args.i c.begin_of-begin.result
+    c.index-then-index.result.now c.self.invariant within (rw c.deref.ensures.value at c.begin_of-begin.ensures) c.index-then-index.ensures)
+
+pub returns-then-index-clause-text : goal.returns-then-index-clause-text
+returns-then-index-clause-text c =
+    let within : c.args.i < length c.self.inside.ends.items = grind (arith, parts) in
+    rw (c.text_between.ensures, c.deref-then-index.ensures.value, ← c.self.view_is)
+    (slice_get-text c.self.inside.bytes.items c.self.inside.ends.items c.self.inside.present.items c.args.i c.begin_of-begin.result
+    c.index-then-index.result.now c.index.result.now c.self.invariant.one_length within
+    (rw c.deref.ensures.value at c.begin_of-begin.ensures) c.index-then-index.ensures c.index.ensures c.if-index.true)

@@ -1,0 +1,129 @@
+//! Numbers, some of which are missing.
+ghost use Rattle.std.specs.Prelude.{◌≡◌, ◌<◌, [], ◌∷◌, ◌++◌, length, ◌==◌, OnOk, OnErr, slice_get, count_by, is_none};
+
+use std::alloc::{AllocError, Global};
+use std::marker::Model;
+
+/// A list of numbers with nulls: the numbers in one vector, a flag for each in another, and the type's default where
+/// there is no number.
+#[derive(Debug, Drop)]
+pub struct Numbers<T> {
+    values: Vec<T>,
+    present: Vec<bool>,
+}
+
+impl<T> Model for Numbers<T> {
+    ghost use Rattle.std.specs.Prelude.{◌≡◌, List, Option, length};
+    ghost use Rattle.pl_frame.specs.Optional.{flagged};
+
+    ghost Value = { List (Option T) };
+
+    ghost view = { λ n. flagged n.values.items n.present.items };
+
+    ghost invariant = { λ n. length n.values.items ≡ length n.present.items };
+}
+
+#[tactic(auto, using(crate::proofs::OptionalLaws::flags))]
+impl<T: Copy + Default> Numbers<T> {
+    /// No numbers, without taking memory.
+    pub fn new(alloc: Global) -> Self
+        ensures { result ≡ [] }
+    {
+        Numbers {
+            values: Vec::new(alloc),
+            present: Vec::new(alloc),
+        }
+    }
+
+    /// How many there are, nulls among them, without taking memory.
+    #[inline]
+    pub fn len(&self) -> usize
+        ensures { result ≡ length self.now }
+    {
+        self.present.len()
+    }
+
+    /// Whether there are none, without taking memory.
+    #[inline]
+    pub fn is_empty(&self) -> bool
+        ensures { result ≡ (length self.now == 0) }
+    {
+        self.present.is_empty()
+    }
+
+    /// Makes room for so many more. Refuses only want of memory; the numbers stay as they are.
+    pub fn reserve(&mut self, additional: usize) -> Result<(), AllocError>
+        ensures { self.new ≡ self.old }
+    {
+        self.values.reserve(additional)?;
+        self.present.reserve(additional)
+    }
+
+    /// Puts a number at the end. Refuses only want of memory, and is then as it was.
+    #[inline]
+    pub fn push(&mut self, value: T) -> Result<(), AllocError>
+        ensures ok { OnOk result (self.new ≡ self.old ++ Some value ∷ []) }
+        ensures err { OnErr result (self.new ≡ self.old) }
+    {
+        self.values.reserve(1)?;
+        self.present.reserve(1)?;
+        self.values.push_reserved(value);
+        self.present.push_reserved(true);
+        Ok(())
+    }
+
+    /// Puts a null at the end. Refuses only want of memory, and is then as it was.
+    #[inline]
+    pub fn push_null(&mut self) -> Result<(), AllocError>
+        ensures ok { OnOk result (self.new ≡ self.old ++ None ∷ []) }
+        ensures err { OnErr result (self.new ≡ self.old) }
+    {
+        self.values.reserve(1)?;
+        self.present.reserve(1)?;
+        self.values.push_reserved(T::default());
+        self.present.push_reserved(false);
+        Ok(())
+    }
+
+    /// The number at a place, or a null, without taking memory.
+    #[inline]
+    pub fn get(&self, i: usize) -> Option<T>
+        requires { i < length self.now }
+        ensures { slice_get self.now i ≡ Some result }
+    {
+        if self.present[i] {
+            Some(self.values[i])
+        } else {
+            None
+        }
+    }
+
+    /// How many nulls there are, without taking memory.
+    pub fn null_count(&self) -> usize
+        ensures { result ≡ count_by is_none self.now }
+    {
+        self.present.iter().filter(|flag| !**flag).count()
+    }
+}
+
+#[cfg(test)]
+mod tests {
+    use super::*;
+    use std::test::Fail;
+
+    #[test]
+    fn keeps_numbers_and_nulls(rt: HostRuntime) -> Result<(), Fail> {
+        let mut numbers = Numbers::<i64>::new(rt.alloc());
+        assert!(rt; numbers.is_empty());
+        numbers.reserve(3)?;
+        numbers.push(-7)?;
+        numbers.push_null()?;
+        numbers.push(i64::MAX)?;
+        assert_eq!(rt; numbers.len(), 3);
+        assert_eq!(rt; numbers.get(0), Some(-7));
+        assert_eq!(rt; numbers.get(1), None);
+        assert_eq!(rt; numbers.get(2), Some(i64::MAX));
+        assert_eq!(rt; numbers.null_count(), 1);
+        Ok(())
+    }
+}

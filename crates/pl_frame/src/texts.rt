@@ -1,0 +1,145 @@
+//! Texts, some of which are missing.
+ghost use Rattle.std.specs.Prelude.{◌≡◌, ◌<◌, [], ◌∷◌, ◌++◌, length, ◌==◌, OnOk, OnErr, IfSome, IfNone, ◌≤◌, IsUtf8, slice_range, slice_index, slice_get, count_by, is_none};
+
+use std::alloc::{AllocError, Global};
+use std::marker::Model;
+
+/// A list of texts with nulls: all texts in one buffer, with the place where each ends and a flag for each.
+#[derive(Debug, Drop)]
+pub struct Texts {
+    bytes: Vec<u8>,
+    ends: Vec<usize>,
+    present: Vec<bool>,
+}
+
+impl Model for Texts {
+    ghost use Rattle.std.specs.Prelude.{ℕ, List, Option};
+    ghost use Rattle.pl_frame.specs.Optional.{flagged, parts_between, AreTexts};
+
+    ghost Value = { List (Option (List ℕ)) };
+
+    ghost view = { λ t. flagged (parts_between 0 t.ends.items t.bytes.items) t.present.items };
+
+    ghost invariant = { λ t. AreTexts t.bytes.items t.ends.items t.present.items };
+}
+
+#[tactic(auto, using(crate::proofs::OptionalLaws::parts))]
+impl Texts {
+    /// No texts, without taking memory.
+    pub fn new(alloc: Global) -> Self
+        ensures { result ≡ [] }
+    {
+        Texts {
+            bytes: Vec::new(alloc),
+            ends: Vec::new(alloc),
+            present: Vec::new(alloc),
+        }
+    }
+
+    /// How many there are, nulls among them, without taking memory.
+    #[inline]
+    pub fn len(&self) -> usize
+        ensures { result ≡ length self.now }
+    {
+        self.present.len()
+    }
+
+    /// Whether there are none, without taking memory.
+    #[inline]
+    pub fn is_empty(&self) -> bool
+        ensures { result ≡ (length self.now == 0) }
+    {
+        self.present.is_empty()
+    }
+
+    /// Puts a text at the end. Refuses only want of memory, and is then as it was.
+    #[inline]
+    pub fn push(&mut self, text: &str) -> Result<(), AllocError>
+        ensures ok { OnOk result (self.new ≡ self.old ++ Some text.now ∷ []) }
+        ensures err { OnErr result (self.new ≡ self.old) }
+    {
+        self.ends.reserve(1)?;
+        self.present.reserve(1)?;
+        self.bytes.extend_from_slice(text.as_bytes())?;
+        self.ends.push_reserved(self.bytes.len());
+        self.present.push_reserved(true);
+        Ok(())
+    }
+
+    /// Puts a null at the end. Refuses only want of memory, and is then as it was.
+    #[inline]
+    pub fn push_null(&mut self) -> Result<(), AllocError>
+        ensures ok { OnOk result (self.new ≡ self.old ++ None ∷ []) }
+        ensures err { OnErr result (self.new ≡ self.old) }
+    {
+        self.ends.reserve(1)?;
+        self.present.reserve(1)?;
+        self.ends.push_reserved(self.bytes.len());
+        self.present.push_reserved(false);
+        Ok(())
+    }
+
+    /// The text at a place, or a null, without taking memory.
+    #[inline]
+    pub fn get(&self, i: usize) -> Option<&str>
+        requires { i < length self.now }
+        ensures null { IfNone result (slice_get self.now i ≡ Some None) }
+        ensures text { IfSome result (λ text. slice_get self.now i ≡ Some (Some text.now)) }
+    {
+        if self.present[i] {
+            let begin = begin_of(&self.ends, i);
+            Some(text_between(&self.bytes, begin, self.ends[i]))
+        } else {
+            None
+        }
+    }
+
+    /// How many nulls there are, without taking memory.
+    pub fn null_count(&self) -> usize
+        ensures { result ≡ count_by is_none self.now }
+    {
+        self.present.iter().filter(|flag| !**flag).count()
+    }
+}
+
+// Where a text begins: where the one before it ends.
+#[inline]
+fn begin_of(ends: &[usize], i: usize) -> usize
+    requires { i < length ends.now }
+    ensures { result ≡ slice_index (0 ∷ ends.now) i }
+{
+    if i == 0 { 0 } else { ends[i - 1] }
+}
+
+// A part of a buffer that is known to be a text: no test is run.
+#[inline]
+fn text_between(bytes: &[u8], from: usize, to: usize) -> &str
+    requires ordered { (from ≤ to) × (to ≤ length bytes.now) }
+    requires text { IsUtf8 (slice_range bytes.now from to) }
+    ensures { result.now ≡ slice_range bytes.now from to }
+{
+    unsafe { str::from_utf8_unchecked(&bytes[from..to]) }
+}
+
+#[cfg(test)]
+mod tests {
+    use super::*;
+    use std::test::Fail;
+
+    #[test]
+    fn keeps_texts_and_nulls(rt: HostRuntime) -> Result<(), Fail> {
+        let mut texts = Texts::new(rt.alloc());
+        assert!(rt; texts.is_empty());
+        texts.push("é1")?;
+        texts.push_null()?;
+        texts.push("")?;
+        texts.push("last")?;
+        assert_eq!(rt; texts.len(), 4);
+        assert_eq!(rt; texts.get(0), Some("é1"));
+        assert_eq!(rt; texts.get(1), None);
+        assert_eq!(rt; texts.get(2), Some(""));
+        assert_eq!(rt; texts.get(3), Some("last"));
+        assert_eq!(rt; texts.null_count(), 1);
+        Ok(())
+    }
+}

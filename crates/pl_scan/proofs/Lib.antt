@@ -1,0 +1,5 @@
+pub mod Walk
+pub mod FieldLaws
+pub mod ItemLaws
+pub mod RecordLaws
+pub mod StartLaws

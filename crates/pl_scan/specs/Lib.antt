@@ -1,0 +1,4 @@
+pub mod Comment
+pub mod Fields
+pub mod Items
+pub mod Start

@@ -1,0 +1,9 @@
+//! The text that comes in: dialects, comment prefixes, fields, records and items, and the place where the data begins.
+#![tactic(auto)]
+
+pub mod comment;
+pub mod dialect;
+pub mod fields;
+pub mod items;
+pub mod laws;
+pub mod start;

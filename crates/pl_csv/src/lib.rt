@@ -1,8 +1,10 @@
 //! CSV from bytes to bytes: `run` reads CSV from a source into typed columns and writes them to a sink as CSV.
 #![tactic(auto)]
 
+pub mod adapters;
 mod buffer;
 mod integers;
 mod quoting;
+pub mod read_all;
 mod rows;
 mod serializer;

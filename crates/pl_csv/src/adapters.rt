@@ -111,19 +111,12 @@ impl<W: Write> Sink for WriteSink<W> {
         ensures taken { IfOk result (λ n. Appends (W.contents self.old.0) (W.contents self.new.0) (take n piece.now)) }
         ensures prefix { (n : ℕ) × Appends (W.contents self.old.0) (W.contents self.new.0) (take n piece.now) }
     {
-        match self.writer.write(piece) {
-            Ok(count) if count > 0 => match self.writer.flush() {
-                Ok(()) => Ok(count),
-                Err(_) => {
-                    self.faults = self.faults.saturating_add(1);
-                    Err(SinkFault::Device)
-                }
-            },
-            _ => {
-                self.faults = self.faults.saturating_add(1);
-                Err(SinkFault::Device)
-            }
+        let count = self.writer.write(piece).unwrap_or(0);
+        if count > 0 && self.writer.flush().is_ok() {
+            return Ok(count);
         }
+        self.faults = self.faults.saturating_add(1);
+        Err(SinkFault::Device)
     }
 }
 

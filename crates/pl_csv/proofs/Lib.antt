@@ -4,3 +4,4 @@ pub mod WrittenLaws
 pub mod RowLaws
 pub mod FaultLaws
 pub mod ReadLaws
+pub mod FrameLaws

@@ -4,3 +4,4 @@ pub mod Cells
 pub mod Reading
 pub mod Buffers
 pub mod Rows
+pub mod Frames

@@ -109,9 +109,13 @@ compression_marks = (31 ∷ 139 ∷ []) ∷ (120 ∷ 1 ∷ []) ∷ (120 ∷ 156 
 abbrev pub is_compressed : List ℕ → Bool
 is_compressed input = list_any (starts_with nat_eq input) compression_marks
 
+-- what stands behind the header, where leading line ends are kept or not
+abbrev pub data_of_input : Bool → List ℕ → List ℕ
+data_of_input keep input = unwrap_or (data_left (no_skips true) keep default_marks None input) []
+
 -- what stands behind the header; leading line ends are kept under a schema of at most one column
 abbrev pub data_of : SchemaValue → List ℕ → List ℕ
-data_of schema input = unwrap_or (data_left (no_skips true) (nat_le (length schema) 1) default_marks None input) []
+data_of schema input = data_of_input (nat_le (length schema) 1) input
 
 abbrev pub input_rows : SchemaValue → List ℕ → List Row
 input_rows schema input = rows default_marks None (data_of schema input)

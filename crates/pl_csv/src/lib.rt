@@ -2,7 +2,10 @@
 #![tactic(auto)]
 
 mod buffer;
+mod frames;
 mod integers;
 mod quoting;
 mod rows;
 mod serializer;
+mod writer;
+mod reading;

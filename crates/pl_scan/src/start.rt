@@ -137,8 +137,9 @@ fn behind_header<'a>(
     }
 }
 
-// What is left where the data begins.
-fn data_of<'a>(
+/// The data: what is left behind the head, the rows to skip, the comments, the header and the rows to skip behind it.
+/// None where there are fewer items than are to be skipped. Takes no memory.
+pub fn data_of<'a>(
     input: &'a [u8],
     separator: u8,
     quote_char: Option<u8>,

@@ -6,3 +6,4 @@ pub mod Quoting
 pub mod Reading
 pub mod Rows
 pub mod Frames
+pub mod Words

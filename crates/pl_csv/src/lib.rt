@@ -11,3 +11,4 @@ mod reading;
 mod rows;
 mod serializer;
 mod writer;
+mod words;

@@ -7,3 +7,4 @@ pub mod ReadLaws
 pub mod FrameLaws
 pub mod LineLaws
 pub mod WriteLaws
+pub mod RunLaws

@@ -8,3 +8,4 @@ pub mod Rows
 pub mod Frames
 pub mod Words
 pub mod Writing
+pub mod Run

@@ -9,6 +9,7 @@ mod quoting;
 pub mod read_all;
 mod reading;
 mod rows;
+pub mod run;
 mod serializer;
 mod words;
 mod writer;

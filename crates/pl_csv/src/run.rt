@@ -1,0 +1,183 @@
+//! The top call: CSV from a source to a sink, by the words of a command line.
+ghost use Rattle.std.specs.Prelude.{◌≡◌, ◌≤◌, ◌⊎◌, ℕ, List, map, string_bytes, IfOk, IfErr, OnOk, IsSome, IsTrue, None, Some};
+ghost use Rattle.std.specs.Io.KnownBytes.{Keeps};
+ghost use Rattle.pl_frame.specs.Causes.{Rose};
+ghost use Rattle.pl_csv.specs.Words.{schema_of_words};
+ghost use Rattle.pl_csv.specs.Run.{status_of, fault_line, expected_status, is_status, IsTold, IsExpected, HasFrame, IsReadRefused, Converted, ConvertedPart, IsCompressed, IsFaulty, IsTooLong, IsRefused, views};
+
+use crate::read_all::{ReadAllFault, read_all};
+use crate::reading::{ReadFault, read_frame};
+use crate::words::{WordsFault, parse_words};
+use crate::writer::write_frame;
+use pl_frame::frame::DataFrame;
+use pl_frame::sink::{Sink, SinkFault, write_all};
+use pl_frame::source::Source;
+use std::alloc::Global;
+
+/// The largest input, in bytes.
+const LIMIT: usize = 1 << 36;
+
+/// Why a run ends with a status other than 0.
+#[derive(Clone, Copy, Debug, PartialEq, Eq)]
+pub enum Refusal {
+    /// The words have no meaning.
+    Words,
+    /// The source failed.
+    Source,
+    /// The sink failed.
+    Sink,
+    OutOfMemory,
+    /// The source gave more than the largest input.
+    TooLong,
+    /// The input begins with the mark of a compressed stream.
+    Compressed,
+    /// A record has a fault.
+    Record,
+}
+
+impl Refusal {
+    /// The status with which a run then ends.
+    pub fn status(self) -> u8
+        ensures { result ≡ status_of self }
+    {
+        match self {
+            Refusal::Words => 2,
+            Refusal::Source => 3,
+            Refusal::Sink => 4,
+            Refusal::OutOfMemory => 5,
+            Refusal::TooLong => 6,
+            Refusal::Compressed => 14,
+            Refusal::Record => 24,
+        }
+    }
+
+    /// The fault line, with its line feed.
+    pub fn line(self) -> &'static str
+        ensures { result.now ≡ fault_line (status_of self) }
+    {
+        match self {
+            Refusal::Words => "words\n",
+            Refusal::Source => "source\n",
+            Refusal::Sink => "sink\n",
+            Refusal::OutOfMemory => "memory\n",
+            Refusal::TooLong => "too long\n",
+            Refusal::Compressed => "refusal 4 compressed\n",
+            Refusal::Record => "refusal 14 record\n",
+        }
+    }
+}
+
+// Tells a sink a line. A fault of the sink cuts the line short, and is not passed on.
+fn tell<Se: Sink>(sink: &mut Se, line: &str)
+    ensures told { IsTold line.now (Se.received sink.old) (Se.received sink.new) (Se.faults sink.old) (Se.faults sink.new) (Se.wants sink.old) (Se.wants sink.new) }
+{
+    match write_all(sink, line.as_bytes()) {
+        Ok(()) => {}
+        Err(SinkFault::Device) => {}
+        Err(SinkFault::OutOfMemory) => {}
+    }
+}
+
+// The frame that the source's input means under the schema of the words.
+fn frame_of_source<So: Source>(
+    alloc: Global,
+    words: &[String],
+    source: &mut So,
+) -> Result<DataFrame, Refusal>
+    ensures frame { IfOk result (HasFrame (map string_bytes words.now) (So.left source.old) (So.left source.new)) }
+    ensures refused { IfErr result (IsReadRefused (map string_bytes words.now) (So.left source.old) (So.left source.new) (So.faults source.old) (So.faults source.new)) }
+    ensures later { So.faults source.old ≤ So.faults source.new }
+{
+    let schema = match parse_words(alloc, words) {
+        Ok(schema) => schema,
+        Err(WordsFault::Words) => return Err(Refusal::Words),
+        Err(WordsFault::OutOfMemory) => return Err(Refusal::OutOfMemory),
+    };
+    let input = match read_all(alloc, source, LIMIT) {
+        Ok(input) => input,
+        Err(ReadAllFault::Source) => return Err(Refusal::Source),
+        Err(ReadAllFault::TooLong) => return Err(Refusal::TooLong),
+        Err(ReadAllFault::OutOfMemory) => return Err(Refusal::OutOfMemory),
+    };
+    match read_frame(alloc, &input, &schema) {
+        Ok(frame) => Ok(frame),
+        Err(ReadFault::Compressed) => Err(Refusal::Compressed),
+        Err(ReadFault::Record) => Err(Refusal::Record),
+        Err(ReadFault::OutOfMemory) => Err(Refusal::OutOfMemory),
+    }
+}
+
+// Reads the source and writes the text of its frame to the sink.
+fn convert<So: Source, Si: Sink>(
+    alloc: Global,
+    words: &[String],
+    source: &mut So,
+    out: &mut Si,
+) -> Result<(), Refusal>
+    ensures converted { OnOk result (Converted (map string_bytes words.now) (So.left source.old) (So.left source.new) (Si.received out.old) (Si.received out.new)) }
+    ensures refused { IfErr result (IsRefused (map string_bytes words.now)
+        (views (So.left source.old) (Si.received out.old) (So.faults source.old) (Si.faults out.old))
+        (views (So.left source.new) (Si.received out.new) (So.faults source.new) (Si.faults out.new))) }
+    ensures source_later { So.faults source.old ≤ So.faults source.new }
+    ensures sink_later { Si.faults out.old ≤ Si.faults out.new }
+{
+    let frame = match frame_of_source(alloc, words, source) {
+        Ok(frame) => frame,
+        Err(refusal) => return Err(refusal),
+    };
+    match write_frame(alloc, frame.columns(), out) {
+        Ok(()) => Ok(()),
+        Err(SinkFault::Device) => Err(Refusal::Sink),
+        Err(SinkFault::OutOfMemory) => Err(Refusal::OutOfMemory),
+    }
+}
+
+/// Reads CSV from a source under the schema that the words give, writes the text of its frame to `out`, and answers the
+/// status: 0 only where the reference read of the input exists, and `out` then received exactly the text of its frame.
+///
+/// The words are `--schema` and the text of a schema. Another status has its cause: 2 words without a meaning; 3 a fault
+/// of the source; 4 one of `out`, which then received a prefix of the text; 5 want of memory, with a prefix of the text
+/// or nothing received; 6 an input of more than 2^36 bytes; 14 a compressed input; 24 a record with a fault. At 2, 3, 6,
+/// 14 and 24 `out` received nothing. `err` receives the fault line of the status; a fault of `err` cuts it short, and
+/// changes neither status nor `out`.
+pub fn run<So: Source, Si: Sink, Se: Sink>(
+    alloc: Global,
+    words: &[String],
+    source: &mut So,
+    out: &mut Si,
+    err: &mut Se,
+) -> u8
+    // Status 0: the input means a frame, and the sink received exactly its text.
+    ensures converted { result ≡ 0 → Converted (map string_bytes words.now) (So.left source.old) (So.left source.new) (Si.received out.old) (Si.received out.new) }
+
+    // Each other status comes only by its cause.
+    ensures words_form { result ≡ 2 → (schema_of_words (map string_bytes words.now) ≡ None) × Keeps (Si.received out.old) (Si.received out.new) }
+    ensures source_fault { result ≡ 3 → IsSome (schema_of_words (map string_bytes words.now)) × Rose (So.faults source.old) (So.faults source.new) × Keeps (Si.received out.old) (Si.received out.new) }
+    ensures sink_fault { result ≡ 4 → Rose (Si.faults out.old) (Si.faults out.new)
+        × ConvertedPart (map string_bytes words.now) (So.left source.old) (So.left source.new) (Si.received out.old) (Si.received out.new) }
+    ensures memory { result ≡ 5 → Keeps (Si.received out.old) (Si.received out.new)
+        ⊎ ConvertedPart (map string_bytes words.now) (So.left source.old) (So.left source.new) (Si.received out.old) (Si.received out.new) }
+    ensures too_long { result ≡ 6 → IsSome (schema_of_words (map string_bytes words.now)) × IsTooLong (So.left source.old) (So.left source.new) × Keeps (Si.received out.old) (Si.received out.new) }
+    ensures compressed { result ≡ 14 → IsCompressed (map string_bytes words.now) (So.left source.old) (So.left source.new) × Keeps (Si.received out.old) (Si.received out.new) }
+    ensures faulty { result ≡ 24 → IsFaulty (map string_bytes words.now) (So.left source.old) (So.left source.new) × Keeps (Si.received out.old) (Si.received out.new) }
+    ensures known { IsTrue (is_status result) }
+
+    // And each comes where its cause holds, up to want of memory and a count that rose.
+    ensures no_meaning { schema_of_words (map string_bytes words.now) ≡ None → (result ≡ 2) ⊎ (result ≡ 5) }
+    ensures expected { (input : List ℕ) → So.left source.old ≡ Some input → IsExpected (expected_status (map string_bytes words.now) input) result
+        (views (So.left source.old) (Si.received out.old) (So.faults source.old) (Si.faults out.old))
+        (views (So.left source.new) (Si.received out.new) (So.faults source.new) (Si.faults out.new)) }
+
+    // The fault line.
+    ensures told { IsTold (fault_line result) (Se.received err.old) (Se.received err.new) (Se.faults err.old) (Se.faults err.new) (Se.wants err.old) (Se.wants err.new) }
+    ensures source_later { So.faults source.old ≤ So.faults source.new }
+    ensures sink_later { Si.faults out.old ≤ Si.faults out.new }
+{
+    match convert(alloc, words, source, out) {
+        Ok(()) => 0,
+        Err(refusal) => {
+            tell(err, refusal.line());
+            refusal.status()
+        }
+    }
+}

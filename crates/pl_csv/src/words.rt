@@ -138,3 +138,59 @@ pub fn parse_words(alloc: Global, words: &[String]) -> Result<Schema, WordsFault
     }
     parse_schema(alloc, text.as_str())
 }
+
+#[cfg(test)]
+mod tests {
+    use super::*;
+    use std::test::Fail;
+
+    fn width(schema: Result<Schema, WordsFault>) -> Result<usize, WordsFault> {
+        match schema {
+            Ok(schema) => Ok(schema.len()),
+            Err(fault) => Err(fault),
+        }
+    }
+
+    // The words of a line stand between blanks.
+    fn width_of_line(alloc: Global, line: &str) -> Result<usize, WordsFault> {
+        let mut words = Vec::new(alloc);
+        for word in line.split(' ') {
+            let Ok(word) = String::from_str(alloc, word) else {
+                return Err(WordsFault::OutOfMemory);
+            };
+            if words.push(word).is_err() {
+                return Err(WordsFault::OutOfMemory);
+            }
+        }
+        width(parse_words(alloc, words.as_slice()))
+    }
+
+    #[test]
+    fn schema_texts_and_words(rt: HostRuntime) -> Result<(), Fail> {
+        let alloc = rt.alloc();
+        let refused = Err(WordsFault::Words);
+        for (text, columns) in [
+            ("a:int64,b:string", Ok(2)),
+            (":int64", Ok(1)),
+            ("a:int64,a:string", refused),
+            ("a", refused),
+            ("a:int64,", refused),
+            ("a:int8", refused),
+            ("", refused),
+            ("a:b:int64", refused),
+        ] {
+            assert_eq!(rt; width(parse_schema(alloc, text)), columns, "at {text}");
+        }
+        for (line, columns) in [
+            ("--schema a:int64", Ok(1)),
+            ("--schema", refused),
+            ("--schema a:int64 b:int64", refused),
+            ("--schemas a:int64", refused),
+            ("--schema -a:int64", refused),
+            ("--schema ", refused),
+        ] {
+            assert_eq!(rt; width_of_line(alloc, line), columns, "at {line}");
+        }
+        Ok(())
+    }
+}

@@ -1,6 +1,6 @@
 //! The words of the command line.
 ghost use Rattle.std.specs.Prelude.{◌≡◌, ◌++◌, ◌∷◌, [], if◌then◌else◌, true, false, None, Some, map, string_bytes, IfOk, OnOk, IsErrOf, MatchOption, length, ◌<◌, ◌≢◌, Err};
-ghost use Rattle.std.specs.List.{list_all, list_any, slice_split, before_first, after_first};
+ghost use Rattle.std.specs.List.{list_all, list_any, slice_split};
 ghost use Rattle.std.specs.Option.{option_map, option_and_then};
 ghost use Rattle.std.specs.Str.{bytes_eq};
 ghost use Rattle.pl_frame.specs.Schema.{names_in};

@@ -1,4 +1,4 @@
-use Rattle.std.proofs.Common.{◌≡◌, [], ◌∷◌, map, sym, ◌∙◌, ap}
+use Rattle.std.proofs.Common.{◌≡◌, [], map, sym, ◌∙◌, ap}
 use Rattle.std.specs.Prelude.{Some}
 use Rattle.std.specs.List.{slice_split}
 use Rattle.pl_csv.specs.Words.{is_comma, entry_of, schema_of}

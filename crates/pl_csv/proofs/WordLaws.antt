@@ -184,14 +184,6 @@ with_entries-more done now (Some e) es is = by (list_any (bytes_eq e.0) (names_i
         let same : done ++ e ∷ [] ≡ now = cc in
         ap (λ t. elim t [ true ↦ None | false ↦ with_entries (done ++ e ∷ []) es ]) at ∙ ap (λ l. with_entries l es) same
 
-pub with_entries-refused : (done : SchemaValue) (e : Option Named) (es : List (Option Named)) → with_entry done e ≡ None → with_entries done (e ∷ es) ≡ None
-with_entries-refused done None es is = refl
-with_entries-refused done (Some e) es is = by (list_any (bytes_eq e.0) (names_in done)) refl
-  where
-    by : (t : Bool) → list_any (bytes_eq e.0) (names_in done) ≡ t → with_entries done (Some e ∷ es) ≡ None
-    by true at = ap (λ t. elim t [ true ↦ None | false ↦ with_entries (done ++ e ∷ []) es ]) at
-    by false at = let no_way : Some (done ++ e ∷ []) ≡ None = sym (ap (λ t. if t then None else Some (done ++ e ∷ [])) at) ∙ is in cc
-
 -- ---- types
 
 -- the entries have types of which cells can be read

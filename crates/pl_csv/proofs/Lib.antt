@@ -1,10 +1,11 @@
-pub mod IntegerLaws
-pub mod QuotingLaws
-pub mod WrittenLaws
-pub mod RowLaws
 pub mod FaultLaws
-pub mod ReadLaws
 pub mod FrameLaws
+pub mod IntegerLaws
 pub mod LineLaws
-pub mod WriteLaws
+pub mod QuotingLaws
+pub mod ReadLaws
+pub mod RowLaws
 pub mod RunLaws
+pub mod WordLaws
+pub mod WriteLaws
+pub mod WrittenLaws

@@ -1,0 +1,233 @@
+-- The schema of a text, entry by entry.
+use Rattle.std.proofs.Common.{◌≡◌, ℕ, ◌+◌, ◌<◌, Bool, true, false, not, cond, if◌then◌else◌, ◌&&◌, ◌||◌, List, [], ◌∷◌, ◌++◌, map, length, position, suc, refl, sym, ◌∙◌, ap, append_assoc, append-nil, arith, lit<}
+use Rattle.std.specs.Prelude.{Option, Some, None, codes, is_some, slice_set, MatchOption}
+use Rattle.std.specs.Borrow.{Bor}
+use Rattle.std.specs.List.{list_all, list_any, position_or_len, slice_split, onto_first, before_first, after_first}
+use Rattle.std.specs.Option.{option_map, option_map_or, option_and_then}
+use Rattle.std.specs.Str.{bytes_eq}
+use Rattle.std.proofs.lemmas.List.{map-append}
+use Rattle.std.proofs.lemmas.List.Folds.{list_any-append, list_any_at}
+use Rattle.std.proofs.lemmas.List.Quantifiers.{position-Some}
+use Rattle.std.proofs.lemmas.List.Splits.{slice_split-cons_no, slice_split_first}
+use Rattle.std.proofs.lemmas.Str.Pattern.{IsSplitOnceResult, split_once_first}
+use Rattle.std.proofs.lemmas.Slice.Eq.{bytes_eq-Decides}
+use Rattle.pl_frame.specs.declared.data_type.DataType.{DataType}
+use Rattle.pl_frame.specs.declared.data_type.DataType.TheVariants as dtype
+use Rattle.pl_frame.specs.Schema.{names_in, place_of, with_type}
+use Rattle.pl_frame.proofs.SchemaLaws.{none_passes}
+use Rattle.pl_csv.specs.Buffers.{is_carried}
+use Rattle.pl_csv.specs.Reading.{SchemaValue, types_of}
+use Rattle.pl_csv.specs.Words.{named_type, entry_of, all_of, are_distinct, schema_of, is_comma, is_colon}
+
+abbrev Named : Type 0
+Named = List ℕ × DataType
+
+-- the schema that has one entry more, unless there is none or its name is there
+abbrev pub with_entry : SchemaValue → Option Named → Option SchemaValue
+with_entry done entry = option_and_then (λ (e : Named). if list_any (bytes_eq e.0) (names_in done) then None else Some (done ++ e ∷ [])) entry
+
+-- the schema that has some entries, one after another
+abbrev pub with_entries : SchemaValue → List (Option Named) → Option SchemaValue
+with_entries done [] = Some done
+with_entries done (None ∷ es) = None
+with_entries done (Some e ∷ es) = elim (list_any (bytes_eq e.0) (names_in done)) [ true ↦ None | false ↦ with_entries (done ++ e ∷ []) es ]
+
+-- ---- names
+
+flip : (a b : List ℕ) (t : Bool) → bytes_eq a b ≡ t → bytes_eq b a ≡ t
+flip a b true e = (bytes_eq-Decides b a).1 (sym ((bytes_eq-Decides a b).0 e))
+flip a b false e = by (bytes_eq b a) refl
+  where
+    by : (s : Bool) → bytes_eq b a ≡ s → bytes_eq b a ≡ false
+    by true is = let back : bytes_eq a b ≡ true = (bytes_eq-Decides a b).1 (sym ((bytes_eq-Decides b a).0 is)) in cc
+    by false is = is
+
+or_false : (s t : Bool) → (s || t) ≡ false → (s ≡ false) × (t ≡ false)
+or_false true t e = cc
+or_false false t e = (refl, e)
+
+and_true : (s t : Bool) → (s && t) ≡ true → (s ≡ true) × (t ≡ true)
+and_true true t e = (refl, e)
+and_true false t e = cc
+
+and_false : (s t : Bool) → t ≡ false → (s && t) ≡ false
+and_false true t e = e
+and_false false t e = refl
+
+-- a new name behind distinct ones leaves them distinct
+distinct-push : (names : List (List ℕ)) (n : List ℕ) → are_distinct names ≡ true → list_any (bytes_eq n) names ≡ false → are_distinct (names ++ n ∷ []) ≡ true
+distinct-push [] n d is = refl
+distinct-push (m ∷ ms) n d is =
+    let parts = and_true _ _ d in
+    let news = or_false (bytes_eq n m) (list_any (bytes_eq n) ms) is in
+    let others : list_any (bytes_eq m) ms ≡ false = not_true _ parts.0 in
+    let last : list_any (bytes_eq m) (n ∷ []) ≡ false = ap (λ t. t || false) (flip n m false news.0) in
+    let none : list_any (bytes_eq m) (ms ++ n ∷ []) ≡ false = list_any-append (bytes_eq m) ms (n ∷ []) ∙ (λ j. others j || last j) in
+    (λ j. not (none j) && distinct-push ms n parts.1 news.1 j)
+  where
+    not_true : (t : Bool) → not t ≡ true → t ≡ false
+    not_true true e = cc
+    not_true false e = refl
+
+-- a name that stands twice
+twice : (names : List (List ℕ)) (n : List ℕ) (more : List (List ℕ)) → list_any (bytes_eq n) names ≡ true → are_distinct (names ++ n ∷ more) ≡ false
+twice [] n more is = cc
+twice (m ∷ ms) n more is = by (bytes_eq n m) refl (twice ms n more)
+  where
+    or_true : (t : Bool) → (t || true) ≡ true
+    or_true true = refl
+    or_true false = refl
+
+    by : (t : Bool) → bytes_eq n m ≡ t → (list_any (bytes_eq n) ms ≡ true → are_distinct (ms ++ n ∷ more) ≡ false) → are_distinct (m ∷ ms ++ n ∷ more) ≡ false
+    by true e deeper =
+        let here : list_any (bytes_eq m) (n ∷ more) ≡ true = ap (λ t. t || list_any (bytes_eq m) more) (flip n m true e) in
+        let some : list_any (bytes_eq m) (ms ++ n ∷ more) ≡ true =
+        list_any-append (bytes_eq m) ms (n ∷ more) ∙ ap (λ t. list_any (bytes_eq m) ms || t) here ∙ or_true _ in
+        ap (λ t. not t && are_distinct (ms ++ n ∷ more)) some
+    by false e deeper =
+        and_false _ _ (deeper (sym (ap (λ t. t || list_any (bytes_eq n) ms) e) ∙ is))
+
+-- a name has a place where it is one of the names
+place_is : {X : Type 0} (p : X → Bool) (xs : List X) (d : X) → is_some (position p xs) ≡ list_any p xs
+place_is p xs d = by (position p xs) refl
+  where
+    by : (o : Option ℕ) → position p xs ≡ o → is_some (position p xs) ≡ list_any p xs
+    by None e = ap is_some e ∙ sym (none_passes p xs e)
+    by (Some i) e =
+        let found = position-Some p xs i d e in
+        ap is_some e ∙ sym (list_any_at p xs i d found.0 found.1)
+
+pub has_name-is : (n : List ℕ) (entries : SchemaValue) → is_some (place_of n entries) ≡ list_any (bytes_eq n) (names_in entries)
+has_name-is n entries = place_is (bytes_eq n) (names_in entries) []
+
+-- a new name goes last
+pub with_type-new : (entries : SchemaValue) (n m : List ℕ) (type : DataType) → n ≡ m → list_any (bytes_eq m) (names_in entries) ≡ false → with_type entries n type ≡ entries ++ (m, type) ∷ []
+with_type-new entries n m type same is = ap (λ x. with_type entries x type) same ∙ by (place_of m entries) refl
+  where
+    by : (o : Option ℕ) → place_of m entries ≡ o → with_type entries m type ≡ entries ++ (m, type) ∷ []
+    by None e = ap (λ o. option_map_or (λ i. slice_set entries i (m, type)) o (entries ++ (m, type) ∷ [])) e
+    by (Some i) e =
+        let there : true ≡ false = sym (ap is_some e) ∙ has_name-is m entries ∙ is in cc
+
+-- ---- the cut at a comma
+
+uncut : {X : Type 0} (p : X → Bool) (xs : List X) → position_or_len p xs ≡ length xs → slice_split p xs ≡ xs ∷ []
+uncut p [] e = refl
+uncut p (x ∷ xs) e = by (p x) refl (uncut p xs)
+  where
+    by : (t : Bool) → p x ≡ t → (position_or_len p xs ≡ length xs → slice_split p xs ≡ xs ∷ []) → slice_split p (x ∷ xs) ≡ (x ∷ xs) ∷ []
+    by true is deeper =
+        let at : 0 ≡ suc (length xs) = sym (ap (λ t. cond (not t) (1 + position_or_len p xs) 0) is) ∙ e in absurd (omega arith)
+    by false is deeper =
+        let at : 1 + position_or_len p xs ≡ suc (length xs) = sym (ap (λ t. cond (not t) (1 + position_or_len p xs) 0) is) ∙ e in
+        slice_split-cons_no p x xs is ∙ ap (onto_first x) (deeper (omega arith))
+
+pub cut_at_comma : (text : List ℕ) (r : Option (Bor (List ℕ) × Bor (List ℕ))) → IsSplitOnceResult 44 text r
+    → MatchOption r (slice_split is_comma text ≡ text ∷ []) (λ cut. slice_split is_comma text ≡ cut.0.now ∷ slice_split is_comma cut.1.now)
+cut_at_comma text r is = by r (split_once_first 44 text r is (lit< tt))
+  where
+    by : (r : Option (Bor (List ℕ) × Bor (List ℕ)))
+        → MatchOption r (position_or_len is_comma text ≡ length text) (λ x. (position_or_len is_comma text < length text) × (x.0.now ≡ before_first is_comma text) × (x.1.now ≡ after_first is_comma text))
+        → MatchOption r (slice_split is_comma text ≡ text ∷ []) (λ cut. slice_split is_comma text ≡ cut.0.now ∷ slice_split is_comma cut.1.now)
+    by None h = uncut is_comma text h
+    by (Some x) h = slice_split_first is_comma text 0 h.0 ∙ sym (λ j. h.1 j ∷ slice_split is_comma (h.2 j))
+
+-- ---- the whole
+
+-- entries behind those that stand already, where no name stands twice
+abbrev behind : SchemaValue → SchemaValue → Option SchemaValue
+behind done es = if are_distinct (names_in (done ++ es)) then Some (done ++ es) else None
+
+names_in-append : (xs ys : SchemaValue) → names_in (xs ++ ys) ≡ names_in xs ++ names_in ys
+names_in-append xs ys = map-append (λ (e : Named). e.0) xs ys
+
+pub with_entries-is : (done : SchemaValue) (es : List (Option Named)) → are_distinct (names_in done) ≡ true
+    → with_entries done es ≡ option_and_then (behind done) (all_of es)
+with_entries-is done [] d = sym (ap (behind_nil) (append-nil done) ∙ ap (λ t. if t then Some done else None) d)
+  where
+    behind_nil : SchemaValue → Option SchemaValue
+    behind_nil l = if are_distinct (names_in l) then Some l else None
+with_entries-is done (None ∷ es) d = refl
+with_entries-is done (Some e ∷ es) d = by (list_any (bytes_eq e.0) (names_in done)) refl (with_entries-is (done ++ e ∷ []) es)
+  where
+    refuses : (o : Option SchemaValue) → list_any (bytes_eq e.0) (names_in done) ≡ true
+        → None ≡ option_and_then (behind done) (option_map (λ xs. e ∷ xs) o)
+    refuses None is = refl
+    refuses (Some xs) is =
+        sym (ap (λ t. if t then Some (done ++ e ∷ xs) else None) (ap are_distinct (names_in-append done (e ∷ xs)) ∙ twice (names_in done) e.0 (names_in xs) is))
+
+    goes : (o : Option SchemaValue) → option_and_then (behind (done ++ e ∷ [])) o ≡ option_and_then (behind done) (option_map (λ xs. e ∷ xs) o)
+    goes None = refl
+    goes (Some xs) = ap (λ (l : SchemaValue). if are_distinct (names_in l) then Some l else None) (append_assoc done (e ∷ []) xs)
+
+    by : (t : Bool) → list_any (bytes_eq e.0) (names_in done) ≡ t
+        → (are_distinct (names_in (done ++ e ∷ [])) ≡ true → with_entries (done ++ e ∷ []) es ≡ option_and_then (behind (done ++ e ∷ [])) (all_of es))
+        → with_entries done (Some e ∷ es) ≡ option_and_then (behind done) (all_of (Some e ∷ es))
+    by true is deeper = ap (λ t. elim t [ true ↦ None | false ↦ with_entries (done ++ e ∷ []) es ]) is ∙ refuses (all_of es) is
+    by false is deeper =
+        ap (λ t. elim t [ true ↦ None | false ↦ with_entries (done ++ e ∷ []) es ]) is
+        ∙ deeper (ap are_distinct (names_in-append done (e ∷ [])) ∙ distinct-push (names_in done) e.0 d is)
+        ∙ goes (all_of es)
+
+pub schema_of-entries : (text : List ℕ) → schema_of text ≡ with_entries [] (map entry_of (slice_split is_comma text))
+schema_of-entries text = sym (with_entries-is [] (map entry_of (slice_split is_comma text)) refl)
+
+-- one entry, and then the others
+pub with_entries-more : (done now : SchemaValue) (e : Option Named) (es : List (Option Named)) → with_entry done e ≡ Some now → with_entries done (e ∷ es) ≡ with_entries now es
+with_entries-more done now None es is = cc
+with_entries-more done now (Some e) es is = by (list_any (bytes_eq e.0) (names_in done)) refl
+  where
+    by : (t : Bool) → list_any (bytes_eq e.0) (names_in done) ≡ t → with_entries done (Some e ∷ es) ≡ with_entries now es
+    by true at = let no_way : None ≡ Some now = sym (ap (λ t. if t then None else Some (done ++ e ∷ [])) at) ∙ is in cc
+    by false at =
+        let there : Some (done ++ e ∷ []) ≡ Some now = sym (ap (λ t. if t then None else Some (done ++ e ∷ [])) at) ∙ is in
+        let same : done ++ e ∷ [] ≡ now = cc in
+        ap (λ t. elim t [ true ↦ None | false ↦ with_entries (done ++ e ∷ []) es ]) at ∙ ap (λ l. with_entries l es) same
+
+-- ---- types
+
+-- the entries have types of which cells can be read
+carried_type : (text : List ℕ) (type : DataType) → named_type text ≡ Some type → is_carried type ≡ true
+carried_type text type is = by (bytes_eq text (codes "int64")) (bytes_eq text (codes "string")) is
+  where
+    by : (s t : Bool) → (if s then Some dtype.Int64 else if t then Some dtype.String else None) ≡ Some type → is_carried type ≡ true
+    by true t e = let same : dtype.Int64 ≡ type = cc in sym (ap is_carried same)
+    by false true e = let same : dtype.String ≡ type = cc in sym (ap is_carried same)
+    by false false e = cc
+
+carried_entry : (part : List ℕ) (e : Named) → entry_of part ≡ Some e → is_carried e.1 ≡ true
+carried_entry part e is = by (named_type (after_first is_colon part)) refl is
+  where
+    by : (o : Option DataType) → named_type (after_first is_colon part) ≡ o → option_map (λ (type : DataType). (before_first is_colon part, type)) o ≡ Some e → is_carried e.1 ≡ true
+    by None at given = cc
+    by (Some type) at given =
+        let same : (before_first is_colon part, type) ≡ e = cc in
+        sym (ap (λ (d : Named). is_carried d.1) same) ∙ carried_type (after_first is_colon part) type at
+
+carried_all : (parts : List (List ℕ)) (es : SchemaValue) → all_of (map entry_of parts) ≡ Some es → list_all is_carried (types_of es) ≡ true
+carried_all [] es is = let same : [] ≡ es = cc in sym (ap (λ (l : SchemaValue). list_all is_carried (types_of l)) same)
+carried_all (part ∷ parts) es is = by (entry_of part) (all_of (map entry_of parts)) refl refl (carried_all parts)
+  where
+    by : (o : Option Named) (others : Option SchemaValue) → entry_of part ≡ o → all_of (map entry_of parts) ≡ others
+        → ((xs : SchemaValue) → all_of (map entry_of parts) ≡ Some xs → list_all is_carried (types_of xs) ≡ true)
+        → list_all is_carried (types_of es) ≡ true
+    by None others at rest deeper = let no_way : None ≡ Some es = sym (ap (λ o. all_of (o ∷ map entry_of parts)) at) ∙ is in cc
+    by (Some e) None at rest deeper =
+        let no_way : None ≡ Some es = sym (ap (λ o. all_of (o ∷ map entry_of parts)) at ∙ ap (option_map (λ (xs : SchemaValue). e ∷ xs)) rest) ∙ is in cc
+    by (Some e) (Some xs) at rest deeper =
+        let there : Some (e ∷ xs) ≡ Some es = sym (ap (λ o. all_of (o ∷ map entry_of parts)) at ∙ ap (option_map (λ (xs : SchemaValue). e ∷ xs)) rest) ∙ is in
+        let same : e ∷ xs ≡ es = cc in
+        sym (ap (λ (l : SchemaValue). list_all is_carried (types_of l)) same)
+        ∙ (λ j. carried_entry part e at j && deeper xs rest j)
+
+pub schema_of-carried : (text : List ℕ) (schema : SchemaValue) → schema_of text ≡ Some schema → list_all is_carried (types_of schema) ≡ true
+schema_of-carried text schema is = by (all_of (map entry_of (slice_split is_comma text))) refl is
+  where
+    by : (o : Option SchemaValue) → all_of (map entry_of (slice_split is_comma text)) ≡ o
+        → option_and_then (λ (es : SchemaValue). if are_distinct (names_in es) then Some es else None) o ≡ Some schema → list_all is_carried (types_of schema) ≡ true
+    by None at given = cc
+    by (Some es) at given = inner (are_distinct (names_in es)) given
+      where
+        inner : (t : Bool) → (if t then Some es else None) ≡ Some schema → list_all is_carried (types_of schema) ≡ true
+        inner true e = let same : es ≡ schema = cc in sym (ap (λ (l : SchemaValue). list_all is_carried (types_of l)) same) ∙ carried_all (slice_split is_comma text) es at
+        inner false e = cc

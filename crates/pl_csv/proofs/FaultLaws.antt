@@ -119,7 +119,7 @@ excess_fault-done m b n (rest.Fields bytes) behind left_is behind_is done =
 excess_fault-done m b n (rest.End bytes) behind left_is behind_is done =
     (excess_fault-none n (row_at m b) (sym left_is), done ∙ behind_is)
 
-length-nil : (l : List ℕ) → length l ≡ 0 → l ≡ []
+pub length-nil : (l : List ℕ) → length l ≡ 0 → l ≡ []
 length-nil [] e = refl
 length-nil (x ∷ l) e = absurd (omega arith)
 

@@ -3,3 +3,5 @@ pub mod QuotingLaws
 pub mod WrittenLaws
 pub mod RowLaws
 pub mod FaultLaws
+pub mod ReadLaws
+pub mod FrameLaws

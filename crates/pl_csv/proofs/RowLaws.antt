@@ -14,7 +14,8 @@ use Rattle.pl_frame.specs.declared.error.FaultKind.{FaultKind}
 use Rattle.pl_csv.specs.Cells.{Cell, cell, value_of, fault_of}
 use Rattle.pl_frame.specs.Frame.{Scalar}
 use Rattle.pl_csv.specs.Reading.{field_at}
-use Rattle.pl_csv.specs.Rows.{fields_left, behind_row, IsBehind, State, state_types, with_row}
+use Rattle.pl_csv.specs.Buffers.{State}
+use Rattle.pl_csv.specs.Rows.{fields_left, behind_row, IsBehind, state_types, with_row}
 
 -- the first field of a text whose first field has n bytes
 pub field_at-first : (m : Marks) (b : List ℕ) (n : ℕ) → cut_field m b ≡ cut_at n b → take n b ≡ field_at (fields m b) 0

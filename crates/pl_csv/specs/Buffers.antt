@@ -1,5 +1,5 @@
 -- What a buffer holds.
-use Rattle.std.specs.Prelude.{◌≡◌, ℕ, ℤ, List, [], ◌∷◌, ◌++◌, map, Option, None, Some, Ok, Err}
+use Rattle.std.specs.Prelude.{◌≡◌, ℕ, ℤ, Bool, true, false, List, [], ◌∷◌, ◌++◌, map, Option, None, Some, Ok, Err}
 use Rattle.std.specs.Option.{option_map}
 use Rattle.pl_frame.specs.declared.data_type.DataType.{DataType}
 use Rattle.pl_frame.specs.declared.data_type.DataType.TheVariants as dtype
@@ -19,6 +19,19 @@ buffer_type (buffer.String texts) = dtype.String
 abbrev pub buffer_values : Buffer → List (Option Scalar)
 buffer_values (buffer.Int64 numbers) = map (option_map Number) numbers
 buffer_values (buffer.String texts) = map (option_map Letters) texts
+
+-- a column that is being read: its type and its cells so far
+abbrev pub State : Type 0
+State = DataType × List (Option Scalar)
+
+abbrev pub state_of : Buffer → State
+state_of given = (buffer_type given, buffer_values given)
+
+-- the types of which cells can be read
+abbrev pub is_carried : DataType → Bool
+is_carried dtype.Int64 = true
+is_carried dtype.String = true
+is_carried _ = false
 
 -- what a cell's fault says of the field; want of memory says nothing
 abbrev pub kind_of_fault : CellFault → Option FaultKind

@@ -5,3 +5,4 @@ pub mod Integers
 pub mod Quoting
 pub mod Reading
 pub mod Rows
+pub mod Frames

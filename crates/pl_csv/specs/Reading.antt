@@ -93,8 +93,8 @@ read_column q given (column, (name, type)) = record {
 }
 
 -- the columns of a schema, each cell from its field
-abbrev pub read_frame : Option ℕ → SchemaValue → List Row → List ColumnValue
-read_frame q schema given = map (read_column q given) (enumerate_from 0 schema)
+abbrev pub frame_of_rows : Option ℕ → SchemaValue → List Row → List ColumnValue
+frame_of_rows q schema given = map (read_column q given) (enumerate_from 0 schema)
 
 -- ---- the input
 
@@ -109,9 +109,13 @@ compression_marks = (31 ∷ 139 ∷ []) ∷ (120 ∷ 1 ∷ []) ∷ (120 ∷ 156 
 abbrev pub is_compressed : List ℕ → Bool
 is_compressed input = list_any (starts_with nat_eq input) compression_marks
 
+-- what stands behind the header, where leading line ends are kept or not
+abbrev pub data_of_input : Bool → List ℕ → List ℕ
+data_of_input keep input = unwrap_or (data_left (no_skips true) keep default_marks None input) []
+
 -- what stands behind the header; leading line ends are kept under a schema of at most one column
 abbrev pub data_of : SchemaValue → List ℕ → List ℕ
-data_of schema input = unwrap_or (data_left (no_skips true) (nat_le (length schema) 1) default_marks None input) []
+data_of schema input = data_of_input (nat_le (length schema) 1) input
 
 abbrev pub input_rows : SchemaValue → List ℕ → List Row
 input_rows schema input = rows default_marks None (data_of schema input)
@@ -125,4 +129,4 @@ abbrev pub reference_read : SchemaValue → List ℕ → Option (List ColumnValu
 reference_read schema input =
     if is_compressed input then None
     else if is_faulty schema input then None
-    else Some (read_frame (Some 34) schema (input_rows schema input))
+    else Some (frame_of_rows (Some 34) schema (input_rows schema input))

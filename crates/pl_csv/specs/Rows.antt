@@ -15,7 +15,7 @@ use Rattle.pl_csv.specs.declared.buffer.CellFault.TheVariants as cell_fault
 use Rattle.pl_frame.specs.declared.error.FaultKind.TheVariants as fault
 use Rattle.pl_csv.specs.Cells.{cell, value_of}
 use Rattle.pl_csv.specs.Reading.{Row, field_at}
-use Rattle.pl_csv.specs.Buffers.{buffer_type, buffer_values}
+use Rattle.pl_csv.specs.Buffers.{State, state_of}
 
 -- the fields that are left of a row
 abbrev pub fields_left : Marks → RowRest → List (List ℕ)
@@ -31,13 +31,6 @@ behind_row m (rest.End bytes) = bytes.now
 abbrev pub IsBehind : ℕ → List ℕ → RowRest → Type 0
 IsBehind separator others (rest.Fields bytes) = behind separator others ≡ Some (bytes.now)
 IsBehind separator others (rest.End bytes) = (behind separator others ≡ None) × (bytes.now ≡ others)
-
--- a column that is being read: its type and its cells so far
-abbrev pub State : Type 0
-State = DataType × List (Option Scalar)
-
-abbrev pub state_of : Buffer → State
-state_of buffer = (buffer_type buffer, buffer_values buffer)
 
 abbrev pub states : List Buffer → List State
 states buffers = map state_of buffers

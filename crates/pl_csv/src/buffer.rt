@@ -7,14 +7,17 @@ ghost use Rattle.pl_scan.specs.Fields.{begins_quoted};
 ghost use Rattle.pl_csv.specs.Integers.{without_blanks};
 ghost use Rattle.pl_csv.specs.Quoting.{undouble};
 ghost use Rattle.pl_csv.specs.Cells.{cell, number_cell, text_cell, text_or_null, quoted_cell, plain_cell, quoted_field_cell};
-ghost use Rattle.pl_csv.specs.Buffers.{AddsNumber, AddsText, AddsCell, IsCellFault, buffer_type};
+ghost use Rattle.pl_csv.specs.Buffers.{AddsNumber, AddsText, AddsCell, IsCellFault, buffer_type, buffer_values, state_of, is_carried};
 
 use crate::integers::parse_int64;
 use crate::quoting::{between_quotes, undouble_into, without_return};
 use memchr::memchr;
+use pl_frame::column::{Column, Series};
+use pl_frame::data_type::DataType;
+use pl_frame::name::PlSmallStr;
 use pl_frame::numbers::Numbers;
 use pl_frame::texts::Texts;
-use std::alloc::AllocError;
+use std::alloc::Global;
 
 /// Why a cell was refused.
 #[derive(Clone, Copy, Debug, PartialEq, Eq)]
@@ -126,6 +129,27 @@ fn add_quoted_text(
 }
 
 impl Buffer {
+    /// An empty buffer for a type, where cells of that type can be read. Takes no memory.
+    pub fn new(alloc: Global, dtype: &DataType) -> Option<Buffer>
+        ensures { MatchOption result (is_carried dtype.now ≡ false) (λ buffer. state_of buffer ≡ (dtype.now, [])) }
+    {
+        match dtype {
+            DataType::Int64 => Some(Buffer::Int64(Numbers::new(alloc))),
+            DataType::String => Some(Buffer::String(Texts::new(alloc))),
+            _ => None,
+        }
+    }
+
+    /// The column of a name that the buffer holds. Takes no memory.
+    pub fn into_series(self, name: PlSmallStr) -> Series
+        ensures { result ≡ record { name = name; dtype = buffer_type self; values = buffer_values self } }
+    {
+        match self {
+            Buffer::Int64(numbers) => Column::from_int64(name, numbers),
+            Buffer::String(texts) => Column::from_string(name, texts),
+        }
+    }
+
     fn add_quoted(&mut self, text: &[u8], quote: u8, scratch: &mut Vec<u8>) -> Result<(), CellFault>
         ensures { MatchResult result (λ _. AddsCell self.old self.new (quoted_cell quote (buffer_type self.old) text.now)) (λ fault. IsCellFault fault (quoted_cell quote (buffer_type self.old) text.now)) }
     {

@@ -3,8 +3,11 @@
 
 pub mod adapters;
 mod buffer;
+mod frames;
 mod integers;
 mod quoting;
 pub mod read_all;
+mod reading;
 mod rows;
 mod serializer;
+mod writer;

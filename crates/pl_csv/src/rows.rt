@@ -1,9 +1,9 @@
 //! Rows of fields into buffers, in one pass over the data.
-ghost use Rattle.std.specs.Prelude.{◌≡◌, ◌+◌, [], Ok, Err, Some, None, length, drop, OnOk, IfOk, IfErr, MatchResult};
-ghost use Rattle.pl_frame.specs.Dialect.{marks};
+ghost use Rattle.std.specs.Prelude.{◌≡◌, ◌≢◌, ◌+◌, true, false, [], Ok, Err, Some, None, length, drop, OnOk, IfOk, IfErr, MatchResult};
+ghost use Rattle.pl_frame.specs.Dialect.{marks, AreDistinct};
 ghost use Rattle.pl_scan.specs.Fields.{fields, extent};
-ghost use Rattle.pl_csv.specs.Reading.{field_at, first_fault, row_at};
-ghost use Rattle.pl_csv.specs.Rows.{fields_left, behind_row, states, state_types, with_row, IsRowFault, IsBehind, IsDone, HasMore, row_fault_of};
+ghost use Rattle.pl_csv.specs.Reading.{field_at, first_fault, row_at, rows, has_fault};
+ghost use Rattle.pl_csv.specs.Rows.{fields_left, behind_row, states, state_types, with_row, with_rows, IsRowFault, IsBehind, IsDone, HasMore, row_fault_of};
 
 use crate::buffer::{Buffer, CellFault};
 use pl_frame::error::FaultKind;
@@ -114,4 +114,39 @@ pub fn add_row<'a>(
         }
     }
     finish_row(rest, buffers.len())
+}
+
+// What stands behind a line end at the front.
+#[inline]
+fn behind_line_end(behind: &[u8]) -> &[u8]
+    ensures { result.now ≡ drop 1 behind.now }
+{
+    match behind {
+        [_, next @ ..] => next,
+        [] => behind,
+    }
+}
+
+/// Reads all records of a text into the buffers, a row each.
+///
+/// Refuses a text in which a row has a fault, and want of memory. The buffers then hold some of the cells.
+pub fn add_rows(
+    buffers: &mut [Buffer],
+    records: &[u8],
+    cuts: Cuts,
+    scratch: &mut Vec<u8>,
+) -> Result<(), RowFault>
+    requires { AreDistinct (marks cuts.separator cuts.quote_char cuts.eol_char) }
+    ensures whole { OnOk result (has_fault cuts.quote_char (state_types (states buffers.old)) (rows (marks cuts.separator cuts.quote_char cuts.eol_char) None records.now) ≡ false) }
+    ensures added { OnOk result (states buffers.new ≡ with_rows cuts.quote_char (rows (marks cuts.separator cuts.quote_char cuts.eol_char) None records.now) (states buffers.old)) }
+    ensures fault { IfErr result (λ fault. fault ≢ RowFault.OutOfMemory → has_fault cuts.quote_char (state_types (states buffers.old)) (rows (marks cuts.separator cuts.quote_char cuts.eol_char) None records.now) ≡ true) }
+{
+    let mut rest = records;
+    while !rest.is_empty() {
+        match add_row(buffers, rest, cuts, scratch) {
+            Ok(behind) => rest = behind_line_end(behind),
+            Err(fault) => return Err(fault),
+        }
+    }
+    Ok(())
 }

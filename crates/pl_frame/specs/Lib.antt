@@ -3,6 +3,7 @@ pub mod ColumnData
 pub mod Columns
 pub mod Dialect
 pub mod Frame
+pub mod Names
 pub mod Optional
 pub mod Outside
 pub mod Schema

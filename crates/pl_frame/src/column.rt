@@ -263,3 +263,57 @@ fn fill_texts(texts: &mut Texts, values: &[Option<PlSmallStr>]) -> Result<(), Al
     }
     Ok(())
 }
+
+#[cfg(test)]
+mod tests {
+    use super::*;
+    use std::test::Fail;
+
+    #[test]
+    fn keeps_whole_numbers(rt: HostRuntime) -> Result<(), Fail> {
+        let name = PlSmallStr::from_str(rt.alloc(), "n")?;
+        let given = vec![in rt.alloc(); Some(-7), None]?;
+        let column = Column::whole(rt.alloc(), name, DataType::Int64, given)?;
+        assert_eq!(rt; column.name(), "n");
+        assert_eq!(rt; (column.len(), column.null_count()), (2, 1));
+        assert!(rt; matches!(column.get(0), Value::Whole(-7)));
+        assert!(rt; column.int64().is_some());
+        Ok(())
+    }
+
+    #[test]
+    fn names_the_first_row_out_of_range(rt: HostRuntime) -> Result<(), Fail> {
+        let name = PlSmallStr::from_str(rt.alloc(), "n")?;
+        let past = i128::from(i64::MAX) + 1;
+        let given = vec![in rt.alloc(); None, Some(past - 1), Some(past), Some(past)]?;
+        let refused = Column::whole(rt.alloc(), name, DataType::Int64, given).err();
+        assert_eq!(rt; refused, Some(ColumnFault::OutOfRange { row: 2 }));
+        Ok(())
+    }
+
+    #[test]
+    fn keeps_texts(rt: HostRuntime) -> Result<(), Fail> {
+        let name = PlSmallStr::from_str(rt.alloc(), "t")?;
+        let given = vec![in rt.alloc(); Some(PlSmallStr::from_str(rt.alloc(), "é")?)]?;
+        let column = Column::text(rt.alloc(), name, DataType::String, given)?;
+        assert!(rt; matches!(column.dtype(), DataType::String));
+        assert_eq!(rt; column.len(), 1);
+        assert!(rt; matches!(column.get(0), Value::Text("é")));
+        assert!(rt; column.string().is_some());
+        Ok(())
+    }
+
+    #[test]
+    fn takes_kept_values_over(rt: HostRuntime) -> Result<(), Fail> {
+        let numbers = Column::from_int64(
+            PlSmallStr::from_str(rt.alloc(), "n")?,
+            Numbers::new(rt.alloc()),
+        );
+        let texts = Column::from_string(
+            PlSmallStr::from_str(rt.alloc(), "t")?,
+            Texts::new(rt.alloc()),
+        );
+        assert_eq!(rt; (numbers.len(), texts.len()), (0, 0));
+        Ok(())
+    }
+}

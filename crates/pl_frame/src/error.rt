@@ -35,7 +35,9 @@ pub enum ComputeFault {
     /// The input begins with the mark of a compressed stream.
     Compressed,
     /// A column's type can't be read.
-    Dtype { column: usize },
+    Dtype {
+        column: usize,
+    },
     /// A record has a fault: its number from 0, its column, and what is wrong.
     Record {
         row: usize,
@@ -43,7 +45,10 @@ pub enum ComputeFault {
         kind: FaultKind,
     },
     /// The last number of a row or code of a category does not fit 32 bits.
-    Index { offset: u64, rows: u64 },
+    Index {
+        offset: u64,
+        rows: u64,
+    },
 }
 
 /// Where data is wanting.

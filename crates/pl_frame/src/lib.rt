@@ -5,6 +5,7 @@
 pub mod column;
 pub mod data_type;
 pub mod error;
+pub mod frame;
 pub mod name;
 pub mod numbers;
 pub mod schema;

@@ -3,3 +3,5 @@ pub mod FieldLaws
 pub mod ItemLaws
 pub mod RecordLaws
 pub mod StartLaws
+pub mod LineLaws
+pub mod LineEndLaws

@@ -1,12 +1,15 @@
 -- The laws of the place where the data begins.
-use Rattle.std.proofs.Common.{◌≡◌, ℕ, zero, suc, ◌+◌, ◌-◌, ◌<◌, ◌≤◌, Bool, true, false, not, ◌||◌, ◌==◌, if◌then◌else◌, List, [], ◌∷◌, length, drop, refl, sym, ◌∙◌, ap, arith, length-drop, one-add}
+use Rattle.std.proofs.Common.{◌≡◌, ℕ, zero, suc, ◌+◌, ◌-◌, ◌<◌, ◌≤◌, Bool, true, false, not, ◌||◌, ◌==◌, cond, List, [], ◌∷◌, length, drop, refl, sym, ◌∙◌, ap, arith, length-drop, one-add, drop-drop, nat_eq, inl, inr}
 use Rattle.std.specs.Prelude.{Option, None, Some}
-use Rattle.std.specs.List.{prefix_len}
+use Rattle.std.specs.List.{prefix_len, starts_with}
+use Rattle.std.specs.Option.{option_map, option_and_then}
+use Rattle.std.proofs.lemmas.Bool.{cases_lt}
 use Rattle.std.proofs.lemmas.List.{drop_all}
 use Rattle.pl_frame.specs.Dialect.{Marks}
+use Rattle.pl_frame.specs.Text.{byte_order_mark}
 use Rattle.pl_scan.specs.Comment.{is_comment}
 use Rattle.pl_scan.specs.Items.{Entry, text_of, item, items}
-use Rattle.pl_scan.specs.Start.{no_skips, unless_empty, skip_line, skip_lines, cut_ends, behind_item, pass_items, pass_comments, pass_comments_within, pass_one, cut_head, data_left}
+use Rattle.pl_scan.specs.Start.{no_skips, unless_empty, skip_line, skip_lines, cut_ends, behind_item, pass_items, pass_comments, pass_comments_within, pass_one, pass_header, cut_mark, cut_head, Skips, data_left, start}
 use Rattle.pl_scan.proofs.ItemLaws.{items-nil, items-step}
 
 unless_empty-some : (b l : List ℕ) → 0 < length l → unless_empty b l ≡ l
@@ -86,13 +89,129 @@ behind_item-is m comment b first n rest is len left = left ∙ ap (λ k. drop (k
 
 -- where nothing is skipped but the header and there are no comments
 pub data_left-no_skips : (has_header keep : Bool) (m : Marks) (b : List ℕ)
-    → data_left (no_skips has_header) keep m None b
-    ≡ Some (if has_header then pass_one m None (cut_head (no_skips has_header) keep m.line_end b) else cut_head (no_skips has_header) keep m.line_end b)
+    → data_left (no_skips has_header) keep m None b ≡ Some (pass_header has_header m None (cut_head 0 keep m.line_end b))
 unfolding data_left
-data_left-no_skips has_header keep m b =
-    ap (λ (body : List ℕ). Some (if has_header then pass_one m None body else body)) (pass_comments-end m None (cut_head (no_skips has_header) keep m.line_end b) refl)
+data_left-no_skips has_header keep m b = ap (λ (body : List ℕ). Some (pass_header has_header m None body)) (pass_comments-end m None (cut_head 0 keep m.line_end b) refl)
 
 -- the items behind the next one
 pub items-pass_one : (m : Marks) (comment : Option (List ℕ)) (b : List ℕ) → items m comment (pass_one m comment b) ≡ drop 1 (items m comment b)
 items-pass_one m comment [] = items-nil m comment ∙ ap (drop 1) (sym (items-nil m comment))
 items-pass_one m comment (x ∷ xs) = ap (drop 1) (sym (items-step m comment (x ∷ xs) (omega arith)))
+
+-- ---- what is left, behind the skipped rows
+
+pub data_left-none : (o : Skips) (keep : Bool) (m : Marks) (comment : Option (List ℕ)) (b : List ℕ) → pass_items m comment o.rows (cut_head o.lines keep m.line_end b) ≡ None
+    → data_left o keep m comment b ≡ None
+unfolding data_left
+data_left-none o keep m comment b is =
+    ap (option_and_then (λ rest. pass_items m comment o.after_header (pass_header o.has_header m comment (pass_comments m comment rest)))) is
+
+pub data_left-some : (o : Skips) (keep : Bool) (m : Marks) (comment : Option (List ℕ)) (b rest : List ℕ) → pass_items m comment o.rows (cut_head o.lines keep m.line_end b) ≡ Some rest
+    → data_left o keep m comment b ≡ pass_items m comment o.after_header (pass_header o.has_header m comment (pass_comments m comment rest))
+unfolding data_left
+data_left-some o keep m comment b rest is =
+    ap (option_and_then (λ rest. pass_items m comment o.after_header (pass_header o.has_header m comment (pass_comments m comment rest)))) is
+
+-- ---- what is left is an end of the text
+
+-- the second list is what some number of bytes at the front of the first leave
+abbrev pub IsEndOf : List ℕ → List ℕ → Type 0
+IsEndOf b r = (n : ℕ) × (drop n b ≡ r)
+
+IsEndOf-trans : (b r t : List ℕ) → IsEndOf b r → IsEndOf r t → IsEndOf b t
+IsEndOf-trans b r t first second = (first.0 + second.0, sym (drop-drop second.0 first.0 b) ∙ ap (drop second.0) first.1 ∙ second.1)
+
+IsEndOf-unless_empty : (b l : List ℕ) → IsEndOf b l → IsEndOf b (unless_empty b l)
+IsEndOf-unless_empty b [] _ = (0, refl)
+IsEndOf-unless_empty b (x ∷ l) is = is
+
+IsEndOf-skip_lines : (e n : ℕ) (b : List ℕ) → IsEndOf b (skip_lines e n b)
+IsEndOf-skip_lines e zero b = (0, refl)
+IsEndOf-skip_lines e (suc n) b =
+    let line = IsEndOf-unless_empty b (drop (prefix_len (λ x. not (x == e)) b + 1) b) (prefix_len (λ x. not (x == e)) b + 1, refl) in
+    IsEndOf-trans b (skip_line e b) (skip_lines e n (skip_line e b)) line (IsEndOf-skip_lines e n (skip_line e b))
+
+-- one of two ends
+IsEndOf-cond : (t : Bool) (b r s : List ℕ) → IsEndOf b r → IsEndOf b s → IsEndOf b (cond t r s)
+IsEndOf-cond true b r s is _ = is
+IsEndOf-cond false b r s _ is = is
+
+IsEndOf-cut_head : (lines : ℕ) (keep : Bool) (e : ℕ) (b : List ℕ) → IsEndOf b (cut_head lines keep e b)
+IsEndOf-cut_head lines keep e b =
+    let text = cond (lines == 0) (cut_mark b) (skip_lines e lines b) in
+    let mark = IsEndOf-cond (starts_with nat_eq b byte_order_mark) b (drop 3 b) b (3, refl) (0, refl) in
+    let whole = IsEndOf-cond (lines == 0) b (cut_mark b) (skip_lines e lines b) mark (IsEndOf-skip_lines e lines b) in
+    IsEndOf-cond keep b text (cut_ends e text) whole (IsEndOf-trans b text (cut_ends e text) whole (prefix_len (λ x. x == e || x == 13) text, refl))
+
+IsEndOf-behind_item : (m : Marks) (comment : Option (List ℕ)) (b : List ℕ) → IsEndOf b (behind_item m comment b)
+IsEndOf-behind_item m comment b = (length (text_of (item m comment b)) + 1, refl)
+
+some-same : (b r : List ℕ) → ◌≡◌ {A = Option (List ℕ)} (Some b) (Some r) → b ≡ r
+some-same b r is = cc
+
+IsEndOf-pass_items : (m : Marks) (comment : Option (List ℕ)) (n : ℕ) (b r : List ℕ) → pass_items m comment n b ≡ Some r → IsEndOf b r
+IsEndOf-pass_items m comment zero b r is = (0, some-same b r is)
+IsEndOf-pass_items m comment (suc n) [] r is = cc
+IsEndOf-pass_items m comment (suc n) (x ∷ xs) r is =
+    let next = behind_item m comment (x ∷ xs) in
+    IsEndOf-trans (x ∷ xs) next r (IsEndOf-behind_item m comment (x ∷ xs)) (IsEndOf-pass_items m comment n next r is)
+
+IsEndOf-comments : (m : Marks) (comment : Option (List ℕ)) (n : ℕ) (b : List ℕ) → IsEndOf b (pass_comments_within m comment n b)
+IsEndOf-comments m comment zero b = (0, refl)
+IsEndOf-comments m comment (suc n) [] = (0, refl)
+IsEndOf-comments m comment (suc n) (x ∷ xs) = by_test (is_comment comment (x ∷ xs)) (IsEndOf-comments m comment n (behind_item m comment (x ∷ xs)))
+  where
+    by_test : (t : Bool) → IsEndOf (behind_item m comment (x ∷ xs)) (pass_comments_within m comment n (behind_item m comment (x ∷ xs)))
+        → IsEndOf (x ∷ xs) (elim t [ true ↦ pass_comments_within m comment n (behind_item m comment (x ∷ xs)) | false ↦ x ∷ xs ])
+    by_test true is =
+        let next = behind_item m comment (x ∷ xs) in
+        IsEndOf-trans (x ∷ xs) next (pass_comments_within m comment n next) (IsEndOf-behind_item m comment (x ∷ xs)) is
+    by_test false _ = (0, refl)
+
+IsEndOf-pass_header : (has_header : Bool) (m : Marks) (comment : Option (List ℕ)) (b : List ℕ) → IsEndOf b (pass_header has_header m comment b)
+IsEndOf-pass_header has_header m comment [] = IsEndOf-cond has_header [] [] [] (0, refl) (0, refl)
+IsEndOf-pass_header has_header m comment (x ∷ xs) =
+    IsEndOf-cond has_header (x ∷ xs) (behind_item m comment (x ∷ xs)) (x ∷ xs) (IsEndOf-behind_item m comment (x ∷ xs)) (0, refl)
+
+pub IsEndOf-data_left : (o : Skips) (keep : Bool) (m : Marks) (comment : Option (List ℕ)) (b r : List ℕ) → data_left o keep m comment b ≡ Some r → IsEndOf b r
+unfolding data_left
+IsEndOf-data_left o keep m comment b r is = by_rest (pass_items m comment o.rows (cut_head o.lines keep m.line_end b)) refl is
+  where
+    by_rest : (some : Option (List ℕ)) → pass_items m comment o.rows (cut_head o.lines keep m.line_end b) ≡ some
+        → option_and_then (λ rest. pass_items m comment o.after_header (pass_header o.has_header m comment (pass_comments m comment rest))) some ≡ Some r
+        → IsEndOf b r
+    by_rest None _ is = cc
+    by_rest (Some rest) e is =
+        let head = cut_head o.lines keep m.line_end b in
+        let body = pass_comments m comment rest in
+        let behind = pass_header o.has_header m comment body in
+        let one = IsEndOf-trans b head rest (IsEndOf-cut_head o.lines keep m.line_end b) (IsEndOf-pass_items m comment o.rows head rest e) in
+        let two = IsEndOf-trans b rest body one (IsEndOf-comments m comment (length rest) rest) in
+        let three = IsEndOf-trans b body behind two (IsEndOf-pass_header o.has_header m comment body) in
+        IsEndOf-trans b behind r three (IsEndOf-pass_items m comment o.after_header behind r is)
+
+-- an end is no longer than the list, and begins where so many bytes are left
+pub IsEndOf-place : (b r : List ℕ) → IsEndOf b r → (length r ≤ length b) × (drop (length b - length r) b ≡ r)
+IsEndOf-place b r is =
+    let len : length r ≡ length b - is.0 = sym (ap length is.1) ∙ length-drop is.0 b in (
+      omega arith,
+      elim (cases_lt is.0 (length b)) [
+        | inl inside ↦ ap (λ n. drop n b) (let same : length b - length r ≡ is.0 = omega arith in same) ∙ is.1
+        | inr past ↦
+            let all : length b - length r ≡ length b = omega arith in
+            ap (λ n. drop n b) all ∙ drop_all (length b) b (omega arith) ∙ sym (drop_all is.0 b past) ∙ is.1
+      ],
+    )
+
+-- what is left stands behind the starting point
+pub data_left-start : (o : Skips) (keep : Bool) (m : Marks) (comment : Option (List ℕ)) (b : List ℕ) (n : ℕ) → start o keep m comment b ≡ Some n
+    → (n ≤ length b) × (data_left o keep m comment b ≡ Some (drop n b))
+data_left-start o keep m comment b n is = by_rest (data_left o keep m comment b) refl is
+  where
+    by_rest : (some : Option (List ℕ)) → data_left o keep m comment b ≡ some → option_map (λ rest. length b - length rest) some ≡ Some n
+        → (n ≤ length b) × (data_left o keep m comment b ≡ Some (drop n b))
+    by_rest None _ is = cc
+    by_rest (Some r) e is =
+        let place = IsEndOf-place b r (IsEndOf-data_left o keep m comment b r e) in
+        let same : length b - length r ≡ n = cc in
+        (omega arith, e ∙ ap (λ (l : List ℕ). Some l) (sym place.1 ∙ ap (λ k. drop k b) same))

@@ -1,8 +1,8 @@
 -- Where the data of an input begins, step by step (docs/grammar.md, "The starting point").
-use Rattle.std.specs.Prelude.{ℕ, zero, suc, ◌+◌, ◌-◌, Bool, true, false, not, ◌||◌, ◌==◌, nat_eq, if◌then◌else◌, List, [], ◌∷◌, length, drop, Option, None, Some}
+use Rattle.std.specs.Prelude.{ℕ, zero, suc, ◌+◌, ◌-◌, ◌<◌, Bool, true, false, not, ◌||◌, ◌==◌, nat_eq, if◌then◌else◌, List, [], ◌∷◌, length, drop, Option, None, Some}
 use Rattle.std.specs.List.{prefix_len, starts_with}
 use Rattle.std.specs.Option.{option_map, option_and_then}
-use Rattle.pl_frame.specs.Dialect.{Marks}
+use Rattle.pl_frame.specs.Dialect.{Marks, IsDialect}
 use Rattle.pl_frame.specs.Text.{byte_order_mark}
 use Rattle.pl_scan.specs.Comment.{is_comment}
 use Rattle.pl_scan.specs.Items.{text_of, item}
@@ -14,9 +14,20 @@ pub record Skips : Type 0 where
   pub has_header : Bool
   pub after_header : ℕ
 
+abbrev pub skips : ℕ → ℕ → Bool → ℕ → Skips
+skips lines rows has_header after_header = record { lines = lines; rows = rows; has_header = has_header; after_header = after_header }
+
+-- lines and items before the header are both to be skipped
+abbrev pub SkipsTwice : Skips → Type 0
+SkipsTwice o = (0 < o.lines) × (0 < o.rows)
+
+-- these are a dialect, and lines and items before the header are not both to be skipped
+abbrev pub CanStart : Skips → Marks → Option (List ℕ) → Type 0
+CanStart o m comment = IsDialect m comment × (¬ SkipsTwice o)
+
 -- nothing is skipped but the header, if there is one
 abbrev pub no_skips : Bool → Skips
-no_skips has_header = record { lines = 0; rows = 0; has_header = has_header; after_header = 0 }
+no_skips has_header = skips 0 0 has_header 0
 
 -- all of b, where nothing is left behind
 abbrev pub unless_empty : List ℕ → List ℕ → List ℕ
@@ -66,19 +77,21 @@ pass_one m comment [] = []
 pass_one m comment (x ∷ xs) = behind_item m comment (x ∷ xs)
 
 -- what is left behind the head: skipped lines, or else a byte order mark, and then, unless they are kept, leading line ends
-abbrev pub cut_head : Skips → Bool → ℕ → List ℕ → List ℕ
-cut_head skips keep e b =
-    let text = if skips.lines == 0 then cut_mark b else skip_lines e skips.lines b in
+abbrev pub cut_head : ℕ → Bool → ℕ → List ℕ → List ℕ
+cut_head lines keep e b =
+    let text = if lines == 0 then cut_mark b else skip_lines e lines b in
     if keep then text else cut_ends e text
+
+-- behind the header, if there is one
+abbrev pub pass_header : Bool → Marks → Option (List ℕ) → List ℕ → List ℕ
+pass_header has_header m comment b = if has_header then pass_one m comment b else b
 
 -- the data: what is left behind the head, the skipped rows, the comments, the header and the rows skipped behind it
 unfoldable pub data_left : Skips → Bool → Marks → Option (List ℕ) → List ℕ → Option (List ℕ)
-data_left skips keep m comment b =
-    option_and_then
-    (λ rest. pass_items m comment skips.after_header
-    (let body = pass_comments m comment rest in if skips.has_header then pass_one m comment body else body))
-    (pass_items m comment skips.rows (cut_head skips keep m.line_end b))
+data_left o keep m comment b =
+    option_and_then (λ rest. pass_items m comment o.after_header (pass_header o.has_header m comment (pass_comments m comment rest)))
+    (pass_items m comment o.rows (cut_head o.lines keep m.line_end b))
 
 -- the place where the data begins
 abbrev pub start : Skips → Bool → Marks → Option (List ℕ) → List ℕ → Option ℕ
-start skips keep m comment b = option_map (λ rest. length b - length rest) (data_left skips keep m comment b)
+start o keep m comment b = option_map (λ rest. length b - length rest) (data_left o keep m comment b)

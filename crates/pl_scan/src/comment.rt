@@ -53,7 +53,7 @@ impl CommentPrefix {
     }
 
     /// Whether the line begins with the prefix.
-    pub fn begins(&self, line: &[u8]) -> bool
+    pub fn is_prefix_of(&self, line: &[u8]) -> bool
         ensures { result ≡ starts_with nat_eq line.now (prefix_bytes self.now) }
     {
         match self {
@@ -63,7 +63,7 @@ impl CommentPrefix {
     }
 
     /// Whether the prefix has bytes, but not the line end.
-    pub fn fits(&self, eol_char: u8) -> bool
+    pub fn is_valid_for(&self, eol_char: u8) -> bool
         ensures { IsTrue result ↔ IsCommentPrefix eol_char (Some (prefix_bytes self.now)) }
     {
         match self {
@@ -81,7 +81,7 @@ pub fn is_comment_line(line: &[u8], comment_prefix: Option<&CommentPrefix>) -> b
     ensures { result ≡ is_comment (prefix_of comment_prefix.entry) line.now }
 {
     match comment_prefix {
-        Some(prefix) => prefix.begins(line),
+        Some(prefix) => prefix.is_prefix_of(line),
         None => false,
     }
 }

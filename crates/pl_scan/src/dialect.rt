@@ -27,7 +27,7 @@ fn is_prefix_ok(eol_char: u8, comment_prefix: Option<&CommentPrefix>) -> bool
     ensures { IsTrue result ↔ IsCommentPrefix eol_char (prefix_of comment_prefix.entry) }
 {
     match comment_prefix {
-        Some(prefix) => prefix.fits(eol_char),
+        Some(prefix) => prefix.is_valid_for(eol_char),
         None => true,
     }
 }

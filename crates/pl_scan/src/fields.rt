@@ -3,10 +3,20 @@ ghost use Rattle.std.specs.Prelude.{◌≡◌, ◌≤◌, ◌+◌, ℕ, Bool, Li
 ghost use Rattle.std.specs.Iterator.{YieldsFirstBy, item_count};
 ghost use Rattle.std.specs.Option.{option_copied};
 ghost use Rattle.pl_frame.specs.Dialect.{marks, AreDistinct};
-ghost use Rattle.pl_scan.specs.Fields.{begins_quoted, cut_quoted, cut_plain, cut_field, cut_at, marked_fields, behind, fields_left, field_text};
+ghost use Rattle.pl_scan.specs.Fields.{is_quote, begins_quoted, cut_quoted, cut_plain, cut_field, cut_at, marked_fields, behind, fields_left, field_text};
 
 use memchr::memchr2;
 use std::marker::Model;
+
+// Whether the byte is the quote.
+pub(crate) fn is_the_quote(quote_char: Option<u8>, byte: u8) -> bool
+    ensures { result ≡ is_quote quote_char byte }
+{
+    match quote_char {
+        Some(quote) => byte == quote,
+        None => false,
+    }
+}
 
 // The length of the quoted field at the front.
 fn quoted_len(slice: &[u8], separator: u8, quote: u8, eol_char: u8) -> usize

@@ -35,7 +35,7 @@ pub fn record_len(slice: &[u8], separator: u8, quote_char: Option<u8>, eol_char:
 }
 
 // The first item of a slice that is not empty, and how many bytes it has.
-pub fn first_item<'a>(
+pub(crate) fn first_item<'a>(
     slice: &'a [u8],
     separator: u8,
     quote_char: Option<u8>,
@@ -59,7 +59,7 @@ pub fn first_item<'a>(
 }
 
 // What stands behind the byte at a place.
-pub fn behind_line_end(slice: &[u8], len: usize) -> &[u8]
+pub(crate) fn behind_line_end(slice: &[u8], len: usize) -> &[u8]
     requires { len ≤ length slice.now }
     ensures { result.now ≡ drop (len + 1) slice.now }
 {

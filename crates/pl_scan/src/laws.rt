@@ -2,3 +2,4 @@
 
 pub use crate::fields::SplitFields;
 pub use crate::items::{Item, Items};
+pub use crate::lines::SplitLines;

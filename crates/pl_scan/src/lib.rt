@@ -6,4 +6,7 @@ pub mod dialect;
 pub mod fields;
 pub mod items;
 pub mod laws;
+pub mod line_ends;
+pub mod lines;
+pub mod rows;
 pub mod start;

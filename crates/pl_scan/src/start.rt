@@ -1,13 +1,18 @@
 //! Where the data of a text begins.
-ghost use Rattle.std.specs.Prelude.{◌≡◌, MatchOption};
+ghost use Rattle.std.specs.Prelude.{◌≡◌, ◌↔◌, MatchOption, ℕ, nat_le, Some, None, Ok, Err};
 ghost use Rattle.std.specs.Option.{option_copied};
-ghost use Rattle.pl_frame.specs.Dialect.{marks};
+ghost use Rattle.pl_frame.specs.Dialect.{marks, IsDialect};
+ghost use Rattle.pl_frame.specs.declared.error.PolarsError.TheVariants as error;
+ghost use Rattle.pl_frame.specs.declared.error.OpFault.TheVariants as op_fault;
+ghost use Rattle.pl_frame.specs.declared.error.NoDataFault.TheVariants as no_data;
 ghost use Rattle.pl_scan.specs.Comment.{prefix_of};
-ghost use Rattle.pl_scan.specs.Start.{cut_mark, skip_line, skip_lines, cut_ends, pass_items, pass_comments};
+ghost use Rattle.pl_scan.specs.Start.{cut_mark, skip_line, skip_lines, cut_ends, cut_head, pass_items, pass_comments, pass_header, skips, data_left, SkipsTwice, CanStart, start};
 
 use crate::comment::{CommentPrefix, is_comment_line};
+use crate::dialect::dialect_ok;
 use crate::items::{behind_line_end, first_item};
 use memchr::memchr;
+use pl_frame::error::{NoDataFault, OpFault, PolarsError, PolarsResult};
 
 /// Cuts a byte order mark.
 pub fn skip_bom(input: &[u8]) -> &[u8]
@@ -97,6 +102,133 @@ fn behind_comments<'a>(
     rest
 }
 
+// What is left behind the head: skipped lines, or else a byte order mark, and then, unless they are kept, line ends.
+fn behind_head(input: &[u8], eol_char: u8, lines: usize, keep_ends: bool) -> &[u8]
+    ensures { result.now ≡ cut_head lines keep_ends eol_char input.now }
+{
+    let text = if lines == 0 {
+        skip_bom(input)
+    } else {
+        skip_lines_naive(input, eol_char, lines)
+    };
+    if keep_ends {
+        text
+    } else {
+        without_ends(text, eol_char)
+    }
+}
+
+// What stands behind the header, if there is one.
+fn behind_header<'a>(
+    input: &'a [u8],
+    separator: u8,
+    quote_char: Option<u8>,
+    eol_char: u8,
+    comment_prefix: Option<&CommentPrefix>,
+    has_header: bool,
+) -> &'a [u8]
+    ensures { result.now ≡ pass_header has_header (marks separator quote_char eol_char) (prefix_of comment_prefix.entry) input.now }
+{
+    if has_header && !input.is_empty() {
+        let (_, len) = first_item(input, separator, quote_char, eol_char, comment_prefix);
+        behind_line_end(input, len)
+    } else {
+        input
+    }
+}
+
+/// The data: what is left behind the head, the rows to skip, the comments, the header and the rows to skip behind it.
+/// None where there are fewer items than are to be skipped. Takes no memory.
+pub fn data_of<'a>(
+    input: &'a [u8],
+    separator: u8,
+    quote_char: Option<u8>,
+    eol_char: u8,
+    keep_ends: bool,
+    lines: usize,
+    rows: usize,
+    after_header: usize,
+    comment_prefix: Option<&CommentPrefix>,
+    has_header: bool,
+) -> Option<&'a [u8]>
+    ensures { option_copied result ≡ data_left (skips lines rows has_header after_header) keep_ends (marks separator quote_char eol_char) (prefix_of comment_prefix.entry) input.now }
+{
+    let text = behind_head(input, eol_char, lines, keep_ends);
+    let rest = behind_items(text, separator, quote_char, eol_char, comment_prefix, rows)?;
+    let body = behind_comments(rest, separator, quote_char, eol_char, comment_prefix);
+    let data = behind_header(
+        body,
+        separator,
+        quote_char,
+        eol_char,
+        comment_prefix,
+        has_header,
+    );
+    behind_items(
+        data,
+        separator,
+        quote_char,
+        eol_char,
+        comment_prefix,
+        after_header,
+    )
+}
+
+/// The place where the data begins: behind the head, with leading line ends kept exactly where `schema_len <= 1`, the
+/// rows to skip, the comments, the header and the rows to skip behind it. Refuses what is no dialect, then lines and
+/// rows to skip that are both set, then fewer items than are to be skipped. Takes no memory.
+pub fn find_starting_point(
+    bytes: &[u8],
+    separator: u8,
+    quote_char: Option<u8>,
+    eol_char: u8,
+    schema_len: usize,
+    skip_lines: usize,
+    skip_rows_before_header: usize,
+    skip_rows_after_header: usize,
+    comment_prefix: Option<&CommentPrefix>,
+    has_header: bool,
+) -> PolarsResult<usize>
+    ensures dialect { (result ≡ Err (error.InvalidOperation op_fault.Dialect))
+        ↔ (¬ IsDialect (marks separator quote_char eol_char) (prefix_of comment_prefix.entry)) }
+    ensures option { (result ≡ Err (error.InvalidOperation op_fault.Option))
+        ↔ (IsDialect (marks separator quote_char eol_char) (prefix_of comment_prefix.entry)
+        × SkipsTwice (skips skip_lines skip_rows_before_header has_header skip_rows_after_header)) }
+    ensures skip { (result ≡ Err (error.NoData no_data.Skip))
+        ↔ (let m = marks separator quote_char eol_char in
+        let o = skips skip_lines skip_rows_before_header has_header skip_rows_after_header in
+        CanStart o m (prefix_of comment_prefix.entry)
+        × (start o (nat_le schema_len 1) m (prefix_of comment_prefix.entry) bytes.now ≡ None)) }
+    ensures place { (n : ℕ) → (result ≡ Ok n)
+        ↔ (let m = marks separator quote_char eol_char in
+        let o = skips skip_lines skip_rows_before_header has_header skip_rows_after_header in
+        CanStart o m (prefix_of comment_prefix.entry)
+        × (start o (nat_le schema_len 1) m (prefix_of comment_prefix.entry) bytes.now ≡ Some n)) }
+{
+    if !dialect_ok(separator, quote_char, eol_char, comment_prefix) {
+        return Err(PolarsError::InvalidOperation(OpFault::Dialect));
+    }
+    if skip_lines > 0 && skip_rows_before_header > 0 {
+        return Err(PolarsError::InvalidOperation(OpFault::Option));
+    }
+    let left = data_of(
+        bytes,
+        separator,
+        quote_char,
+        eol_char,
+        schema_len <= 1,
+        skip_lines,
+        skip_rows_before_header,
+        skip_rows_after_header,
+        comment_prefix,
+        has_header,
+    );
+    match left {
+        Some(left) => Ok(bytes.len() - left.len()),
+        None => Err(PolarsError::NoData(NoDataFault::Skip)),
+    }
+}
+
 #[cfg(test)]
 mod tests {
     use super::*;
@@ -105,5 +237,40 @@ mod tests {
     fn cuts_a_byte_order_mark(rt: HostRuntime) {
         assert_eq!(rt; skip_bom(b"\xEF\xBB\xBFa"), b"a".as_slice());
         assert_eq!(rt; skip_bom(b"\xEF\xBBa"), b"\xEF\xBBa".as_slice());
+    }
+
+    #[test]
+    fn skips_lines_only_where_a_byte_follows(rt: HostRuntime) {
+        for (skip, want) in [(0, b"a\nb\n".as_slice()), (1, b"b\n"), (5, b"b\n")] {
+            assert_eq!(rt; skip_lines_naive(b"a\nb\n", b'\n', skip), want, "of {skip}");
+        }
+    }
+
+    #[test]
+    fn finds_the_data_behind_head_skips_and_header(rt: HostRuntime) {
+        let leading = b"\n\na,b\n1,2\n".as_slice();
+        for (text, schema_len, lines, rows, after, has_header, want) in [
+            (leading, 2, 0, 0, 0, true, Some(6)),
+            (leading, 1, 0, 0, 0, false, Some(0)),
+            (b"a\nb\n", 2, 5, 0, 0, false, Some(2)),
+            (b"1\n2\n", 1, 0, 2, 0, false, Some(4)),
+            (b"1\n2\n", 1, 0, 3, 0, false, None),
+            (b"a\n#\n2\n3\n", 2, 0, 0, 2, true, Some(6)),
+        ] {
+            let prefix = CommentPrefix::new_single(b'#');
+            let place = find_starting_point(
+                text,
+                b',',
+                Some(b'"'),
+                b'\n',
+                schema_len,
+                lines,
+                rows,
+                after,
+                Some(&prefix),
+                has_header,
+            );
+            assert_eq!(rt; place.ok(), want, "in {text:?}");
+        }
     }
 }

@@ -2,10 +2,10 @@ use Rattle.std.proofs.Common.{◌≡◌, ◌<◌, ◌≤◌, ◌+◌, Ok, ◌++�
 use Rattle.std.proofs.lemmas.List.{get_or-map, map-set, length-map}
 use Rattle.pl_frame.specs.Dialect.{marks}
 use Rattle.pl_scan.specs.Fields.{fields}
-use Rattle.pl_csv.specs.Buffers.{buffer_type, buffer_values}
+use Rattle.pl_csv.specs.Buffers.{State, state_of, buffer_type, buffer_values}
 use Rattle.pl_csv.specs.Cells.{cell}
 use Rattle.pl_csv.specs.Reading.{field_at, row_at}
-use Rattle.pl_csv.specs.Rows.{State, states, state_of, state_types, fields_left}
+use Rattle.pl_csv.specs.Rows.{states, state_types, fields_left}
 use Rattle.pl_csv.proofs.RowLaws.{HasReadColumns, HasReadColumns-more, HasReadColumns-all, cells_fault-here}
 use Rattle.pl_csv.proofs.FaultLaws.{row_fault-is, first_fault-cell, finished}
 use Rattle.pl_csv.proofs.rows.add_row.Goals as goal

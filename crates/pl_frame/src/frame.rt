@@ -1,0 +1,136 @@
+//! Frames: columns of one height with distinct names.
+ghost use Rattle.std.specs.Prelude.{◌≡◌, ◌<◌, length, IfSome, IfOk, OnOk, IfErr, None, Some, slice_index_or, []};
+ghost use Rattle.std.specs.List.{list_any};
+ghost use Rattle.std.specs.Str.{bytes_eq};
+ghost use Rattle.pl_frame.specs.Frame.{HaveHeight, IsFrame, height_of, names_of};
+ghost use Rattle.pl_frame.specs.Names.{IsRepeatFault, first_repeat, repeated_name};
+
+use crate::column::Column;
+use crate::error::{NamePlace, PolarsError, PolarsResult};
+use crate::name::PlSmallStr;
+use std::alloc::Global;
+use std::marker::Model;
+
+/// Columns of one height with distinct names. Without columns the height is 0.
+#[derive(Debug, Drop)]
+pub struct DataFrame {
+    columns: Vec<Column>,
+}
+
+impl Model for DataFrame {
+    ghost use Rattle.std.specs.Prelude.{List};
+    ghost use Rattle.pl_frame.specs.Frame.{ColumnValue, IsFrame};
+
+    ghost Value = { List ColumnValue };
+
+    ghost view = { λ frame. frame.columns.items };
+
+    ghost invariant = { λ frame. IsFrame frame.columns.items };
+}
+
+impl DataFrame {
+    /// A frame of these columns. Refuses `Duplicate` at a projection for the first name that equals an earlier one,
+    /// and want of memory.
+    pub fn new(alloc: Global, columns: Vec<Column>) -> PolarsResult<DataFrame>
+        requires { HaveHeight (height_of columns.items) columns.items }
+        ensures columns { IfOk result (λ frame. frame ≡ columns.items) }
+        ensures distinct { OnOk result (first_repeat (names_of columns.items) ≡ None) }
+        ensures refused { IfErr result (IsRepeatFault (repeated_name (names_of columns.items)) NamePlace.Projection) }
+    {
+        match find_repeat(&columns) {
+            None => Ok(DataFrame { columns }),
+            Some(place) => Err(duplicate(alloc, columns[place].name())),
+        }
+    }
+
+    /// A frame of columns whose names are known to be distinct, without taking memory.
+    pub fn of_distinct(columns: Vec<Column>) -> DataFrame
+        requires { IsFrame columns.items }
+        ensures { result ≡ columns.items }
+    {
+        DataFrame { columns }
+    }
+
+    /// The number of rows, without taking memory.
+    pub fn height(&self) -> usize
+        ensures { result ≡ height_of self.now }
+    {
+        match self.columns.first() {
+            Some(column) => column.len(),
+            None => 0,
+        }
+    }
+
+    /// The number of columns, without taking memory.
+    pub fn width(&self) -> usize
+        ensures { result ≡ length self.now }
+    {
+        self.columns.len()
+    }
+
+    /// The columns in order, without taking memory.
+    pub fn columns(&self) -> &[Column]
+        ensures columns { result.now ≡ self.now }
+        ensures frame { IsFrame self.now }
+    {
+        &self.columns
+    }
+}
+
+// The first column whose name an earlier one has.
+fn find_repeat(columns: &[Column]) -> Option<usize>
+    ensures first { result ≡ first_repeat (names_of columns.now) }
+    ensures within { IfSome result (λ place. place < length columns.now) }
+{
+    for (place, column) in columns.iter().enumerate() {
+        if has_name(&columns[..place], column.name()) {
+            return Some(place);
+        }
+    }
+    None
+}
+
+// Whether a column has this name.
+fn has_name(columns: &[Column], name: &str) -> bool
+    ensures { result ≡ list_any (λ column. bytes_eq column.name name.now) columns.now }
+{
+    columns.iter().any(|column| column.name() == name)
+}
+
+// The refusal of a name that stands twice.
+#[cold]
+fn duplicate(alloc: Global, name: &str) -> PolarsError
+    ensures { IsRepeatFault (Some name.now) NamePlace.Projection result }
+{
+    match PlSmallStr::from_str(alloc, name) {
+        Ok(name) => PolarsError::Duplicate {
+            name,
+            at: NamePlace::Projection,
+        },
+        Err(_) => PolarsError::OutOfMemory,
+    }
+}
+
+#[cfg(test)]
+mod tests {
+    use super::*;
+    use crate::numbers::Numbers;
+    use std::test::Fail;
+
+    fn column(alloc: Global, name: &str) -> Result<Column, Fail>
+        ensures { IfOk result (λ column. length column.values ≡ 1) }
+    {
+        let mut numbers = Numbers::new(alloc);
+        numbers.push(5)?;
+        Ok(Column::from_int64(PlSmallStr::from_str(alloc, name)?, numbers))
+    }
+
+    #[test]
+    fn frame_of_two_columns(rt: HostRuntime) -> Result<(), Fail> {
+        let columns = vec![in rt.alloc(); column(rt.alloc(), "a")?, column(rt.alloc(), "b")?]?;
+        let frame = DataFrame::new(rt.alloc(), columns)?;
+        assert_eq!(rt; (frame.width(), frame.height()), (2, 1));
+        assert_eq!(rt; frame.columns().len(), 2);
+        Ok(())
+    }
+}

@@ -95,6 +95,7 @@ impl Schema {
     ) -> PolarsResult<Option<DataType>>
         ensures old { IfOk result (λ old. old ≡ type_of name self.old) }
         ensures set { OnOk result (self.new ≡ with_type self.old name dtype) }
+        ensures added { IfOk result (λ old. IsNone old → self.new ≡ self.old ++ (name, dtype) ∷ []) }
         ensures refused { IsOkUnless result error.OutOfMemory }
         ensures unchanged { OnErr result (self.new ≡ self.old) }
     {

@@ -1,12 +1,16 @@
 -- Columns of a schema, one after another.
-use Rattle.std.proofs.Common.{◌≡◌, ℕ, zero, suc, ◌+◌, ◌<◌, ◌≤◌, Bool, true, false, ◌&&◌, List, [], ◌∷◌, ◌++◌, map, length, take, drop, set, get_or, refl, sym, ◌∙◌, ap, append_assoc, append-nil, arith, add-one}
-use Rattle.std.specs.Prelude.{Some, slice_get}
-use Rattle.std.specs.List.{list_all}
-use Rattle.std.proofs.lemmas.List.{drop-drop, drop_more, drop-set-lt}
+use Rattle.std.proofs.Common.{◌≡◌, ℕ, zero, suc, ◌+◌, ◌<◌, ◌≤◌, Bool, true, false, ◌&&◌, List, [], ◌∷◌, ◌++◌, map, length, take, drop, set, get_or, refl, sym, ◌∙◌, ap, subst, append_assoc, append-nil, arith, add-one}
+use Rattle.std.specs.Prelude.{Option, Some, slice_get, AllPairs, ◌≢◌}
+use Rattle.std.specs.List.{list_all, enumerate_from}
+use Rattle.std.proofs.lemmas.List.{drop-drop, drop_more, drop-set-lt, length-map}
 use Rattle.pl_frame.specs.declared.data_type.DataType.{DataType}
-use Rattle.pl_frame.specs.Frame.{ColumnValue}
+use Rattle.pl_frame.specs.Frame.{ColumnValue, HaveHeight, IsFrame, names_of}
+use Rattle.pl_frame.specs.Schema.{names_in, HaveDistinctNames}
+use Rattle.pl_csv.specs.Cells.{cell, value_of}
 use Rattle.pl_csv.specs.Buffers.{State, is_carried}
-use Rattle.pl_csv.specs.Reading.{SchemaValue, types_of}
+use Rattle.pl_csv.specs.Reading.{SchemaValue, Row, types_of, field_at, read_column, frame_of_rows}
+use Rattle.pl_csv.specs.Rows.{state_types, with_rows}
+use Rattle.pl_csv.proofs.ReadLaws.{column_cells, with_columns, with_rows-columns}
 use Rattle.pl_csv.specs.Frames.{empty_states, columns_of}
 
 both_left : (s t : Bool) → (s && t) ≡ true → s ≡ true
@@ -74,3 +78,37 @@ HasMadeColumns-more schema before now columns i column state other has at inside
       made = ap (λ l. l ++ record { name = column.0; dtype = state.0; values = state.1 } ∷ []) has.made ∙ rw add-one (sym (columns_of-more schema before i column state at there));
       left = drop-set-lt (i + 1) now i other (omega arith) ∙ sym (drop-drop 1 i now) ∙ ap (drop 1) has.left ∙ drop-drop 1 i before;
     }
+
+-- ---- the frame of rows
+
+pub state_types-empty : (schema : SchemaValue) → state_types (empty_states schema) ≡ types_of schema
+state_types-empty [] = refl
+state_types-empty (column ∷ schema) = ap (λ l. column.1 ∷ l) (state_types-empty schema)
+
+columns_of-with_columns : (q : Option ℕ) (given : List Row) (schema : SchemaValue) (k : ℕ)
+    → columns_of schema (with_columns q given k (empty_states schema)) ≡ map (read_column q given) (enumerate_from k schema)
+columns_of-with_columns q given [] k = refl
+columns_of-with_columns q given (column ∷ schema) k =
+    ap (λ l. record { name = column.0; dtype = column.1; values = column_cells q given k column.1 } ∷ l) (columns_of-with_columns q given schema (k + 1))
+
+pub columns_of-rows : (q : Option ℕ) (given : List Row) (schema : SchemaValue) → columns_of schema (with_rows q given (empty_states schema)) ≡ frame_of_rows q schema given
+columns_of-rows q given schema = ap (columns_of schema) (with_rows-columns q given (empty_states schema)) ∙ columns_of-with_columns q given schema 0
+
+-- each column has as many cells as there are rows
+have_height : (q : Option ℕ) (given : List Row) (schema : SchemaValue) (k : ℕ) → HaveHeight (length given) (map (read_column q given) (enumerate_from k schema))
+have_height q given [] k = tt
+have_height q given (column ∷ schema) k = (length-map given (λ row. value_of (cell q column.1 (field_at row.fields k))), have_height q given schema (k + 1))
+
+same_height : (q : Option ℕ) (given : List Row) (schema : SchemaValue) (n : ℕ) → n ≡ length given → HaveHeight n (frame_of_rows q schema given)
+same_height q given schema n e = subst (λ k. HaveHeight k (frame_of_rows q schema given)) (sym e) (have_height q given schema 0)
+
+names_of-rows : (q : Option ℕ) (given : List Row) (schema : SchemaValue) (k : ℕ) → names_of (map (read_column q given) (enumerate_from k schema)) ≡ names_in schema
+names_of-rows q given [] k = refl
+names_of-rows q given (column ∷ schema) k = ap (λ l. column.0 ∷ l) (names_of-rows q given schema (k + 1))
+
+pub IsFrame-rows : (q : Option ℕ) (given : List Row) (schema : SchemaValue) → HaveDistinctNames schema → IsFrame (frame_of_rows q schema given)
+IsFrame-rows q given [] distinct = record { one_height = tt; distinct = distinct }
+IsFrame-rows q given (column ∷ schema) distinct = record {
+  one_height = same_height q given (column ∷ schema) _ (length-map given (λ row. value_of (cell q column.1 (field_at row.fields 0))));
+  distinct = subst (AllPairs (λ a b. a ≢ b)) (sym (names_of-rows q given (column ∷ schema) 0)) distinct;
+}

@@ -1,7 +1,10 @@
+pub mod Buffers
+pub mod Came
+pub mod Cells
 pub mod Integers
 pub mod Quoting
-pub mod Cells
 pub mod Reading
-pub mod Buffers
 pub mod Rows
 pub mod Frames
+pub mod Words
+pub mod Writing

@@ -93,8 +93,8 @@ read_column q given (column, (name, type)) = record {
 }
 
 -- the columns of a schema, each cell from its field
-abbrev pub read_frame : Option ℕ → SchemaValue → List Row → List ColumnValue
-read_frame q schema given = map (read_column q given) (enumerate_from 0 schema)
+abbrev pub frame_of_rows : Option ℕ → SchemaValue → List Row → List ColumnValue
+frame_of_rows q schema given = map (read_column q given) (enumerate_from 0 schema)
 
 -- ---- the input
 
@@ -129,4 +129,4 @@ abbrev pub reference_read : SchemaValue → List ℕ → Option (List ColumnValu
 reference_read schema input =
     if is_compressed input then None
     else if is_faulty schema input then None
-    else Some (read_frame (Some 34) schema (input_rows schema input))
+    else Some (frame_of_rows (Some 34) schema (input_rows schema input))

@@ -1,11 +1,14 @@
 //! CSV from bytes to bytes: `run` reads CSV from a source into typed columns and writes them to a sink as CSV.
 #![tactic(auto)]
 
+pub mod adapters;
 mod buffer;
 mod frames;
 mod integers;
 mod quoting;
+pub mod read_all;
+mod reading;
 mod rows;
 mod serializer;
+mod words;
 mod writer;
-mod reading;

@@ -127,21 +127,21 @@ fn behind_line_end(behind: &[u8]) -> &[u8]
     }
 }
 
-/// Reads all rows of the data into the buffers.
+/// Reads all records of a text into the buffers, a row each.
 ///
-/// Refuses data in which a row has a fault, and want of memory. The buffers then hold some of the cells.
+/// Refuses a text in which a row has a fault, and want of memory. The buffers then hold some of the cells.
 pub fn add_rows(
     buffers: &mut [Buffer],
-    data: &[u8],
+    records: &[u8],
     cuts: Cuts,
     scratch: &mut Vec<u8>,
 ) -> Result<(), RowFault>
     requires { AreDistinct (marks cuts.separator cuts.quote_char cuts.eol_char) }
-    ensures whole { OnOk result (has_fault cuts.quote_char (state_types (states buffers.old)) (rows (marks cuts.separator cuts.quote_char cuts.eol_char) None data.now) ≡ false) }
-    ensures added { OnOk result (states buffers.new ≡ with_rows cuts.quote_char (rows (marks cuts.separator cuts.quote_char cuts.eol_char) None data.now) (states buffers.old)) }
-    ensures fault { IfErr result (λ fault. fault ≢ RowFault.OutOfMemory → has_fault cuts.quote_char (state_types (states buffers.old)) (rows (marks cuts.separator cuts.quote_char cuts.eol_char) None data.now) ≡ true) }
+    ensures whole { OnOk result (has_fault cuts.quote_char (state_types (states buffers.old)) (rows (marks cuts.separator cuts.quote_char cuts.eol_char) None records.now) ≡ false) }
+    ensures added { OnOk result (states buffers.new ≡ with_rows cuts.quote_char (rows (marks cuts.separator cuts.quote_char cuts.eol_char) None records.now) (states buffers.old)) }
+    ensures fault { IfErr result (λ fault. fault ≢ RowFault.OutOfMemory → has_fault cuts.quote_char (state_types (states buffers.old)) (rows (marks cuts.separator cuts.quote_char cuts.eol_char) None records.now) ≡ true) }
 {
-    let mut rest = data;
+    let mut rest = records;
     while !rest.is_empty() {
         match add_row(buffers, rest, cuts, scratch) {
             Ok(behind) => rest = behind_line_end(behind),

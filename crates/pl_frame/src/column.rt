@@ -103,6 +103,7 @@ impl Column {
         ensures refused { IsOkUnless result ColumnFault.OutOfMemory }
     {
         let mut texts = Texts::new(alloc);
+        texts.reserve(values.len(), 0)?;
         fill_texts(&mut texts, &values)?;
         Ok(Column {
             name,

@@ -126,6 +126,12 @@ mod tests {
     }
 
     #[test]
+    fn frame_of_no_columns(rt: HostRuntime) {
+        let frame = DataFrame::of_distinct(Vec::new(rt.alloc()));
+        assert_eq!(rt; (frame.width(), frame.height()), (0, 0));
+    }
+
+    #[test]
     fn frame_of_two_columns(rt: HostRuntime) -> Result<(), Fail> {
         let columns = vec![in rt.alloc(); column(rt.alloc(), "a")?, column(rt.alloc(), "b")?]?;
         let frame = DataFrame::new(rt.alloc(), columns)?;

@@ -147,21 +147,13 @@ mod tests {
     fn names_keep_their_places_and_types_change(rt: HostRuntime) -> Result<(), Fail> {
         let alloc = rt.alloc();
         let mut schema = Schema::new(alloc);
-        let types = [
-            ("a", DataType::Int64),
-            ("b", DataType::String),
-            ("a", DataType::Date),
-        ];
-        let mut old_types = 0;
-        for (name, dtype) in types {
-            if schema
-                .with_column(PlSmallStr::from_str(alloc, name)?, dtype)?
-                .is_some()
-            {
-                old_types += 1;
-            }
-        }
-        assert_eq!(rt; old_types, 1);
+        let name = PlSmallStr::from_str(alloc, "a")?;
+        assert!(rt; schema.with_column(name, DataType::Int64)?.is_none());
+        let name = PlSmallStr::from_str(alloc, "b")?;
+        assert!(rt; schema.with_column(name, DataType::String)?.is_none());
+        let name = PlSmallStr::from_str(alloc, "a")?;
+        let old = schema.with_column(name, DataType::Date)?;
+        assert!(rt; matches!(old, Some(DataType::Int64)));
         assert_eq!(rt; schema.len(), 2);
         assert_eq!(rt; schema.index_of("b"), Some(1));
         assert_eq!(rt; schema.index_of("c"), None);
@@ -174,12 +166,8 @@ mod tests {
             Some((name, DataType::Date)) => assert_eq!(rt; name.as_str(), "a"),
             _ => panic!(rt; "a is a date"),
         }
-        assert!(rt;
-            matches!(
-                schema.set_dtype_at_index(1, DataType::Null),
-                Some(DataType::String)
-            )
-        );
+        let old = schema.set_dtype_at_index(1, DataType::Null);
+        assert!(rt; matches!(old, Some(DataType::String)));
         assert!(rt; schema.set_dtype_at_index(2, DataType::Null).is_none());
         assert!(rt; schema.get_at_index(2).is_none());
         Ok(())

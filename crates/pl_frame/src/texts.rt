@@ -52,6 +52,16 @@ impl Texts {
         self.present.is_empty()
     }
 
+    /// Makes room for so many more texts, and for so many bytes in them. Refuses only want of memory; the texts stay as
+    /// they are.
+    pub fn reserve(&mut self, texts: usize, bytes: usize) -> Result<(), AllocError>
+        ensures { self.new ≡ self.old }
+    {
+        self.bytes.reserve(bytes)?;
+        self.ends.reserve(texts)?;
+        self.present.reserve(texts)
+    }
+
     /// Puts a text at the end. Refuses only want of memory, and is then as it was.
     #[inline]
     pub fn push(&mut self, text: &str) -> Result<(), AllocError>
@@ -130,6 +140,7 @@ mod tests {
     fn keeps_texts_and_nulls(rt: HostRuntime) -> Result<(), Fail> {
         let mut texts = Texts::new(rt.alloc());
         assert!(rt; texts.is_empty());
+        texts.reserve(4, 7)?;
         texts.push("é1")?;
         texts.push_null()?;
         texts.push("")?;

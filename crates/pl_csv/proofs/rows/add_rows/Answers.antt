@@ -15,7 +15,7 @@ loop-rest-preserved c =
     let m = marks c.args.cuts.separator c.args.cuts.quote_char c.args.cuts.eol_char in
     let left = c.loop-rest.rest.now in
     let some : 0 < length left = grind (arith, nat_tests, c.is_empty.ensures, c.loop-rest-test.true) in
-    HasReadRows-more m c.args.cuts.quote_char c.args.data.now (states c.args.buffers.now) (states c.loop-rest.buffers) (states c.add_row.new.buffers) left
+    HasReadRows-more m c.args.cuts.quote_char c.args.records.now (states c.args.buffers.now) (states c.loop-rest.buffers) (states c.add_row.new.buffers) left
     c.behind_line_end-rest.result.now c.requires some c.loop-rest.invariant c.in-Ok.ensures.whole c.in-Ok.ensures.added
     (c.behind_line_end-rest.ensures ∙ ap (drop 1) c.in-Ok.ensures.behind)
 
@@ -28,11 +28,11 @@ returns-in-Err-clause-fault c =
     let some : 0 < length left = grind (arith, nat_tests, c.is_empty.ensures, c.loop-rest-test.true) in
     λ other.
     let found = first_fault-is c.in-Err.fault (first_fault q (state_types now) (row_at m left)) c.in-Err.ensures.fault other in
-    HasReadRows-fault m q c.args.data.now (states c.args.buffers.now) now left found.0 c.requires some c.loop-rest.invariant found.1
+    HasReadRows-fault m q c.args.records.now (states c.args.buffers.now) now left found.0 c.requires some c.loop-rest.invariant found.1
 
 pub returns : goal.returns
 returns c =
     let m = marks c.args.cuts.separator c.args.cuts.quote_char c.args.cuts.eol_char in
     let none : length c.loop-rest.rest.now ≡ 0 = eqb-true _ _ (sym c.is_empty.ensures ∙ c.loop-rest-test.false) in
-    let all = HasReadRows-all m c.args.cuts.quote_char c.args.data.now (states c.args.buffers.now) (states c.loop-rest.buffers) c.loop-rest.rest.now c.loop-rest.invariant (length-nil _ none) in
+    let all = HasReadRows-all m c.args.cuts.quote_char c.args.records.now (states c.args.buffers.now) (states c.loop-rest.buffers) c.loop-rest.rest.now c.loop-rest.invariant (length-nil _ none) in
     record { whole = all.0; added = all.1; fault = tt }

@@ -6,7 +6,7 @@ use Rattle.pl_csv.proofs.rows.add_rows.Given as goal
 
 abbrev pub invariant-loop-rest : goal.invariant-loop-rest
 invariant-loop-rest l =
-    HasReadRows (marks l.cuts.separator l.cuts.quote_char l.cuts.eol_char) l.cuts.quote_char l.data (states l.initial.buffers) (states l.buffers) l.rest
+    HasReadRows (marks l.cuts.separator l.cuts.quote_char l.cuts.eol_char) l.cuts.quote_char l.records (states l.initial.buffers) (states l.buffers) l.rest
 
 abbrev pub decreases-loop-rest : goal.decreases-loop-rest
 decreases-loop-rest l = length l.rest

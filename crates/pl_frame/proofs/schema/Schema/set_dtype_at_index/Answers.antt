@@ -1,4 +1,4 @@
-use Rattle.std.proofs.Common.{◌≡◌, ℕ, ◌<◌, List, length, get_or, slice_get, Some, refl, sym, ◌∙◌, ap}
+use Rattle.std.proofs.Common.{Some, refl, sym, ◌∙◌, ap}
 use Rattle.std.proofs.lemmas.Option.{slice_get_read}
 use Rattle.pl_frame.specs.Schema.{type_at, with_type_at}
 use Rattle.pl_frame.proofs.SchemaLaws.{names_kept, type_at-shown, with_type_at-shown}

@@ -1,0 +1,26 @@
+use Rattle.std.proofs.Common.{◌≡◌, true, false, sym, ◌∙◌, ap}
+use Rattle.std.specs.Prelude.{Some, None}
+use Rattle.pl_csv.specs.Reading.{types_of, rows, has_fault, default_marks, frame_of_rows}
+use Rattle.pl_csv.specs.Rows.{states, state_types, with_rows}
+use Rattle.pl_csv.specs.Frames.{columns_of}
+use Rattle.pl_csv.proofs.FrameLaws.{state_types-empty, columns_of-rows}
+use Rattle.pl_csv.proofs.reading.columns_of_records.Goals as goal
+
+pub returns-in-Err-clause-fault : goal.returns-in-Err-clause-fault
+returns-in-Err-clause-fault c = λ other.
+    let given = rows default_marks None c.args.records.now in
+    let types = ap state_types c.requires.fresh ∙ state_types-empty c.args.schema.now in
+    sym (ap (λ ts. has_fault (Some 34) ts given) types) ∙ c.in-Err.ensures.fault other
+
+pub returns-in-Ok-into_columns-clause-read : goal.returns-in-Ok-into_columns-clause-read
+returns-in-Ok-into_columns-clause-read c =
+    let schema = c.args.schema.now in
+    let given = rows default_marks None c.args.records.now in
+    let added = c.in-Ok.ensures.added ∙ ap (with_rows (Some 34) given) c.requires.fresh in
+    c.in-Ok-into_columns.ensures ∙ ap (columns_of schema) added ∙ columns_of-rows (Some 34) given schema
+
+pub returns-in-Ok-into_columns-clause-whole : goal.returns-in-Ok-into_columns-clause-whole
+returns-in-Ok-into_columns-clause-whole c =
+    let given = rows default_marks None c.args.records.now in
+    let types = ap state_types c.requires.fresh ∙ state_types-empty c.args.schema.now in
+    sym (ap (λ ts. has_fault (Some 34) ts given) types) ∙ c.in-Ok.ensures.whole

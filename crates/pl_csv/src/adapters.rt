@@ -1,0 +1,176 @@
+//! Readers and writers of the standard library as sources and sinks.
+//!
+//! They tell no content to callers that see a source or a sink: what passes here is the trusted edge of the program.
+ghost use Rattle.std.specs.Prelude.{◌≡◌, ℕ, ◌<◌, ◌≤◌, List, length, take, None, IfOk, OnOk, IsErrOf, IsOkUnless};
+ghost use Rattle.std.specs.Io.{ReadsAtMost};
+ghost use Rattle.std.specs.Io.KnownBytes.{Appends, ReadConsumes, WriteAppends};
+ghost use Rattle.pl_frame.specs.Causes.{Rose, HasCause, TakesSome};
+ghost use Rattle.pl_frame.specs.Outside.{RisesAtErr};
+
+use pl_frame::sink::{Sink, SinkFault};
+use pl_frame::source::{Failed, Source};
+use std::io::{Read, Write};
+use std::marker::Model;
+
+/// A reader as a source, which counts each error of the reader. Contracts see it as the reader and the count.
+#[derive(Drop)]
+pub struct ReadSource<R: Read> {
+    reader: R,
+    faults: u64,
+}
+
+impl<R: Read> Model for ReadSource<R> {
+    ghost use Rattle.std.specs.Prelude.{ℕ};
+
+    ghost Value = { R × ℕ };
+
+    ghost view = { λ source. (source.reader, source.faults) };
+}
+
+impl<R: Read> ReadSource<R> {
+    /// A source of what the reader gives from here on.
+    pub fn new(reader: R) -> Self
+        ensures { result ≡ (reader, 0) }
+    {
+        ReadSource { reader, faults: 0 }
+    }
+}
+
+impl<R: Read> Source for ReadSource<R> {
+    ghost left = { λ _. None };
+
+    ghost faults = { λ source. source.1 };
+
+    fn read(&mut self, buf: &mut [u8]) -> Result<usize, Failed>
+        requires { 0 < length buf.old }
+        ensures bound { ReadsAtMost result buf.new }
+        ensures bytes { ReadConsumes (R.remaining self.old.0) (R.remaining self.new.0) result buf.new }
+        ensures cause { HasCause self.old.1 self.new.1 result }
+
+        // Each error of the reader is counted once.
+        ensures counted { RisesAtErr self.old.1 self.new.1 result }
+    {
+        match self.reader.read(buf) {
+            Ok(count) => Ok(count),
+            Err(_) => {
+                self.faults = self.faults.saturating_add(1);
+                Err(Failed)
+            }
+        }
+    }
+}
+
+/// A writer as a sink, which flushes after each write and counts each error of the writer. Contracts see it as the writer
+/// and the count.
+#[derive(Drop)]
+pub struct WriteSink<W: Write> {
+    writer: W,
+    faults: u64,
+}
+
+impl<W: Write> Model for WriteSink<W> {
+    ghost use Rattle.std.specs.Prelude.{ℕ};
+
+    ghost Value = { W × ℕ };
+
+    ghost view = { λ sink. (sink.writer, sink.faults) };
+}
+
+impl<W: Write> WriteSink<W> {
+    /// A sink that writes behind what the writer already holds.
+    pub fn new(writer: W) -> Self
+        ensures { result ≡ (writer, 0) }
+    {
+        WriteSink { writer, faults: 0 }
+    }
+}
+
+impl<W: Write> Sink for WriteSink<W> {
+    ghost received = { λ _. None };
+
+    ghost faults = { λ sink. sink.1 };
+
+    ghost wants = { λ _. 0 };
+
+    /// Writes once and flushes. A write that fails, that takes nothing, or whose flush fails is a failed call.
+    ///
+    /// Where the flush fails the writer has taken bytes, and no count of them can be promised to have arrived: the answer is
+    /// `Device`, and a prefix of the piece was taken. A sink that tells what it received could not answer so; this one
+    /// tells nothing.
+    fn write(&mut self, piece: &[u8]) -> Result<usize, SinkFault>
+        requires { 0 < length piece.now }
+        ensures some { TakesSome result piece.now }
+        ensures later { self.old.1 ≤ self.new.1 }
+        ensures device { IsErrOf result SinkFault.Device → Rose self.old.1 self.new.1 }
+
+        // Each failed call is counted once; the writer never wants memory by its own word.
+        ensures counted { RisesAtErr self.old.1 self.new.1 result }
+        ensures refused { IsOkUnless result SinkFault.Device }
+
+        // The writer took the bytes that the answer counts, and after a failed call a prefix of the piece.
+        ensures taken { IfOk result (λ n. Appends (W.contents self.old.0) (W.contents self.new.0) (take n piece.now)) }
+        ensures prefix { (n : ℕ) × Appends (W.contents self.old.0) (W.contents self.new.0) (take n piece.now) }
+    {
+        let count = self.writer.write(piece).unwrap_or(0);
+        if count > 0 && self.writer.flush().is_ok() {
+            return Ok(count);
+        }
+        self.faults = self.faults.saturating_add(1);
+        Err(SinkFault::Device)
+    }
+}
+
+#[cfg(test)]
+mod tests {
+    use super::*;
+    use crate::read_all::{ReadAllFault, read_all};
+    use pl_frame::sink::write_all;
+    use std::io;
+    use std::test::Fail;
+
+    // A device that fails: each read, and each flush.
+    #[derive(Drop)]
+    struct Broken;
+
+    impl Read for Broken {
+        fn read(&mut self, _buf: &mut [u8]) -> io::Result<usize> {
+            Err(io::Error::from(io::ErrorKind::Other))
+        }
+    }
+
+    impl Write for Broken {
+        fn write(&mut self, buf: &[u8]) -> io::Result<usize> {
+            Ok(buf.len())
+        }
+
+        fn flush(&mut self) -> io::Result<()> {
+            Err(io::Error::from(io::ErrorKind::Other))
+        }
+    }
+
+    #[test]
+    fn a_reader_is_read_to_its_end(rt: HostRuntime) -> Result<(), Fail> {
+        let reader: &[u8] = b"bytes";
+        match read_all(rt.alloc(), &mut ReadSource::new(reader), 5) {
+            Ok(all) => assert_eq!(rt; all.as_slice(), b"bytes".as_slice()),
+            Err(_) => panic!(rt; "the reader has five bytes"),
+        }
+        let failed = read_all(rt.alloc(), &mut ReadSource::new(Broken), 5);
+        assert!(rt; matches!(failed, Err(ReadAllFault::Source)));
+        Ok(())
+    }
+
+    #[test]
+    fn a_writer_takes_the_bytes_and_its_flush_counts(rt: HostRuntime) -> Result<(), Fail> {
+        let mut written = Vec::new(rt.alloc());
+        let mut sink = WriteSink::new(&mut written);
+        assert_eq!(rt; write_all(&mut sink, b"bytes"), Ok(()));
+        assert_eq!(rt; written.as_slice(), b"bytes".as_slice());
+        assert_eq!(rt; WriteSink::new(Broken).write(b"a"), Err(SinkFault::Device));
+
+        let mut room = [0u8; 1];
+        let mut full = WriteSink::new(room.as_mut_slice());
+        assert_eq!(rt; write_all(&mut full, b"ab"), Err(SinkFault::Device));
+        Ok(())
+    }
+}

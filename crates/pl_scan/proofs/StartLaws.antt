@@ -98,6 +98,23 @@ pub items-pass_one : (m : Marks) (comment : Option (List ℕ)) (b : List ℕ) �
 items-pass_one m comment [] = items-nil m comment ∙ ap (drop 1) (sym (items-nil m comment))
 items-pass_one m comment (x ∷ xs) = ap (drop 1) (sym (items-step m comment (x ∷ xs) (omega arith)))
 
+some-same : (b r : List ℕ) → ◌≡◌ {A = Option (List ℕ)} (Some b) (Some r) → b ≡ r
+some-same b r is = cc
+
+-- the items behind n of them
+pub items-pass_items : (m : Marks) (comment : Option (List ℕ)) (n : ℕ) (b r : List ℕ) → pass_items m comment n b ≡ Some r → items m comment r ≡ drop n (items m comment b)
+items-pass_items m comment zero b r is = ap (items m comment) (sym (some-same b r is))
+items-pass_items m comment (suc n) [] r is = cc
+items-pass_items m comment (suc n) (x ∷ xs) r is =
+    items-pass_items m comment n (behind_item m comment (x ∷ xs)) r is ∙ ap (drop (suc n)) (sym (items-step m comment (x ∷ xs) (omega arith)))
+
+-- there are fewer than n
+pub items-too_few : (m : Marks) (comment : Option (List ℕ)) (n : ℕ) (b : List ℕ) → pass_items m comment n b ≡ None → length (items m comment b) < n
+items-too_few m comment zero b is = cc
+items-too_few m comment (suc n) [] is = rw (items-nil m comment) (omega arith)
+items-too_few m comment (suc n) (x ∷ xs) is =
+    let fewer = items-too_few m comment n (behind_item m comment (x ∷ xs)) is in rw (items-step m comment (x ∷ xs) (omega arith)) (omega arith)
+
 -- ---- what is left, behind the skipped rows
 
 pub data_left-none : (o : Skips) (keep : Bool) (m : Marks) (comment : Option (List ℕ)) (b : List ℕ) → pass_items m comment o.rows (cut_head o.lines keep m.line_end b) ≡ None
@@ -145,9 +162,6 @@ IsEndOf-cut_head lines keep e b =
 
 IsEndOf-behind_item : (m : Marks) (comment : Option (List ℕ)) (b : List ℕ) → IsEndOf b (behind_item m comment b)
 IsEndOf-behind_item m comment b = (length (text_of (item m comment b)) + 1, refl)
-
-some-same : (b r : List ℕ) → ◌≡◌ {A = Option (List ℕ)} (Some b) (Some r) → b ≡ r
-some-same b r is = cc
 
 IsEndOf-pass_items : (m : Marks) (comment : Option (List ℕ)) (n : ℕ) (b r : List ℕ) → pass_items m comment n b ≡ Some r → IsEndOf b r
 IsEndOf-pass_items m comment zero b r is = (0, some-same b r is)

@@ -14,6 +14,7 @@ pub record Skips : Type 0 where
   pub has_header : Bool
   pub after_header : ℕ
 
+-- these skips
 abbrev pub skips : ℕ → ℕ → Bool → ℕ → Skips
 skips lines rows has_header after_header = record { lines = lines; rows = rows; has_header = has_header; after_header = after_header }
 
@@ -68,6 +69,7 @@ pass_comments_within m comment (suc n) [] = []
 pass_comments_within m comment (suc n) (x ∷ xs) =
     elim (is_comment comment (x ∷ xs)) [ true ↦ pass_comments_within m comment n (behind_item m comment (x ∷ xs)) | false ↦ x ∷ xs ]
 
+-- behind the comments that come next
 abbrev pub pass_comments : Marks → Option (List ℕ) → List ℕ → List ℕ
 pass_comments m comment b = pass_comments_within m comment (length b) b
 

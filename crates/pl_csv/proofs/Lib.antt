@@ -5,3 +5,4 @@ pub mod RowLaws
 pub mod FaultLaws
 pub mod ReadLaws
 pub mod FrameLaws
+pub mod LineLaws

@@ -7,3 +7,4 @@ pub mod Reading
 pub mod Rows
 pub mod Frames
 pub mod Words
+pub mod Writing

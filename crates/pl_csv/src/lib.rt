@@ -10,5 +10,5 @@ pub mod read_all;
 mod reading;
 mod rows;
 mod serializer;
-mod writer;
 mod words;
+mod writer;

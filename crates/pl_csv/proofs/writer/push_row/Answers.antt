@@ -1,0 +1,15 @@
+use Rattle.std.proofs.Common.{◌≡◌, ◌++◌, ℕ, sym, ◌∙◌, ap, get_or}
+use Rattle.pl_frame.specs.Frame.{ColumnValue, cell_at}
+use Rattle.pl_frame.specs.Text.{default_write_options, written_cell}
+use Rattle.pl_csv.specs.Writing.{separator_before}
+use Rattle.pl_csv.proofs.LineLaws.{joined_more}
+use Rattle.pl_csv.proofs.writer.push_row.Goals as goal
+
+pub loop-place-preserved : goal.loop-place-preserved
+loop-place-preserved c =
+    let f = λ (column : ColumnValue). written_cell default_write_options column.dtype (cell_at column c.args.row) in
+    let i = c.loop-place.place in
+    let d = c.index-columns-place.result in
+    let now = c.loop-place.block.items in
+    let next = c.in_ok-push_cell.ensures ∙ ap (λ l. l ++ f d) c.in_ok-push_separator.ensures ∙ ap (λ column. (now ++ separator_before i) ++ f column) c.index-columns-place.is in
+    joined_more f c.args.columns.now i d c.args.block.now.items now c.push_cell.new.block.items c.loop-place-test.true c.loop-place.invariant next

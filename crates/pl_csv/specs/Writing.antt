@@ -1,0 +1,13 @@
+-- What a row and a line are made of.
+use Rattle.std.specs.Prelude.{ℕ, ◌<◌, zero, suc, List, [], ◌∷◌, length}
+use Rattle.std.specs.List.{AllByRecursion}
+use Rattle.pl_frame.specs.Frame.{ColumnValue}
+
+-- a comma, but before the first text of a line
+abbrev pub separator_before : ℕ → List ℕ
+separator_before zero = []
+separator_before (suc place) = 44 ∷ []
+
+-- every column has the row
+abbrev pub HasRow : ℕ → List ColumnValue → Type 0
+HasRow row columns = AllByRecursion (λ column. row < length column.values) columns

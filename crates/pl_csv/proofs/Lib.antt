@@ -6,3 +6,4 @@ pub mod FaultLaws
 pub mod ReadLaws
 pub mod FrameLaws
 pub mod LineLaws
+pub mod WriteLaws

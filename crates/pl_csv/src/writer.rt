@@ -1,13 +1,19 @@
 //! The text of a frame, written in blocks.
-ghost use Rattle.std.specs.Prelude.{◌≡◌, ◌<◌, ◌++◌, map, length, OnOk};
+ghost use Rattle.std.specs.Prelude.{◌≡◌, ◌<◌, ◌++◌, ◌≤◌, length, OnOk, IsErrOf};
 ghost use Rattle.std.specs.Fmt.{signed_decimal};
-ghost use Rattle.pl_frame.specs.Frame.{cell_at, HaveHeight, names_of};
-ghost use Rattle.pl_frame.specs.Text.{default_write_options, written_cell, written_text, row_line, header_line};
-ghost use Rattle.pl_csv.specs.Writing.{separator_before, HasRow};
+ghost use Rattle.std.specs.Io.KnownBytes.{Appends};
+ghost use Rattle.pl_frame.specs.Causes.{Rose};
+ghost use Rattle.pl_frame.specs.Frame.{cell_at, HaveHeight, height_of, names_of};
+ghost use Rattle.pl_frame.specs.Text.{default_write_options, written_cell, written_text, row_line, header_line, text_of_frame};
+ghost use Rattle.pl_csv.specs.Writing.{separator_before, HasRow, AppendsPrefix};
 
 use crate::serializer::{push_number, push_text};
 use pl_frame::column::{Column, Value};
-use std::alloc::AllocError;
+use pl_frame::sink::{Sink, SinkFault, write_all};
+use std::alloc::{AllocError, Global};
+
+// So many bytes are written at a time, or a row more.
+const BLOCK: usize = 1 << 17;
 
 const SEPARATOR: u8 = b',';
 
@@ -85,4 +91,48 @@ fn push_header(block: &mut Vec<u8>, columns: &[Column]) -> Result<(), AllocError
     }
     block.push(b'\n')?;
     Ok(())
+}
+
+// The number of rows.
+fn row_count(columns: &[Column]) -> usize
+    ensures { result ≡ height_of columns.now }
+{
+    match columns {
+        [first, ..] => first.len(),
+        [] => 0,
+    }
+}
+
+/// Appends the text of a frame to a sink, a block at a time.
+///
+/// Refuses a fault of the device, and want of memory, here or in the sink. A prefix of the text was then appended.
+pub fn write_frame<Si: Sink>(
+    alloc: Global,
+    columns: &[Column],
+    sink: &mut Si,
+) -> Result<(), SinkFault>
+    requires { HaveHeight (height_of columns.now) columns.now }
+    ensures text { OnOk result (Appends (Si.received sink.old) (Si.received sink.new) (text_of_frame default_write_options columns.now)) }
+    ensures prefix { AppendsPrefix (Si.received sink.old) (Si.received sink.new) (text_of_frame default_write_options columns.now) }
+    ensures later { Si.faults sink.old ≤ Si.faults sink.new }
+    ensures device { IsErrOf result SinkFault.Device → Rose (Si.faults sink.old) (Si.faults sink.new) }
+{
+    let mut block = Vec::new(alloc);
+    match push_header(&mut block, columns) {
+        Ok(()) => {}
+        Err(_) => return Err(SinkFault::OutOfMemory),
+    }
+    for row in 0..row_count(columns) {
+        match push_row(&mut block, columns, row) {
+            Ok(()) => {}
+            Err(_) => return Err(SinkFault::OutOfMemory),
+        }
+        if block.len() >= BLOCK {
+            match write_all(sink, &block) {
+                Ok(()) => block.clear(),
+                Err(fault) => return Err(fault),
+            }
+        }
+    }
+    write_all(sink, &block)
 }

@@ -1,5 +1,5 @@
 -- Columns and frames, as contracts see them (docs/types.md).
-use Rattle.std.specs.Prelude.{◌≡◌, ℕ, ℤ, Bool, List, [], ◌∷◌, length, Option, None, Some, map, unwrap_or, slice_get, AllPairs, ◌≢◌}
+use Rattle.std.specs.Prelude.{◌≡◌, ℕ, ℤ, Bool, List, [], ◌∷◌, length, Option, None, map, unwrap_or, slice_get, AllPairs, ◌≢◌}
 use Rattle.std.specs.List.{AllByRecursion}
 use Rattle.pl_frame.specs.declared.data_type.DataType.{DataType}
 

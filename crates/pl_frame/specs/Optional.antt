@@ -1,5 +1,5 @@
 -- Values with flags beside them, and texts in one buffer with their ends, seen as lists of optional values.
-use Rattle.std.specs.Prelude.{◌≡◌, ℕ, ◌-◌, ◌≤◌, Bool, if◌then◌else◌, List, [], ◌∷◌, length, take, drop, Option, None, Some, IsUtf8, true, false}
+use Rattle.std.specs.Prelude.{◌≡◌, ℕ, ◌-◌, ◌≤◌, Bool, if◌then◌else◌, List, [], ◌∷◌, length, take, drop, Option, None, Some, IsUtf8}
 
 -- each value where its flag is set, and no value elsewhere
 abbrev pub flagged : {X : Type 0} → List X → List Bool → List (Option X)

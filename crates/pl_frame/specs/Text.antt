@@ -1,5 +1,5 @@
 -- The text of a frame: the byte order mark if asked, the header if asked, and then each row (docs/quoting.md).
-use Rattle.std.specs.Prelude.{ℕ, Bool, true, false, ◌||◌, ◌==◌, if◌then◌else◌, List, [], length, ◌∷◌, ◌++◌, Option, None, Some, map, codes, ◌+◌}
+use Rattle.std.specs.Prelude.{ℕ, Bool, true, false, ◌||◌, ◌==◌, if◌then◌else◌, List, [], length, ◌∷◌, ◌++◌, Option, None, Some, map, codes}
 use Rattle.std.specs.Fmt.{signed_decimal}
 use Rattle.std.specs.List.{list_any, join_with_byte, flat_map, range_with_len}
 use Rattle.pl_frame.specs.declared.data_type.DataType.{DataType}

@@ -181,3 +181,126 @@ pub fn run<So: Source, Si: Sink, Se: Sink>(
         }
     }
 }
+
+#[cfg(test)]
+mod tests {
+    use super::*;
+    use pl_frame::sink::{MemSink, PipeSink};
+    use pl_frame::source::{MemSource, PipeSource};
+    use std::alloc::AllocError;
+    use std::test::Fail;
+
+    const TWO_COLUMNS: &str = "a:int64,b:string";
+
+    const ROW: &str = "a,b\n1,x\n2,\n";
+
+    fn words_for(alloc: Global, schema: &str) -> Result<Vec<String>, AllocError> {
+        let mut words = Vec::new(alloc);
+        words.push(String::from_str(alloc, "--schema")?)?;
+        words.push(String::from_str(alloc, schema)?)?;
+        Ok(words)
+    }
+
+    // The status, and whether these are what the two sinks received.
+    fn converts(
+        alloc: Global,
+        schema: &str,
+        input: &[u8],
+        out: &[u8],
+        line: &[u8],
+    ) -> Result<(u8, bool), AllocError> {
+        let words = words_for(alloc, schema)?;
+        let mut source = MemSource::new(input);
+        let mut sink = MemSink::new(alloc);
+        let mut err = MemSink::new(alloc);
+        let status = run(alloc, &words, &mut source, &mut sink, &mut err);
+        Ok((status, sink.received() == out && err.received() == line))
+    }
+
+    #[test]
+    fn inputs_under_a_schema(rt: HostRuntime) -> Result<(), Fail> {
+        let alloc = rt.alloc();
+        let record = b"refusal 14 record\n".as_slice();
+        for (schema, input, out, line, status) in [
+            (TWO_COLUMNS, ROW, ROW, b"".as_slice(), 0),
+            (TWO_COLUMNS, "", "a,b\n", b"".as_slice(), 0),
+            (
+                TWO_COLUMNS,
+                "a,b\r\n1,\"x\"\r\n\r\n2,y\r\n",
+                "a,b\n1,x\n,\n2,y\n",
+                b"".as_slice(),
+                0,
+            ),
+            (
+                "a:int64,b:int64",
+                "a,b\n1,2,",
+                "a,b\n1,2\n",
+                b"".as_slice(),
+                0,
+            ),
+            ("a:int64,b:int64", "a,b\n1,2,\n", "", record, 24),
+            (
+                "a:int64",
+                "a\n 7\n\" 7\"\n \t\n\"\"\n",
+                "a\n7\n7\n\n\n",
+                b"".as_slice(),
+                0,
+            ),
+            ("t:string", "t\n\"", "", record, 24),
+            ("a:int8", ROW, "", b"words\n".as_slice(), 2),
+        ] {
+            let answer = converts(alloc, schema, input.as_bytes(), out.as_bytes(), line)?;
+            assert_eq!(rt; answer, (status, true), "at {input:?} under {schema}");
+        }
+        let gzip = converts(
+            alloc,
+            TWO_COLUMNS,
+            &[0x1F, 0x8B, 0x08],
+            b"",
+            b"refusal 4 compressed\n",
+        )?;
+        assert_eq!(rt; gzip, (14, true));
+        Ok(())
+    }
+
+    // The status where the calls with these numbers fail, and whether the sink then holds a beginning of the row.
+    fn converts_failing(
+        alloc: Global,
+        reads: &[usize],
+        writes: &[usize],
+    ) -> Result<(u8, usize, bool), AllocError> {
+        let words = words_for(alloc, TWO_COLUMNS)?;
+        let mut source = PipeSource::new(ROW.as_bytes(), 4, reads);
+        let mut sink = PipeSink::new(alloc, 1, writes);
+        let mut err = MemSink::new(alloc);
+        let status = run(alloc, &words, &mut source, &mut sink, &mut err);
+        let received = sink.received();
+        Ok((status, received.len(), ROW.as_bytes().starts_with(received)))
+    }
+
+    #[test]
+    fn source_that_fails_at_each_call(rt: HostRuntime) -> Result<(), Fail> {
+        for call in 0..4 {
+            assert_eq!(rt;
+                converts_failing(rt.alloc(), &[call], &[])?,
+                (3, 0, true),
+                "at call {call}"
+            );
+        }
+        assert_eq!(rt; converts_failing(rt.alloc(), &[4], &[])?, (0, 11, true));
+        Ok(())
+    }
+
+    #[test]
+    fn sink_that_fails_at_each_call(rt: HostRuntime) -> Result<(), Fail> {
+        for call in 0..11 {
+            assert_eq!(rt;
+                converts_failing(rt.alloc(), &[], &[call])?,
+                (4, call, true),
+                "at call {call}"
+            );
+        }
+        assert_eq!(rt; converts_failing(rt.alloc(), &[], &[11])?, (0, 11, true));
+        Ok(())
+    }
+}

@@ -1,6 +1,6 @@
 -- The first fault of a row: of its cells from the left, and then of its number of fields.
-use Rattle.std.proofs.Common.{◌≡◌, ◌≢◌, ℕ, zero, suc, ◌+◌, ◌-◌, ◌<◌, ◌≤◌, Bool, true, false, cond, not, ◌&&◌, ◌==◌, ltb, List, [], ◌∷◌, length, drop, refl, sym, ◌∙◌, ap, arith, length-drop, eqb-true, inl, inr}
-use Rattle.std.specs.Prelude.{Option, None, Some, Result, Ok, Err, MatchResult, OnOk, IfOk, IfErr, unwrap_or, slice_get}
+use Rattle.std.proofs.Common.{◌≡◌, ℕ, zero, suc, ◌+◌, ◌<◌, ◌≤◌, Bool, true, false, cond, not, ◌&&◌, ◌==◌, ltb, List, [], ◌∷◌, length, drop, refl, sym, ◌∙◌, ap, arith, length-drop, eqb-true}
+use Rattle.std.specs.Prelude.{Option, None, Some, Result, Ok, Err, MatchResult, OnOk, IfOk, IfErr}
 use Rattle.std.specs.Borrow.{Bor}
 use Rattle.std.specs.List.{filter_map, cons_option, enumerate_from}
 use Rattle.std.proofs.lemmas.List.{drop-drop, drop_all}
@@ -9,7 +9,7 @@ use Rattle.pl_frame.specs.declared.data_type.DataType.{DataType}
 use Rattle.pl_frame.specs.declared.error.FaultKind.{FaultKind}
 use Rattle.pl_frame.specs.declared.error.FaultKind.TheVariants as fault
 use Rattle.pl_frame.specs.Dialect.{Marks}
-use Rattle.pl_scan.specs.Fields.{fields, extent, behind, cut_field, field}
+use Rattle.pl_scan.specs.Fields.{fields, extent, behind, cut_field}
 use Rattle.pl_scan.proofs.FieldLaws.{fields_last, fields_more}
 use Rattle.pl_scan.proofs.ItemLaws.{extent_last, fields-some}
 use Rattle.pl_csv.specs.declared.rows.RowRest.{RowRest}

@@ -1,14 +1,14 @@
 -- The rows of a text, one after another.
-use Rattle.std.proofs.Common.{◌≡◌, ◌≢◌, ℕ, zero, suc, ◌+◌, ◌<◌, ◌≤◌, Bool, true, false, cond, ◌||◌, ◌==◌, List, [], ◌∷◌, ◌++◌, map, length, take, drop, refl, sym, ◌∙◌, ap, append_assoc, append-nil, arith, length-drop}
-use Rattle.std.specs.Prelude.{Option, None, Some, is_some}
-use Rattle.std.specs.List.{filter_map, cons_option, enumerate_from}
+use Rattle.std.proofs.Common.{◌≡◌, ◌≢◌, ℕ, zero, suc, ◌+◌, ◌<◌, ◌≤◌, true, false, ◌==◌, List, [], ◌∷◌, ◌++◌, map, length, take, drop, refl, sym, ◌∙◌, ap, append_assoc, append-nil, arith, length-drop}
+use Rattle.std.specs.Prelude.{Option, None, Some}
+use Rattle.std.specs.List.{filter_map, cons_option}
 use Rattle.std.proofs.lemmas.List.{length-take-le, drop-drop}
 use Rattle.pl_frame.specs.declared.data_type.DataType.{DataType}
 use Rattle.pl_frame.specs.declared.error.FaultKind.{FaultKind}
 use Rattle.pl_frame.specs.Dialect.{Marks, AreDistinct}
 use Rattle.pl_frame.specs.Frame.{Scalar}
 use Rattle.pl_scan.specs.Fields.{fields, extent}
-use Rattle.pl_scan.specs.Items.{Entry, CommentText, RecordText, text_of, item}
+use Rattle.pl_scan.specs.Items.{RecordText, text_of, item}
 use Rattle.pl_scan.proofs.ItemLaws.{IsRecordAt-extent}
 use Rattle.pl_scan.proofs.RecordLaws.{fields-text}
 use Rattle.pl_csv.specs.declared.rows.RowFault.{RowFault}

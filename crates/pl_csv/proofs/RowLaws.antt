@@ -1,6 +1,6 @@
 -- A row, field by field.
-use Rattle.std.proofs.Common.{◌≡◌, ℕ, zero, suc, ◌+◌, ◌<◌, ◌≤◌, Bool, true, false, cond, List, [], ◌∷◌, ◌++◌, map, length, take, drop, set, get_or, refl, sym, ◌∙◌, ap, subst, append_assoc, append-nil, arith, add-one}
-use Rattle.std.specs.Prelude.{Option, None, Some, Ok, Err, unwrap_or, slice_get}
+use Rattle.std.proofs.Common.{◌≡◌, ℕ, ◌+◌, ◌<◌, ◌≤◌, List, [], ◌∷◌, ◌++◌, length, take, drop, set, get_or, sym, ◌∙◌, ap, append_assoc, append-nil, arith, add-one}
+use Rattle.std.specs.Prelude.{Option, None, Some, Ok, Err}
 use Rattle.std.proofs.lemmas.List.{length-take-le, drop-drop, drop_more, drop_all, take_all, drop-set-lt}
 use Rattle.std.proofs.Math.Seq.{take-suc-set}
 use Rattle.pl_frame.specs.Dialect.{Marks}

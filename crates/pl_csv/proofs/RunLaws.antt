@@ -1,15 +1,14 @@
 -- What a run answers, by its outcome.
-use Rattle.std.proofs.Common.{◌≡◌, ℕ, zero, suc, ◌+◌, ◌^◌, ◌<◌, ◌≤◌, Bool, true, false, cond, ltb, List, [], ◌∷◌, ◌++◌, length, refl, sym, ◌∙◌, ap, subst, append-nil, arith, inl, inr, length-append}
-use Rattle.std.specs.Prelude.{Option, None, Some, ◌⊎◌, IsSome, IsTrue}
-use Rattle.std.specs.Io.KnownBytes.{Consumes, IsAtEnd, Appends, Keeps}
+use Rattle.std.proofs.Common.{◌≡◌, ℕ, ◌^◌, ◌<◌, ◌≤◌, Bool, true, false, cond, ltb, List, ◌++◌, length, refl, sym, ◌∙◌, ap, subst, append-nil, arith, inl, inr, length-append}
+use Rattle.std.specs.Prelude.{Option, None, Some, IsSome}
+use Rattle.std.specs.Io.KnownBytes.{Consumes, IsAtEnd, Keeps}
 use Rattle.std.proofs.lemmas.Bool.Decides.{nat_tests}
-use Rattle.pl_frame.specs.Causes.{Rose}
 use Rattle.pl_frame.specs.Frame.{ColumnValue}
 use Rattle.pl_csv.specs.declared.run.Refusal.{Refusal}
 use Rattle.pl_csv.specs.declared.run.Refusal.TheVariants as refusal
 use Rattle.pl_csv.specs.Reading.{SchemaValue, is_compressed, is_faulty, reference_read, frame_of_rows, input_rows}
 use Rattle.pl_csv.specs.Words.{schema_of_words}
-use Rattle.pl_csv.specs.Run.{HasRead, IsTextOf, Converted, ConvertedPart, IsCompressed, IsFaulty, IsTooLong, Views, IsRefused, status_of, expected_under, expected_status, IsExpected}
+use Rattle.pl_csv.specs.Run.{HasRead, Converted, IsCompressed, IsFaulty, Views, IsRefused, status_of, expected_under, expected_status, IsExpected}
 
 -- an input that is known is the one that was read
 pub same_input : (input came : List ℕ) (now : Option (List ℕ)) → Consumes (Some input) now came → IsAtEnd now → input ≡ came

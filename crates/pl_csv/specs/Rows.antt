@@ -1,9 +1,8 @@
 -- How far a row was read, and what its cells add to the buffers.
-use Rattle.std.specs.Prelude.{◌≡◌, ◌≢◌, ℕ, ◌+◌, List, [], ◌∷◌, ◌++◌, drop, map, Option, None, Some}
+use Rattle.std.specs.Prelude.{◌≡◌, ◌≢◌, ℕ, List, [], ◌∷◌, ◌++◌, drop, map, Option, None, Some}
 use Rattle.pl_frame.specs.declared.data_type.DataType.{DataType}
 use Rattle.pl_frame.specs.declared.error.FaultKind.{FaultKind}
 use Rattle.pl_frame.specs.Dialect.{Marks}
-use Rattle.pl_frame.specs.Frame.{Scalar}
 use Rattle.pl_scan.specs.Fields.{fields, extent, behind}
 use Rattle.pl_csv.specs.declared.buffer.Buffer.{Buffer}
 use Rattle.pl_csv.specs.declared.rows.RowRest.{RowRest}

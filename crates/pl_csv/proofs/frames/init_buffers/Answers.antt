@@ -1,4 +1,4 @@
-use Rattle.std.proofs.Common.{◌≡◌, ◌++◌, ◌∷◌, [], sym, ◌∙◌, ap, take}
+use Rattle.std.proofs.Common.{◌++◌, ◌∷◌, [], sym, ◌∙◌, ap, take}
 use Rattle.std.proofs.lemmas.List.{map-append}
 use Rattle.pl_csv.specs.Buffers.{state_of}
 use Rattle.pl_csv.specs.Rows.{states}

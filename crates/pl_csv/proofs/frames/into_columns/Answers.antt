@@ -1,10 +1,9 @@
-use Rattle.std.proofs.Common.{◌≡◌, ◌<◌, ℕ, ◌++◌, ◌∷◌, [], set, get_or, length, take, refl, sym, ◌∙◌, ap, subst, arith}
+use Rattle.std.proofs.Common.{◌≡◌, ◌<◌, ◌++◌, ◌∷◌, [], get_or, length, take, ◌∙◌, ap, arith}
 use Rattle.std.proofs.lemmas.List.{get_or-map, map-set, length-map, take_all}
-use Rattle.pl_frame.specs.Frame.{ColumnValue}
-use Rattle.pl_csv.specs.Buffers.{State, state_of, buffer_type, buffer_values}
+use Rattle.pl_csv.specs.Buffers.{state_of, buffer_type, buffer_values}
 use Rattle.pl_csv.specs.Rows.{states}
 use Rattle.pl_csv.specs.Frames.{columns_of}
-use Rattle.pl_csv.proofs.FrameLaws.{HasMadeColumns, HasMadeColumns-more}
+use Rattle.pl_csv.proofs.FrameLaws.{HasMadeColumns-more}
 use Rattle.pl_csv.proofs.frames.into_columns.Goals as goal
 
 pub loop-i-preserved : goal.loop-i-preserved

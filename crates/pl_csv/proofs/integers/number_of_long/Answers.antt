@@ -1,10 +1,10 @@
-use Rattle.std.proofs.Common.{◌≡◌, ◌+◌, ◌*◌, ◌-◌, ◌<◌, ◌≤◌, ◌^◌, false, true, get_or, length, take, arith, rules, sym, ap, ◌∙◌, lit<, subst, ℕ}
+use Rattle.std.proofs.Common.{◌≡◌, ◌+◌, ◌<◌, ◌≤◌, ◌^◌, false, true, get_or, length, take, arith, rules, sym, ap, ◌∙◌}
 use Rattle.std.proofs.lemmas.List.{take_all}
 use Rattle.std.specs.Char.{is_ascii_digit}
 use Rattle.std.proofs.lemmas.Bool.Decides.{nat_tests}
 use Rattle.std.specs.Str.{all_ascii_digits}
 use Rattle.pl_csv.specs.Integers.{number_of}
-use Rattle.pl_csv.proofs.IntegerLaws.{number_below-spoilt, number_below-past, number_below-some, all_ascii_digits_more, number_of_more, digit_small}
+use Rattle.pl_csv.proofs.IntegerLaws.{number_below-spoilt, number_below-past, number_below-some, all_ascii_digits_more, number_of_more}
 use Rattle.pl_csv.proofs.integers.number_of_long.Goals as goal
 
 pub returns-then-not-is_ascii_digit : goal.returns-then-not-is_ascii_digit

@@ -1,4 +1,4 @@
-use Rattle.std.proofs.Common.{◌≡◌, ◌+◌, ◌*◌, ◌-◌, ◌<◌, ◌≤◌, ◌^◌, false, true, get_or, length, arith, rules, sym, ap, ◌∙◌, lit<, subst, ℕ}
+use Rattle.std.proofs.Common.{◌≡◌, ◌+◌, ◌*◌, ◌<◌, ◌^◌, false, true, get_or, arith, rules, lit<}
 use Rattle.std.specs.Char.{is_ascii_digit}
 use Rattle.pl_csv.proofs.IntegerLaws.{number_below-spoilt, all_ascii_digits_more, number_of_more, ten_more, nineteen, digit_small}
 use Rattle.pl_csv.proofs.integers.number_of_short.Goals as goal

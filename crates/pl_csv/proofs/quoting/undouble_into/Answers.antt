@@ -1,4 +1,4 @@
-use Rattle.std.proofs.Common.{◌≡◌, ◌≤◌, ◌<◌, ℕ, List, [], ◌∷◌, length, take, drop, ◌++◌, sym, ◌∙◌, ap, append_assoc, arith, rules, true, false, cond}
+use Rattle.std.proofs.Common.{◌≡◌, [], ◌∷◌, take, ◌++◌, sym, ◌∙◌, ap, append_assoc, arith}
 use Rattle.pl_csv.specs.Quoting.{undouble}
 use Rattle.pl_csv.proofs.QuotingLaws.{undouble-pass, undouble-none, written_more}
 use Rattle.pl_csv.proofs.quoting.undouble_into.Goals as goal

@@ -1,7 +1,7 @@
-use Rattle.std.proofs.Common.{◌≡◌, true, false, sym, ◌∙◌, ap}
+use Rattle.std.proofs.Common.{sym, ◌∙◌, ap}
 use Rattle.std.specs.Prelude.{Some, None}
-use Rattle.pl_csv.specs.Reading.{types_of, rows, has_fault, default_marks, frame_of_rows}
-use Rattle.pl_csv.specs.Rows.{states, state_types, with_rows}
+use Rattle.pl_csv.specs.Reading.{rows, has_fault, default_marks}
+use Rattle.pl_csv.specs.Rows.{state_types, with_rows}
 use Rattle.pl_csv.specs.Frames.{columns_of}
 use Rattle.pl_csv.proofs.FrameLaws.{state_types-empty, columns_of-rows}
 use Rattle.pl_csv.proofs.reading.columns_of_records.Goals as goal

@@ -1,8 +1,8 @@
-use Rattle.std.proofs.Common.{◌≡◌, ◌<◌, ◌≤◌, ◌+◌, Ok, ◌++◌, ◌∷◌, [], ℕ, set, get_or, length, drop, refl, sym, ◌∙◌, ap, subst, arith}
+use Rattle.std.proofs.Common.{◌≡◌, ◌<◌, ◌≤◌, ◌+◌, Ok, ◌++◌, ◌∷◌, [], set, get_or, length, drop, refl, sym, ◌∙◌, ap, subst, arith}
 use Rattle.std.proofs.lemmas.List.{get_or-map, map-set, length-map}
 use Rattle.pl_frame.specs.Dialect.{marks}
 use Rattle.pl_scan.specs.Fields.{fields}
-use Rattle.pl_csv.specs.Buffers.{State, state_of, buffer_type, buffer_values}
+use Rattle.pl_csv.specs.Buffers.{state_of, buffer_type, buffer_values}
 use Rattle.pl_csv.specs.Cells.{cell}
 use Rattle.pl_csv.specs.Reading.{field_at, row_at}
 use Rattle.pl_csv.specs.Rows.{states, state_types, fields_left}

@@ -1,4 +1,3 @@
-use Rattle.std.proofs.Common.{◌≡◌, length}
 use Rattle.pl_frame.specs.Dialect.{marks}
 use Rattle.pl_csv.specs.Rows.{states}
 use Rattle.pl_csv.proofs.RowLaws.{HasReadColumns}

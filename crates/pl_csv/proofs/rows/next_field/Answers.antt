@@ -1,6 +1,4 @@
-use Rattle.std.proofs.Common.{◌≡◌, ◌∙◌, sym, ap, drop, arith}
 use Rattle.pl_frame.specs.Dialect.{marks}
-use Rattle.pl_csv.specs.Rows.{IsBehind}
 use Rattle.pl_csv.proofs.RowLaws.{field_at-first, fields_left-next, behind_row-next}
 use Rattle.pl_csv.proofs.rows.next_field.Goals as goal
 

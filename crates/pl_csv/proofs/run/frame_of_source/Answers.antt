@@ -1,4 +1,4 @@
-use Rattle.std.proofs.Common.{◌≡◌, refl, sym, ◌∙◌, ap}
+use Rattle.std.proofs.Common.{sym, ◌∙◌, ap}
 use Rattle.std.specs.Prelude.{Err}
 use Rattle.pl_csv.specs.Reading.{reference_read, is_compressed, is_faulty}
 use Rattle.pl_csv.proofs.run.frame_of_source.Goals as goal

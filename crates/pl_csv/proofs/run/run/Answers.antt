@@ -1,5 +1,5 @@
-use Rattle.std.proofs.Common.{◌≡◌, ℕ, List, map, string_bytes, sym, ◌∙◌, ap, subst}
-use Rattle.pl_csv.specs.Run.{views, status_of, IsExpected, expected_status}
+use Rattle.std.proofs.Common.{map, string_bytes, sym, ◌∙◌, subst}
+use Rattle.pl_csv.specs.Run.{views, IsExpected, expected_status}
 use Rattle.pl_csv.proofs.RunLaws.{expected-converted, expected-refused, compressed-refused, faulty-refused}
 use Rattle.pl_csv.proofs.run.run.Goals as goal
 

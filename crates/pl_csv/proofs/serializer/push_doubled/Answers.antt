@@ -1,4 +1,4 @@
-use Rattle.std.proofs.Common.{◌≡◌, ◌≤◌, ◌<◌, ℕ, List, [], ◌∷◌, length, take, drop, ◌++◌, sym, ◌∙◌, ap, eqb-true, append_assoc, arith, rules}
+use Rattle.std.proofs.Common.{[], ◌∷◌, take, drop, ◌++◌, sym, ◌∙◌, ap, eqb-true}
 use Rattle.std.proofs.lemmas.List.{take_rest}
 use Rattle.pl_frame.specs.Text.{doubled}
 use Rattle.pl_csv.proofs.QuotingLaws.{written_more}

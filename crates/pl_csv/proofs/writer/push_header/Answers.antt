@@ -1,7 +1,7 @@
-use Rattle.std.proofs.Common.{◌≡◌, ◌++◌, ◌∷◌, [], ℕ, map, take, sym, ◌∙◌, ap, get_or, append_assoc, arith}
+use Rattle.std.proofs.Common.{◌++◌, ◌∷◌, [], map, take, ◌∙◌, ap, append_assoc, arith}
 use Rattle.std.specs.List.{join_with_byte}
 use Rattle.std.proofs.lemmas.List.{take_all}
-use Rattle.pl_frame.specs.Frame.{ColumnValue, names_of}
+use Rattle.pl_frame.specs.Frame.{ColumnValue}
 use Rattle.pl_frame.specs.Text.{default_write_options, written_text}
 use Rattle.pl_csv.specs.Writing.{separator_before}
 use Rattle.pl_csv.proofs.LineLaws.{joined_more, map-names}

@@ -1,4 +1,4 @@
-use Rattle.std.proofs.Common.{◌≡◌, ◌++◌, ℕ, sym, ◌∙◌, ap, get_or}
+use Rattle.std.proofs.Common.{◌++◌, ◌∙◌, ap}
 use Rattle.pl_frame.specs.Frame.{ColumnValue, cell_at}
 use Rattle.pl_frame.specs.Text.{default_write_options, written_cell}
 use Rattle.pl_csv.specs.Writing.{separator_before}

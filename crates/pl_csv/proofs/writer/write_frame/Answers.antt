@@ -1,9 +1,8 @@
-use Rattle.std.proofs.Common.{◌≡◌, ◌<◌, ◌≤◌, ◌+◌, ◌-◌, ◌++◌, [], ℕ, List, take, sym, ◌∙◌, ap, subst, arith}
-use Rattle.std.specs.Prelude.{Option}
+use Rattle.std.proofs.Common.{◌<◌, ◌+◌, ◌-◌, ◌++◌, take, ◌∙◌, subst, arith}
 use Rattle.std.specs.Io.KnownBytes.{Appends}
 use Rattle.pl_frame.specs.Frame.{height_of}
 use Rattle.pl_frame.specs.Text.{default_write_options, row_line, row_lines, text_of_frame}
-use Rattle.pl_csv.proofs.WriteLaws.{IsWriting, IsWriting-prefix, IsWriting-more, IsWriting-flushed, IsWriting-part, row_lines-step}
+use Rattle.pl_csv.proofs.WriteLaws.{IsWriting-prefix, IsWriting-more, IsWriting-flushed, IsWriting-part, row_lines-step}
 use Rattle.pl_csv.proofs.writer.write_frame.Goals as goal
 use Rattle.pl_csv.proofs.writer.write_frame.Goals.{then-len-ge-BLOCK+in-Ok-write_all, else-len-ge-BLOCK}
 

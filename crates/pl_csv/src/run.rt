@@ -263,31 +263,37 @@ mod tests {
         Ok(())
     }
 
-    // The status where the calls with these numbers fail, and whether the sink then holds a beginning of the row.
+    // The status where the calls with these numbers fail, what the sink holds, whether that begins the row, and whether the
+    // error sink holds the line.
     fn converts_failing(
         alloc: Global,
         reads: &[usize],
         writes: &[usize],
+        line: &[u8],
     ) -> Result<(u8, usize, bool), AllocError> {
         let words = words_for(alloc, TWO_COLUMNS)?;
-        let mut source = PipeSource::new(ROW.as_bytes(), 4, reads);
+        let mut source = PipeSource::new(ROW.as_bytes(), 1, reads);
         let mut sink = PipeSink::new(alloc, 1, writes);
         let mut err = MemSink::new(alloc);
         let status = run(alloc, &words, &mut source, &mut sink, &mut err);
         let received = sink.received();
-        Ok((status, received.len(), ROW.as_bytes().starts_with(received)))
+        let begins = ROW.as_bytes().starts_with(received);
+        Ok((status, received.len(), begins && err.received() == line))
     }
 
     #[test]
     fn source_that_fails_at_each_call(rt: HostRuntime) -> Result<(), Fail> {
-        for call in 0..4 {
+        for call in 0..12 {
             assert_eq!(rt;
-                converts_failing(rt.alloc(), &[call], &[])?,
+                converts_failing(rt.alloc(), &[call], &[], b"source\n")?,
                 (3, 0, true),
                 "at call {call}"
             );
         }
-        assert_eq!(rt; converts_failing(rt.alloc(), &[4], &[])?, (0, 11, true));
+        assert_eq!(rt;
+            converts_failing(rt.alloc(), &[12], &[], b"")?,
+            (0, 11, true)
+        );
         Ok(())
     }
 
@@ -295,12 +301,28 @@ mod tests {
     fn sink_that_fails_at_each_call(rt: HostRuntime) -> Result<(), Fail> {
         for call in 0..11 {
             assert_eq!(rt;
-                converts_failing(rt.alloc(), &[], &[call])?,
+                converts_failing(rt.alloc(), &[], &[call], b"sink\n")?,
                 (4, call, true),
                 "at call {call}"
             );
         }
-        assert_eq!(rt; converts_failing(rt.alloc(), &[], &[11])?, (0, 11, true));
+        assert_eq!(rt;
+            converts_failing(rt.alloc(), &[], &[11], b"")?,
+            (0, 11, true)
+        );
+        Ok(())
+    }
+
+    #[test]
+    fn failing_error_sink_cuts_the_line_short(rt: HostRuntime) -> Result<(), Fail> {
+        let alloc = rt.alloc();
+        let words = words_for(alloc, "a:int8")?;
+        let mut source = MemSource::new(ROW.as_bytes());
+        let mut sink = MemSink::new(alloc);
+        let mut err = PipeSink::new(alloc, 1, &[2]);
+        let status = run(alloc, &words, &mut source, &mut sink, &mut err);
+        assert_eq!(rt; (status, err.received()), (2, b"wo".as_slice()));
+        assert!(rt; sink.received().is_empty());
         Ok(())
     }
 }

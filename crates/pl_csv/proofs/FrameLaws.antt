@@ -8,7 +8,8 @@ use Rattle.pl_frame.specs.Frame.{ColumnValue, HaveHeight, IsFrame, names_of}
 use Rattle.pl_frame.specs.Schema.{names_in, HaveDistinctNames}
 use Rattle.pl_csv.specs.Cells.{cell, value_of}
 use Rattle.pl_csv.specs.Buffers.{State, is_carried}
-use Rattle.pl_csv.specs.Reading.{SchemaValue, Row, types_of, field_at, read_column, frame_of_rows}
+use Rattle.pl_csv.specs.Settings.{SchemaValue}
+use Rattle.pl_csv.specs.Reading.{Row, types_of, field_at, read_column, frame_of_rows}
 use Rattle.pl_csv.specs.Rows.{state_types, with_rows}
 use Rattle.pl_csv.proofs.ReadLaws.{column_cells, with_columns, with_rows-columns}
 use Rattle.pl_csv.specs.Frames.{empty_states, columns_of}

@@ -6,7 +6,8 @@ use Rattle.std.proofs.lemmas.Bool.Decides.{nat_tests}
 use Rattle.pl_frame.specs.Frame.{ColumnValue}
 use Rattle.pl_csv.specs.declared.run.Refusal.{Refusal}
 use Rattle.pl_csv.specs.declared.run.Refusal.TheVariants as refusal
-use Rattle.pl_csv.specs.Reading.{SchemaValue, is_compressed, is_faulty, reference_read, frame_of_rows, input_rows}
+use Rattle.pl_csv.specs.Settings.{SchemaValue}
+use Rattle.pl_csv.specs.Reading.{is_compressed, is_faulty, reference_read, frame_of_rows, input_rows}
 use Rattle.pl_csv.specs.Words.{schema_of_words}
 use Rattle.pl_csv.specs.Run.{HasRead, Converted, IsCompressed, IsFaulty, Views, IsRefused, status_of, expected_under, expected_status, IsExpected}
 

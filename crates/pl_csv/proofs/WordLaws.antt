@@ -16,7 +16,8 @@ use Rattle.pl_frame.specs.declared.data_type.DataType.TheVariants as dtype
 use Rattle.pl_frame.specs.Schema.{names_in, place_of, with_type}
 use Rattle.pl_frame.proofs.SchemaLaws.{none_passes}
 use Rattle.pl_csv.specs.Buffers.{is_carried}
-use Rattle.pl_csv.specs.Reading.{SchemaValue, types_of}
+use Rattle.pl_csv.specs.Settings.{SchemaValue}
+use Rattle.pl_csv.specs.Reading.{types_of}
 use Rattle.pl_csv.specs.Words.{named_type, entry_of, all_of, are_distinct, schema_of, is_comma, is_colon}
 
 abbrev Named : Type 0

@@ -2,7 +2,7 @@
 use Rattle.std.specs.Prelude.{List, [], ◌∷◌, map}
 use Rattle.pl_frame.specs.Frame.{ColumnValue}
 use Rattle.pl_csv.specs.Buffers.{State}
-use Rattle.pl_csv.specs.Reading.{SchemaValue}
+use Rattle.pl_csv.specs.Settings.{SchemaValue}
 
 -- each column's type, without cells
 abbrev pub empty_states : SchemaValue → List State

@@ -5,6 +5,7 @@ pub mod Integers
 pub mod Quoting
 pub mod Reading
 pub mod Rows
+pub mod Settings
 pub mod Frames
 pub mod Words
 pub mod Writing

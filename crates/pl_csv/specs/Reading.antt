@@ -1,19 +1,19 @@
--- The reference read: the frame that an input means under a schema (docs/grammar.md, docs/types.md).
-use Rattle.std.specs.Prelude.{ℕ, zero, suc, ◌+◌, Bool, true, not, ◌&&◌, ◌==◌, nat_eq, nat_lt, nat_le, if◌then◌else◌, List, [], ◌∷◌, length, drop, map, Option, None, Some, unwrap_or, is_some, slice_get}
+-- The reference read: the frame that an input means (docs/grammar.md, docs/types.md).
+use Rattle.std.specs.Prelude.{◌≡◌, ℕ, zero, suc, ◌+◌, Bool, true, false, not, ◌&&◌, ◌==◌, nat_eq, nat_lt, if◌then◌else◌, List, [], ◌∷◌, length, drop, map, Option, None, Some, unwrap_or, is_some, slice_get}
 use Rattle.std.specs.List.{filter_map, list_any, enumerate_from, starts_with}
 use Rattle.pl_frame.specs.declared.data_type.DataType.{DataType}
 use Rattle.pl_frame.specs.declared.error.FaultKind.{FaultKind}
 use Rattle.pl_frame.specs.declared.error.FaultKind.TheVariants as fault
-use Rattle.pl_frame.specs.Dialect.{Marks, marks}
+use Rattle.pl_frame.specs.Dialect.{Marks, IsDialect}
 use Rattle.pl_frame.specs.Frame.{ColumnValue}
 use Rattle.pl_scan.specs.Fields.{fields, extent}
 use Rattle.pl_scan.specs.Items.{Entry, CommentText, RecordText, text_of, item}
-use Rattle.pl_scan.specs.Start.{no_skips, data_left}
+use Rattle.pl_scan.specs.Start.{SkipsTwice, CanStart, data_left}
+use Rattle.pl_csv.specs.declared.reading.ReadFault.{ReadFault}
+use Rattle.pl_csv.specs.declared.reading.ReadFault.TheVariants as read_fault
+use Rattle.pl_csv.specs.declared.settings.Settings.{Settings}
+use Rattle.pl_csv.specs.Settings.{SchemaValue, marks_of, comment_of, skips_of, keeps_ends}
 use Rattle.pl_csv.specs.Cells.{cell, value_of, fault_of}
-
--- names with their types, in order
-abbrev pub SchemaValue : Type 0
-SchemaValue = List (List ℕ × DataType)
 
 abbrev pub types_of : SchemaValue → List DataType
 types_of schema = map (λ column. column.1) schema
@@ -98,10 +98,6 @@ frame_of_rows q schema given = map (read_column q given) (enumerate_from 0 schem
 
 -- ---- the input
 
--- comma, double quote, line feed
-abbrev pub default_marks : Marks
-default_marks = marks 44 (Some 34) 10
-
 -- how the streams of gzip, zlib and zstd begin
 abbrev pub compression_marks : List (List ℕ)
 compression_marks = (31 ∷ 139 ∷ []) ∷ (120 ∷ 1 ∷ []) ∷ (120 ∷ 156 ∷ []) ∷ (120 ∷ 218 ∷ []) ∷ (40 ∷ 181 ∷ 47 ∷ 253 ∷ []) ∷ []
@@ -109,24 +105,34 @@ compression_marks = (31 ∷ 139 ∷ []) ∷ (120 ∷ 1 ∷ []) ∷ (120 ∷ 156 
 abbrev pub is_compressed : List ℕ → Bool
 is_compressed input = list_any (starts_with nat_eq input) compression_marks
 
--- what stands behind the header, where leading line ends are kept or not
-abbrev pub data_of_input : Bool → List ℕ → List ℕ
-data_of_input keep input = unwrap_or (data_left (no_skips true) keep default_marks None input) []
+-- what stands from the starting point on, where there are as many items as are to be skipped
+abbrev pub data_of : Settings → List ℕ → Option (List ℕ)
+data_of s input = data_left (skips_of s) (keeps_ends s) (marks_of s) (comment_of s) input
 
--- what stands behind the header; leading line ends are kept under a schema of at most one column
-abbrev pub data_of : SchemaValue → List ℕ → List ℕ
-data_of schema input = data_of_input (nat_le (length schema) 1) input
+-- the rows of the data
+abbrev pub data_rows : Settings → List ℕ → List Row
+data_rows s data = rows (marks_of s) (comment_of s) data
 
-abbrev pub input_rows : SchemaValue → List ℕ → List Row
-input_rows schema input = rows default_marks None (data_of schema input)
+-- some row of the data has a fault
+abbrev pub is_faulty : Settings → List ℕ → Bool
+is_faulty s data = has_fault s.quote_char (types_of s.schema) (data_rows s data)
 
--- some row of the input has a fault
-abbrev pub is_faulty : SchemaValue → List ℕ → Bool
-is_faulty schema input = has_fault (Some 34) (types_of schema) (input_rows schema input)
+-- The reference read: the frame that an input means. There is none where the marks are no dialect, where lines and rows
+-- are both to be skipped, where the input is compressed, where there are too few items, or where a row has a fault.
+pub record IsRead (s : Settings) (input : List ℕ) (frame : List ColumnValue) : Type 0 where
+  pub can_start : CanStart (skips_of s) (marks_of s) (comment_of s)
+  pub no_mark : is_compressed input ≡ false
+  pub data : List ℕ
+  pub place : data_of s input ≡ Some data
+  pub whole : is_faulty s data ≡ false
+  pub is : frame ≡ frame_of_rows s.quote_char s.schema (data_rows s data)
 
--- the frame that the input means; there is none where the input is compressed or a row has a fault
-abbrev pub reference_read : SchemaValue → List ℕ → Option (List ColumnValue)
-reference_read schema input =
-    if is_compressed input then None
-    else if is_faulty schema input then None
-    else Some (frame_of_rows (Some 34) schema (input_rows schema input))
+-- the first cause for which an input means no frame; want of memory says nothing
+abbrev pub IsReadFault : Settings → List ℕ → ReadFault → Type 0
+IsReadFault s input read_fault.Dialect = ¬ IsDialect (marks_of s) (comment_of s)
+IsReadFault s input read_fault.Option = IsDialect (marks_of s) (comment_of s) × SkipsTwice (skips_of s)
+IsReadFault s input read_fault.Compressed = CanStart (skips_of s) (marks_of s) (comment_of s) × (is_compressed input ≡ true)
+IsReadFault s input read_fault.Skip = CanStart (skips_of s) (marks_of s) (comment_of s) × (is_compressed input ≡ false) × (data_of s input ≡ None)
+IsReadFault s input read_fault.Record =
+    CanStart (skips_of s) (marks_of s) (comment_of s) × (is_compressed input ≡ false) × (data : List ℕ) × (data_of s input ≡ Some data) × (is_faulty s data ≡ true)
+IsReadFault s input read_fault.OutOfMemory = Unit {0}

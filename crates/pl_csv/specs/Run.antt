@@ -8,7 +8,8 @@ use Rattle.pl_frame.specs.Text.{default_write_options, text_of_frame}
 use Rattle.pl_csv.specs.declared.run.Refusal.{Refusal}
 use Rattle.pl_csv.specs.declared.run.Refusal.TheVariants as refusal
 use Rattle.pl_csv.specs.Came.{Came}
-use Rattle.pl_csv.specs.Reading.{SchemaValue, is_compressed, is_faulty, reference_read}
+use Rattle.pl_csv.specs.Settings.{SchemaValue}
+use Rattle.pl_csv.specs.Reading.{is_compressed, is_faulty, reference_read}
 use Rattle.pl_csv.specs.Words.{schema_of_words}
 use Rattle.pl_csv.specs.Writing.{AppendsPrefix}
 

@@ -6,7 +6,8 @@ use Rattle.std.specs.Str.{bytes_eq}
 use Rattle.pl_frame.specs.declared.data_type.DataType.{DataType}
 use Rattle.pl_frame.specs.declared.data_type.DataType.TheVariants as dtype
 use Rattle.pl_frame.specs.Schema.{names_in}
-use Rattle.pl_csv.specs.Reading.{SchemaValue}
+use Rattle.pl_csv.specs.declared.settings.Settings.{Settings}
+use Rattle.pl_csv.specs.Settings.{SchemaValue, default_settings}
 
 -- the type that a text names
 abbrev pub named_type : List ℕ → Option DataType
@@ -48,6 +49,7 @@ is_value [] = false
 is_value (x ∷ xs) = not (x == 45)
 
 -- exactly the two words `--schema` and the text of a schema
-abbrev pub schema_of_words : List (List ℕ) → Option SchemaValue
-schema_of_words (name ∷ text ∷ []) = if bytes_eq name (codes "--schema") && is_value text then schema_of text else None
-schema_of_words _ = None
+abbrev pub settings_of_words : List (List ℕ) → Option Settings
+settings_of_words (name ∷ text ∷ []) =
+    if bytes_eq name (codes "--schema") && is_value text then option_map default_settings (schema_of text) else None
+settings_of_words _ = None

@@ -11,5 +11,6 @@ mod reading;
 mod rows;
 pub mod run;
 mod serializer;
+mod settings;
 mod words;
 mod writer;

@@ -1,12 +1,16 @@
 //! Rows of fields into buffers, in one pass over the data.
-ghost use Rattle.std.specs.Prelude.{◌≡◌, ◌≢◌, ◌+◌, true, false, [], Ok, Err, Some, None, length, drop, OnOk, IfOk, IfErr, MatchResult};
+ghost use Rattle.std.specs.Prelude.{◌≡◌, ◌≢◌, ◌+◌, true, false, [], Ok, Err, Some, None, length, drop, OnOk, IfOk, IfErr, MatchResult, not, ◌==◌};
+ghost use Rattle.std.specs.List.{prefix_len};
 ghost use Rattle.pl_frame.specs.Dialect.{marks, AreDistinct};
+ghost use Rattle.pl_scan.specs.Comment.{prefix_of};
 ghost use Rattle.pl_scan.specs.Fields.{fields, extent};
 ghost use Rattle.pl_csv.specs.Reading.{field_at, first_fault, row_at, rows, has_fault};
 ghost use Rattle.pl_csv.specs.Rows.{fields_left, behind_row, states, state_types, with_row, with_rows, IsRowFault, IsBehind, IsDone, HasMore, row_fault_of};
 
 use crate::buffer::{Buffer, CellFault};
+use memchr::memchr;
 use pl_frame::error::FaultKind;
+use pl_scan::comment::{CommentPrefix, is_comment_line};
 use pl_scan::fields::field_len;
 
 /// The bytes that cut a text into records and fields.
@@ -127,22 +131,37 @@ fn behind_line_end(behind: &[u8]) -> &[u8]
     }
 }
 
-/// Reads all records of a text into the buffers, a row each.
+// What stands behind the line at the front and its line end.
+fn behind_comment(bytes: &[u8], eol_char: u8) -> &[u8]
+    ensures { result.now ≡ drop (prefix_len (λ x. not (x == eol_char)) bytes.now + 1) bytes.now }
+{
+    match memchr(eol_char, bytes) {
+        Some(at) => &bytes[at + 1..],
+        None => &[],
+    }
+}
+
+/// Reads all records of a text into the buffers, a row each; comments give no row.
 ///
 /// Refuses a text in which a row has a fault, and want of memory. The buffers then hold some of the cells.
 pub fn add_rows(
     buffers: &mut [Buffer],
     records: &[u8],
     cuts: Cuts,
+    comment_prefix: Option<&CommentPrefix>,
     scratch: &mut Vec<u8>,
 ) -> Result<(), RowFault>
     requires { AreDistinct (marks cuts.separator cuts.quote_char cuts.eol_char) }
-    ensures whole { OnOk result (has_fault cuts.quote_char (state_types (states buffers.old)) (rows (marks cuts.separator cuts.quote_char cuts.eol_char) None records.now) ≡ false) }
-    ensures added { OnOk result (states buffers.new ≡ with_rows cuts.quote_char (rows (marks cuts.separator cuts.quote_char cuts.eol_char) None records.now) (states buffers.old)) }
-    ensures fault { IfErr result (λ fault. fault ≢ RowFault.OutOfMemory → has_fault cuts.quote_char (state_types (states buffers.old)) (rows (marks cuts.separator cuts.quote_char cuts.eol_char) None records.now) ≡ true) }
+    ensures whole { OnOk result (has_fault cuts.quote_char (state_types (states buffers.old)) (rows (marks cuts.separator cuts.quote_char cuts.eol_char) (prefix_of comment_prefix.entry) records.now) ≡ false) }
+    ensures added { OnOk result (states buffers.new ≡ with_rows cuts.quote_char (rows (marks cuts.separator cuts.quote_char cuts.eol_char) (prefix_of comment_prefix.entry) records.now) (states buffers.old)) }
+    ensures fault { IfErr result (λ fault. fault ≢ RowFault.OutOfMemory → has_fault cuts.quote_char (state_types (states buffers.old)) (rows (marks cuts.separator cuts.quote_char cuts.eol_char) (prefix_of comment_prefix.entry) records.now) ≡ true) }
 {
     let mut rest = records;
     while !rest.is_empty() {
+        if is_comment_line(rest, comment_prefix) {
+            rest = behind_comment(rest, cuts.eol_char);
+            continue;
+        }
         match add_row(buffers, rest, cuts, scratch) {
             Ok(behind) => rest = behind_line_end(behind),
             Err(fault) => return Err(fault),

@@ -6,8 +6,9 @@ ghost use Rattle.std.specs.Str.{bytes_eq};
 ghost use Rattle.pl_frame.specs.Schema.{names_in};
 ghost use Rattle.pl_csv.specs.Buffers.{is_carried};
 ghost use Rattle.pl_csv.specs.Reading.{types_of};
-ghost use Rattle.pl_csv.specs.Words.{named_type, is_comma, entry_of, is_value, schema_of, schema_of_words};
+ghost use Rattle.pl_csv.specs.Words.{named_type, is_comma, entry_of, is_value, schema_of, settings_of_words};
 
+use crate::settings::Settings;
 use pl_frame::data_type::DataType;
 use pl_frame::name::PlSmallStr;
 use pl_frame::schema::Schema;
@@ -123,12 +124,12 @@ fn is_value_word(text: &str) -> bool
     }
 }
 
-/// The schema that the words mean: exactly the two words `--schema` and the text of a schema. Refuses other words, and
+/// The settings that the words mean: exactly the two words `--schema` and the text of a schema. Refuses other words, and
 /// want of memory.
-pub fn parse_words(alloc: Global, words: &[String]) -> Result<Schema, WordsFault>
-    ensures schema { IfOk result (λ schema. schema_of_words (map string_bytes words.now) ≡ Some schema) }
-    ensures carried { IfOk result (λ schema. list_all is_carried (types_of schema) ≡ true) }
-    ensures refused { IsErrOf result WordsFault.Words → schema_of_words (map string_bytes words.now) ≡ None }
+pub fn parse_words(alloc: Global, words: &[String]) -> Result<Settings, WordsFault>
+    ensures settings { IfOk result (λ settings. settings_of_words (map string_bytes words.now) ≡ Some settings) }
+    ensures carried { IfOk result (λ settings. list_all is_carried (types_of settings.schema) ≡ true) }
+    ensures refused { IsErrOf result WordsFault.Words → settings_of_words (map string_bytes words.now) ≡ None }
 {
     let [name, text] = words else {
         return Err(WordsFault::Words);
@@ -136,7 +137,10 @@ pub fn parse_words(alloc: Global, words: &[String]) -> Result<Schema, WordsFault
     if name.as_str() != "--schema" || !is_value_word(text.as_str()) {
         return Err(WordsFault::Words);
     }
-    parse_schema(alloc, text.as_str())
+    match parse_schema(alloc, text.as_str()) {
+        Ok(schema) => Ok(Settings::new(schema)),
+        Err(fault) => Err(fault),
+    }
 }
 
 #[cfg(test)]
@@ -162,7 +166,10 @@ mod tests {
                 return Err(WordsFault::OutOfMemory);
             }
         }
-        width(parse_words(alloc, words.as_slice()))
+        match parse_words(alloc, words.as_slice()) {
+            Ok(settings) => Ok(settings.schema.len()),
+            Err(fault) => Err(fault),
+        }
     }
 
     #[test]

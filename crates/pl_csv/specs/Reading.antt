@@ -111,21 +111,21 @@ data_of s input = data_left (skips_of s) (keeps_ends s) (marks_of s) (comment_of
 
 -- the rows of the data
 abbrev pub data_rows : Settings → List ℕ → List Row
-data_rows s data = rows (marks_of s) (comment_of s) data
+data_rows s records = rows (marks_of s) (comment_of s) records
 
 -- some row of the data has a fault
 abbrev pub is_faulty : Settings → List ℕ → Bool
-is_faulty s data = has_fault s.quote_char (types_of s.schema) (data_rows s data)
+is_faulty s records = has_fault s.quote_char (types_of s.schema) (data_rows s records)
 
 -- The reference read: the frame that an input means. There is none where the marks are no dialect, where lines and rows
 -- are both to be skipped, where the input is compressed, where there are too few items, or where a row has a fault.
 pub record IsRead (s : Settings) (input : List ℕ) (frame : List ColumnValue) : Type 0 where
   pub can_start : CanStart (skips_of s) (marks_of s) (comment_of s)
   pub no_mark : is_compressed input ≡ false
-  pub data : List ℕ
-  pub place : data_of s input ≡ Some data
-  pub whole : is_faulty s data ≡ false
-  pub is : frame ≡ frame_of_rows s.quote_char s.schema (data_rows s data)
+  pub records : List ℕ
+  pub place : data_of s input ≡ Some records
+  pub whole : is_faulty s records ≡ false
+  pub is : frame ≡ frame_of_rows s.quote_char s.schema (data_rows s records)
 
 -- the first cause for which an input means no frame; want of memory says nothing
 abbrev pub IsReadFault : Settings → List ℕ → ReadFault → Type 0
@@ -134,5 +134,5 @@ IsReadFault s input read_fault.Option = IsDialect (marks_of s) (comment_of s) ×
 IsReadFault s input read_fault.Compressed = CanStart (skips_of s) (marks_of s) (comment_of s) × (is_compressed input ≡ true)
 IsReadFault s input read_fault.Skip = CanStart (skips_of s) (marks_of s) (comment_of s) × (is_compressed input ≡ false) × (data_of s input ≡ None)
 IsReadFault s input read_fault.Record =
-    CanStart (skips_of s) (marks_of s) (comment_of s) × (is_compressed input ≡ false) × (data : List ℕ) × (data_of s input ≡ Some data) × (is_faulty s data ≡ true)
+    CanStart (skips_of s) (marks_of s) (comment_of s) × (is_compressed input ≡ false) × (records : List ℕ) × (data_of s input ≡ Some records) × (is_faulty s records ≡ true)
 IsReadFault s input read_fault.OutOfMemory = Unit {0}

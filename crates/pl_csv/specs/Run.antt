@@ -8,48 +8,44 @@ use Rattle.pl_frame.specs.Text.{default_write_options, text_of_frame}
 use Rattle.pl_csv.specs.declared.run.Refusal.{Refusal}
 use Rattle.pl_csv.specs.declared.run.Refusal.TheVariants as refusal
 use Rattle.pl_csv.specs.Came.{Came}
-use Rattle.pl_csv.specs.Settings.{SchemaValue}
-use Rattle.pl_csv.specs.Reading.{is_compressed, is_faulty, reference_read}
-use Rattle.pl_csv.specs.Words.{schema_of_words}
+use Rattle.pl_csv.specs.declared.reading.ReadFault.{ReadFault}
+use Rattle.pl_csv.specs.declared.reading.ReadFault.TheVariants as read_fault
+use Rattle.pl_csv.specs.declared.settings.Settings.{Settings}
+use Rattle.pl_csv.specs.Reading.{IsRead, IsReadFault}
+use Rattle.pl_csv.specs.Words.{settings_of_words}
 use Rattle.pl_csv.specs.Writing.{AppendsPrefix}
 
--- the words mean a schema, and the source gave this input of at most 2 ^ 36 bytes and was read to its end
+-- the words mean settings, and the source gave this input of at most 2 ^ 36 bytes and was read to its end
 pub record HasRead (words : List (List ℕ)) (before now : Option (List ℕ)) : Type 0 where
-  pub schema : SchemaValue
-  pub meaning : schema_of_words words ≡ Some schema
+  pub settings : Settings
+  pub meaning : settings_of_words words ≡ Some settings
   pub input : List ℕ
   pub came : Consumes before now input
   pub end : IsAtEnd now
   pub within : length input ≤ 2 ^ 36
 
--- the text of the frame that an input means under a schema, where it means one
-abbrev pub IsTextOf : SchemaValue → List ℕ → List ℕ → Type 0
-IsTextOf schema input text = (frame : List ColumnValue) × (reference_read schema input ≡ Some frame) × (text ≡ text_of_frame default_write_options frame)
+-- the text of the frame that an input means, where it means one
+abbrev pub IsTextOf : Settings → List ℕ → List ℕ → Type 0
+IsTextOf settings input text = (frame : List ColumnValue) × IsRead settings input frame × (text ≡ text_of_frame default_write_options frame)
 
 -- The reference read of the input exists, and the sink received exactly the text of its frame.
 pub record Converted (words : List (List ℕ)) (left left_now received received_now : Option (List ℕ)) : Type 0 where
   pub read : HasRead words left left_now
   pub text : List ℕ
-  pub is : IsTextOf read.schema read.input text
+  pub is : IsTextOf read.settings read.input text
   pub written : Appends received received_now text
 
 -- the reference read of the input exists, and the sink received a prefix of the text of its frame
 pub record ConvertedPart (words : List (List ℕ)) (left left_now received received_now : Option (List ℕ)) : Type 0 where
   pub read : HasRead words left left_now
   pub text : List ℕ
-  pub is : IsTextOf read.schema read.input text
+  pub is : IsTextOf read.settings read.input text
   pub written : AppendsPrefix received received_now text
 
--- the input begins with the mark of a compressed stream
-pub record IsCompressed (words : List (List ℕ)) (left left_now : Option (List ℕ)) : Type 0 where
+-- the input has no reference read, first for this cause
+pub record HasCause (words : List (List ℕ)) (left left_now : Option (List ℕ)) (fault : ReadFault) : Type 0 where
   pub read : HasRead words left left_now
-  pub mark : is_compressed read.input ≡ true
-
--- the input is not compressed, and a record has a fault
-pub record IsFaulty (words : List (List ℕ)) (left left_now : Option (List ℕ)) : Type 0 where
-  pub read : HasRead words left left_now
-  pub no_mark : is_compressed read.input ≡ false
-  pub fault : is_faulty read.schema read.input ≡ true
+  pub is : IsReadFault read.settings read.input fault
 
 -- more than 2 ^ 36 bytes came
 abbrev pub IsTooLong : Option (List ℕ) → Option (List ℕ) → Type 0
@@ -63,7 +59,10 @@ fault_line status =
     else if status == 4 then codes "sink\n"
     else if status == 5 then codes "memory\n"
     else if status == 6 then codes "too long\n"
+    else if status == 11 then codes "refusal 1 dialect\n"
+    else if status == 12 then codes "refusal 2 option\n"
     else if status == 14 then codes "refusal 4 compressed\n"
+    else if status == 20 then codes "refusal 10 skip\n"
     else if status == 24 then codes "refusal 14 record\n"
     else []
 
@@ -80,7 +79,10 @@ status_of refusal.Source = 3
 status_of refusal.Sink = 4
 status_of refusal.OutOfMemory = 5
 status_of refusal.TooLong = 6
+status_of refusal.Dialect = 11
+status_of refusal.Option = 12
 status_of refusal.Compressed = 14
+status_of refusal.Skip = 20
 status_of refusal.Record = 24
 
 -- why a conversion was refused, and what the sink then received
@@ -91,13 +93,16 @@ pub record Views : Type 0 where
   pub sink_faults : ℕ
 
 abbrev pub IsRefused : List (List ℕ) → Views → Views → Refusal → Type 0
-IsRefused words before now refusal.Words = (schema_of_words words ≡ None) × Keeps before.received now.received
-IsRefused words before now refusal.Source = IsSome (schema_of_words words) × Rose before.source_faults now.source_faults × Keeps before.received now.received
+IsRefused words before now refusal.Words = (settings_of_words words ≡ None) × Keeps before.received now.received
+IsRefused words before now refusal.Source = IsSome (settings_of_words words) × Rose before.source_faults now.source_faults × Keeps before.received now.received
 IsRefused words before now refusal.Sink = Rose before.sink_faults now.sink_faults × ConvertedPart words before.left now.left before.received now.received
 IsRefused words before now refusal.OutOfMemory = Keeps before.received now.received ⊎ ConvertedPart words before.left now.left before.received now.received
-IsRefused words before now refusal.TooLong = IsSome (schema_of_words words) × IsTooLong before.left now.left × Keeps before.received now.received
-IsRefused words before now refusal.Compressed = IsCompressed words before.left now.left × Keeps before.received now.received
-IsRefused words before now refusal.Record = IsFaulty words before.left now.left × Keeps before.received now.received
+IsRefused words before now refusal.TooLong = IsSome (settings_of_words words) × IsTooLong before.left now.left × Keeps before.received now.received
+IsRefused words before now refusal.Dialect = HasCause words before.left now.left read_fault.Dialect × Keeps before.received now.received
+IsRefused words before now refusal.Option = HasCause words before.left now.left read_fault.Option × Keeps before.received now.received
+IsRefused words before now refusal.Compressed = HasCause words before.left now.left read_fault.Compressed × Keeps before.received now.received
+IsRefused words before now refusal.Skip = HasCause words before.left now.left read_fault.Skip × Keeps before.received now.received
+IsRefused words before now refusal.Record = HasCause words before.left now.left read_fault.Record × Keeps before.received now.received
 
 abbrev pub views : Option (List ℕ) → Option (List ℕ) → ℕ → ℕ → Views
 views left received source_faults sink_faults = record { left = left; received = received; source_faults = source_faults; sink_faults = sink_faults }
@@ -105,39 +110,36 @@ views left received source_faults sink_faults = record { left = left; received =
 -- the input that the source gave means the frame
 pub record HasFrame (words : List (List ℕ)) (left left_now : Option (List ℕ)) (frame : List ColumnValue) : Type 0 where
   pub read : HasRead words left left_now
-  pub is : reference_read read.schema read.input ≡ Some frame
+  pub is : IsRead read.settings read.input frame
 
 -- why no frame was read
 abbrev pub IsReadRefused : List (List ℕ) → Option (List ℕ) → Option (List ℕ) → ℕ → ℕ → Refusal → Type 0
-IsReadRefused words left left_now faults faults_now refusal.Words = schema_of_words words ≡ None
-IsReadRefused words left left_now faults faults_now refusal.Source = IsSome (schema_of_words words) × Rose faults faults_now
+IsReadRefused words left left_now faults faults_now refusal.Words = settings_of_words words ≡ None
+IsReadRefused words left left_now faults faults_now refusal.Source = IsSome (settings_of_words words) × Rose faults faults_now
 IsReadRefused words left left_now faults faults_now refusal.Sink = ⊥
 IsReadRefused words left left_now faults faults_now refusal.OutOfMemory = Unit {0}
-IsReadRefused words left left_now faults faults_now refusal.TooLong = IsSome (schema_of_words words) × IsTooLong left left_now
-IsReadRefused words left left_now faults faults_now refusal.Compressed = IsCompressed words left left_now
-IsReadRefused words left left_now faults faults_now refusal.Record = IsFaulty words left left_now
+IsReadRefused words left left_now faults faults_now refusal.TooLong = IsSome (settings_of_words words) × IsTooLong left left_now
+IsReadRefused words left left_now faults faults_now refusal.Dialect = HasCause words left left_now read_fault.Dialect
+IsReadRefused words left left_now faults faults_now refusal.Option = HasCause words left left_now read_fault.Option
+IsReadRefused words left left_now faults faults_now refusal.Compressed = HasCause words left left_now read_fault.Compressed
+IsReadRefused words left left_now faults faults_now refusal.Skip = HasCause words left left_now read_fault.Skip
+IsReadRefused words left left_now faults faults_now refusal.Record = HasCause words left left_now read_fault.Record
 
 -- ---- the status
 
--- The status at which a run ends on an input, where no count of source or sink rises and memory is not wanting: 2 where
--- the words mean nothing, and then the first of these that holds: 6 for an input that is too long, 14 for one that is
--- compressed, 24 for one with a fault, and else 0.
-abbrev pub expected_under : List ℕ → Option SchemaValue → ℕ
-expected_under input None = 2
-expected_under input (Some schema) =
-    if nat_lt (2 ^ 36) (length input) then 6
-    else if is_compressed input then 14
-    else if is_faulty schema input then 24
-    else 0
-
-abbrev pub expected_status : List (List ℕ) → List ℕ → ℕ
-expected_status words input = expected_under input (schema_of_words words)
-
 -- the statuses at which a run ends
 abbrev pub is_status : ℕ → Bool
-is_status status = list_any (λ known. status == known) (0 ∷ 2 ∷ 3 ∷ 4 ∷ 5 ∷ 6 ∷ 14 ∷ 24 ∷ [])
+is_status status = list_any (λ known. status == known) (0 ∷ 2 ∷ 3 ∷ 4 ∷ 5 ∷ 6 ∷ 11 ∷ 12 ∷ 14 ∷ 20 ∷ 24 ∷ [])
 
--- the expected status, or want of memory, or a fault of the source or of the sink whose count rose
-abbrev pub IsExpected : ℕ → ℕ → Views → Views → Type 0
-IsExpected expected status before now =
-    (status ≡ expected) ⊎ (status ≡ 5) ⊎ ((status ≡ 3) × Rose before.source_faults now.source_faults) ⊎ ((status ≡ 4) × Rose before.sink_faults now.sink_faults)
+-- the words mean settings under which an input of at most 2 ^ 36 bytes has a reference read
+pub record IsValid (words : List (List ℕ)) (input : List ℕ) : Type 0 where
+  pub settings : Settings
+  pub meaning : settings_of_words words ≡ Some settings
+  pub within : length input ≤ 2 ^ 36
+  pub frame : List ColumnValue
+  pub read : IsRead settings input frame
+
+-- success, or want of memory, or a fault of the source or of the sink whose count rose
+abbrev pub IsExpected : ℕ → Views → Views → Type 0
+IsExpected status before now =
+    (status ≡ 0) ⊎ (status ≡ 5) ⊎ ((status ≡ 3) × Rose before.source_faults now.source_faults) ⊎ ((status ≡ 4) × Rose before.sink_faults now.sink_faults)

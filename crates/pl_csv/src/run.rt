@@ -2,8 +2,8 @@
 ghost use Rattle.std.specs.Prelude.{◌≡◌, ◌≤◌, ◌⊎◌, ℕ, List, map, string_bytes, IfOk, IfErr, OnOk, IsSome, IsTrue, None, Some};
 ghost use Rattle.std.specs.Io.KnownBytes.{Keeps};
 ghost use Rattle.pl_frame.specs.Causes.{Rose};
-ghost use Rattle.pl_csv.specs.Words.{schema_of_words};
-ghost use Rattle.pl_csv.specs.Run.{status_of, fault_line, expected_status, is_status, IsTold, IsExpected, HasFrame, IsReadRefused, Converted, ConvertedPart, IsCompressed, IsFaulty, IsTooLong, IsRefused, views};
+ghost use Rattle.pl_csv.specs.Words.{settings_of_words};
+ghost use Rattle.pl_csv.specs.Run.{status_of, fault_line, is_status, IsTold, IsValid, IsExpected, HasFrame, HasCause, IsReadRefused, Converted, ConvertedPart, IsTooLong, IsRefused, views};
 
 use crate::read_all::{ReadAllFault, read_all};
 use crate::reading::{ReadFault, read_frame};
@@ -29,8 +29,14 @@ pub enum Refusal {
     OutOfMemory,
     /// The source gave more than the largest input.
     TooLong,
+    /// The marks and the comment prefix are no dialect.
+    Dialect,
+    /// Lines and rows before the header are both to be skipped.
+    Option,
     /// The input begins with the mark of a compressed stream.
     Compressed,
+    /// There are fewer items than are to be skipped.
+    Skip,
     /// A record has a fault.
     Record,
 }
@@ -46,7 +52,10 @@ impl Refusal {
             Refusal::Sink => 4,
             Refusal::OutOfMemory => 5,
             Refusal::TooLong => 6,
+            Refusal::Dialect => 11,
+            Refusal::Option => 12,
             Refusal::Compressed => 14,
+            Refusal::Skip => 20,
             Refusal::Record => 24,
         }
     }
@@ -61,7 +70,10 @@ impl Refusal {
             Refusal::Sink => "sink\n",
             Refusal::OutOfMemory => "memory\n",
             Refusal::TooLong => "too long\n",
+            Refusal::Dialect => "refusal 1 dialect\n",
+            Refusal::Option => "refusal 2 option\n",
             Refusal::Compressed => "refusal 4 compressed\n",
+            Refusal::Skip => "refusal 10 skip\n",
             Refusal::Record => "refusal 14 record\n",
         }
     }
@@ -88,8 +100,8 @@ fn frame_of_source<So: Source>(
     ensures refused { IfErr result (IsReadRefused (map string_bytes words.now) (So.left source.old) (So.left source.new) (So.faults source.old) (So.faults source.new)) }
     ensures later { So.faults source.old ≤ So.faults source.new }
 {
-    let schema = match parse_words(alloc, words) {
-        Ok(schema) => schema,
+    let settings = match parse_words(alloc, words) {
+        Ok(settings) => settings,
         Err(WordsFault::Words) => return Err(Refusal::Words),
         Err(WordsFault::OutOfMemory) => return Err(Refusal::OutOfMemory),
     };
@@ -99,9 +111,12 @@ fn frame_of_source<So: Source>(
         Err(ReadAllFault::TooLong) => return Err(Refusal::TooLong),
         Err(ReadAllFault::OutOfMemory) => return Err(Refusal::OutOfMemory),
     };
-    match read_frame(alloc, &input, &schema) {
+    match read_frame(alloc, &input, &settings) {
         Ok(frame) => Ok(frame),
+        Err(ReadFault::Dialect) => Err(Refusal::Dialect),
+        Err(ReadFault::Option) => Err(Refusal::Option),
         Err(ReadFault::Compressed) => Err(Refusal::Compressed),
+        Err(ReadFault::Skip) => Err(Refusal::Skip),
         Err(ReadFault::Record) => Err(Refusal::Record),
         Err(ReadFault::OutOfMemory) => Err(Refusal::OutOfMemory),
     }
@@ -137,8 +152,9 @@ fn convert<So: Source, Si: Sink>(
 ///
 /// The words are `--schema` and the text of a schema. Another status has its cause: 2 words without a meaning; 3 a fault
 /// of the source; 4 one of `out`, which then received a prefix of the text; 5 want of memory, with a prefix of the text
-/// or nothing received; 6 an input of more than 2^36 bytes; 14 a compressed input; 24 a record with a fault. At 2, 3, 6,
-/// 14 and 24 `out` received nothing. `err` receives the fault line of the status; a fault of `err` cuts it short, and
+/// or nothing received; 6 an input of more than 2^36 bytes; 11 marks that are no dialect; 12 lines and rows that are both
+/// to be skipped; 14 a compressed input; 20 fewer items than are to be skipped; 24 a record with a fault. At 2, 3, 6 and
+/// from 11 on `out` received nothing. `err` receives the fault line of the status; a fault of `err` cuts it short, and
 /// changes neither status nor `out`.
 pub fn run<So: Source, Si: Sink, Se: Sink>(
     alloc: Global,
@@ -151,20 +167,23 @@ pub fn run<So: Source, Si: Sink, Se: Sink>(
     ensures converted { result ≡ 0 → Converted (map string_bytes words.now) (So.left source.old) (So.left source.new) (Si.received out.old) (Si.received out.new) }
 
     // Each other status comes only by its cause.
-    ensures words_form { result ≡ 2 → (schema_of_words (map string_bytes words.now) ≡ None) × Keeps (Si.received out.old) (Si.received out.new) }
-    ensures source_fault { result ≡ 3 → IsSome (schema_of_words (map string_bytes words.now)) × Rose (So.faults source.old) (So.faults source.new) × Keeps (Si.received out.old) (Si.received out.new) }
+    ensures words_form { result ≡ 2 → (settings_of_words (map string_bytes words.now) ≡ None) × Keeps (Si.received out.old) (Si.received out.new) }
+    ensures source_fault { result ≡ 3 → IsSome (settings_of_words (map string_bytes words.now)) × Rose (So.faults source.old) (So.faults source.new) × Keeps (Si.received out.old) (Si.received out.new) }
     ensures sink_fault { result ≡ 4 → Rose (Si.faults out.old) (Si.faults out.new)
         × ConvertedPart (map string_bytes words.now) (So.left source.old) (So.left source.new) (Si.received out.old) (Si.received out.new) }
     ensures memory { result ≡ 5 → Keeps (Si.received out.old) (Si.received out.new)
         ⊎ ConvertedPart (map string_bytes words.now) (So.left source.old) (So.left source.new) (Si.received out.old) (Si.received out.new) }
-    ensures too_long { result ≡ 6 → IsSome (schema_of_words (map string_bytes words.now)) × IsTooLong (So.left source.old) (So.left source.new) × Keeps (Si.received out.old) (Si.received out.new) }
-    ensures compressed { result ≡ 14 → IsCompressed (map string_bytes words.now) (So.left source.old) (So.left source.new) × Keeps (Si.received out.old) (Si.received out.new) }
-    ensures faulty { result ≡ 24 → IsFaulty (map string_bytes words.now) (So.left source.old) (So.left source.new) × Keeps (Si.received out.old) (Si.received out.new) }
+    ensures too_long { result ≡ 6 → IsSome (settings_of_words (map string_bytes words.now)) × IsTooLong (So.left source.old) (So.left source.new) × Keeps (Si.received out.old) (Si.received out.new) }
+    ensures dialect { result ≡ 11 → HasCause (map string_bytes words.now) (So.left source.old) (So.left source.new) ReadFault.Dialect × Keeps (Si.received out.old) (Si.received out.new) }
+    ensures option { result ≡ 12 → HasCause (map string_bytes words.now) (So.left source.old) (So.left source.new) ReadFault.Option × Keeps (Si.received out.old) (Si.received out.new) }
+    ensures compressed { result ≡ 14 → HasCause (map string_bytes words.now) (So.left source.old) (So.left source.new) ReadFault.Compressed × Keeps (Si.received out.old) (Si.received out.new) }
+    ensures skip { result ≡ 20 → HasCause (map string_bytes words.now) (So.left source.old) (So.left source.new) ReadFault.Skip × Keeps (Si.received out.old) (Si.received out.new) }
+    ensures faulty { result ≡ 24 → HasCause (map string_bytes words.now) (So.left source.old) (So.left source.new) ReadFault.Record × Keeps (Si.received out.old) (Si.received out.new) }
     ensures known { IsTrue (is_status result) }
 
-    // And each comes where its cause holds, up to want of memory and a count that rose.
-    ensures no_meaning { schema_of_words (map string_bytes words.now) ≡ None → (result ≡ 2) ⊎ (result ≡ 5) }
-    ensures expected { (input : List ℕ) → So.left source.old ≡ Some input → IsExpected (expected_status (map string_bytes words.now) input) result
+    // What is valid is converted, up to want of memory and a count that rose.
+    ensures no_meaning { settings_of_words (map string_bytes words.now) ≡ None → (result ≡ 2) ⊎ (result ≡ 5) }
+    ensures valid { (input : List ℕ) → So.left source.old ≡ Some input → IsValid (map string_bytes words.now) input → IsExpected result
         (views (So.left source.old) (Si.received out.old) (So.faults source.old) (Si.faults out.old))
         (views (So.left source.new) (Si.received out.new) (So.faults source.new) (Si.faults out.new)) }
 

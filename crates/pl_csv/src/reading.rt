@@ -1,14 +1,14 @@
 //! From the bytes of an input to the frame that they mean.
-ghost use Rattle.std.specs.Prelude.{◌≡◌, ◌≢◌, true, false, nat_le, IfOk, OnOk, IfErr, MatchResult, Some, None};
+ghost use Rattle.std.specs.Prelude.{◌≡◌, ◌≢◌, true, false, IfOk, OnOk, IfErr, MatchResult, length};
 ghost use Rattle.std.specs.List.{list_all};
-ghost use Rattle.std.specs.Option.{option_map, option_copied};
+ghost use Rattle.std.specs.Option.{option_copied};
 ghost use Rattle.pl_frame.specs.Schema.{HaveDistinctNames};
-ghost use Rattle.pl_frame.specs.Dialect.{AreDistinct};
-ghost use Rattle.pl_csv.specs.Settings.{marks_of, comment_of};
+ghost use Rattle.pl_frame.specs.Dialect.{marks, AreDistinct};
+ghost use Rattle.pl_scan.specs.Comment.{prefix_of};
 ghost use Rattle.pl_csv.specs.Buffers.{is_carried};
 ghost use Rattle.pl_csv.specs.Rows.{states};
 ghost use Rattle.pl_csv.specs.Frames.{empty_states};
-ghost use Rattle.pl_csv.specs.Reading.{types_of, is_compressed, data_of, data_rows, is_faulty, frame_of_rows, IsRead, IsReadFault};
+ghost use Rattle.pl_csv.specs.Reading.{types_of, is_compressed, data_of, rows, has_fault, frame_of_rows, IsRead, IsReadFault};
 
 use crate::buffer::Buffer;
 use crate::frames::{init_buffers, into_columns};
@@ -16,6 +16,8 @@ use crate::rows::{Cuts, RowFault, add_rows};
 use crate::settings::Settings;
 use pl_frame::column::Column;
 use pl_frame::frame::DataFrame;
+use pl_frame::schema::Schema;
+use pl_scan::comment::CommentPrefix;
 use pl_scan::dialect::dialect_ok;
 use pl_scan::start::data_of;
 use std::alloc::Global;
@@ -48,7 +50,12 @@ fn has_compression_mark(input: &[u8]) -> bool
 }
 
 // What stands from the starting point on, where there is one.
-fn data_from_start<'a>(input: &'a [u8], settings: &Settings) -> Option<&'a [u8]>
+fn data_from_start<'a>(
+    input: &'a [u8],
+    settings: &Settings,
+    columns: usize,
+) -> Option<&'a [u8]>
+    requires { columns ≡ length settings.now.schema }
     ensures { option_copied result ≡ data_of settings.now input.now }
 {
     data_of(
@@ -56,7 +63,7 @@ fn data_from_start<'a>(input: &'a [u8], settings: &Settings) -> Option<&'a [u8]>
         settings.separator,
         settings.quote_char,
         settings.eol_char,
-        settings.schema.len() <= 1,
+        columns <= 1,
         settings.skip_lines,
         settings.skip_rows,
         settings.skip_rows_after_header,
@@ -89,10 +96,22 @@ pub fn read_frame(
     if has_compression_mark(input) {
         return Err(ReadFault::Compressed);
     }
-    let Some(data) = data_from_start(input, settings) else {
+    let columns = settings.schema.len();
+    let Some(records) = data_from_start(input, settings, columns) else {
         return Err(ReadFault::Skip);
     };
-    match read_records(alloc, data, settings) {
+    let cuts = Cuts {
+        separator: settings.separator,
+        quote_char: settings.quote_char,
+        eol_char: settings.eol_char,
+    };
+    match read_records(
+        alloc,
+        records,
+        &settings.schema,
+        cuts,
+        settings.comment_prefix.as_ref(),
+    ) {
         Ok(frame) => Ok(frame),
         Err(RowFault::OutOfMemory) => Err(ReadFault::OutOfMemory),
         Err(RowFault::Record { .. }) => Err(ReadFault::Record),
@@ -103,51 +122,48 @@ pub fn read_frame(
 fn columns_of_records(
     alloc: Global,
     records: &[u8],
-    settings: &Settings,
+    schema: &Schema,
+    cuts: Cuts,
+    comment_prefix: Option<&CommentPrefix>,
     buffers: &mut [Buffer],
 ) -> Result<Vec<Column>, RowFault>
-    requires fresh { states buffers.old ≡ empty_states settings.now.schema }
-    requires apart { AreDistinct (marks_of settings.now) }
-    ensures read { IfOk result (λ columns. columns.items ≡ frame_of_rows settings.now.quote_char settings.now.schema (data_rows settings.now records.now)) }
-    ensures whole { OnOk result (is_faulty settings.now records.now ≡ false) }
-    ensures fault { IfErr result (λ fault. fault ≢ RowFault.OutOfMemory → is_faulty settings.now records.now ≡ true) }
+    requires fresh { states buffers.old ≡ empty_states schema.now }
+    requires apart { AreDistinct (marks cuts.separator cuts.quote_char cuts.eol_char) }
+    ensures read { IfOk result (λ columns. columns.items ≡ frame_of_rows cuts.quote_char schema.now (rows (marks cuts.separator cuts.quote_char cuts.eol_char) (prefix_of comment_prefix.entry) records.now)) }
+    ensures whole { OnOk result (has_fault cuts.quote_char (types_of schema.now) (rows (marks cuts.separator cuts.quote_char cuts.eol_char) (prefix_of comment_prefix.entry) records.now) ≡ false) }
+    ensures fault { IfErr result (λ fault. fault ≢ RowFault.OutOfMemory → has_fault cuts.quote_char (types_of schema.now) (rows (marks cuts.separator cuts.quote_char cuts.eol_char) (prefix_of comment_prefix.entry) records.now) ≡ true) }
 {
     let mut scratch = Vec::new(alloc);
-    let cuts = Cuts {
-        separator: settings.separator,
-        quote_char: settings.quote_char,
-        eol_char: settings.eol_char,
-    };
-    match add_rows(
-        buffers,
-        records,
-        cuts,
-        settings.comment_prefix.as_ref(),
-        &mut scratch,
-    ) {
+    match add_rows(buffers, records, cuts, comment_prefix, &mut scratch) {
         Ok(()) => {}
         Err(fault) => return Err(fault),
     }
-    match into_columns(alloc, &settings.schema, buffers) {
+    match into_columns(alloc, schema, buffers) {
         Ok(columns) => Ok(columns),
         Err(_) => Err(RowFault::OutOfMemory),
     }
 }
 
 // The frame of the records.
-fn read_records(alloc: Global, records: &[u8], settings: &Settings) -> Result<DataFrame, RowFault>
-    requires carried { list_all is_carried (types_of settings.now.schema) ≡ true }
-    requires distinct { HaveDistinctNames settings.now.schema }
-    requires apart { AreDistinct (marks_of settings.now) }
-    ensures read { IfOk result (λ frame. frame ≡ frame_of_rows settings.now.quote_char settings.now.schema (data_rows settings.now records.now)) }
-    ensures whole { OnOk result (is_faulty settings.now records.now ≡ false) }
-    ensures fault { IfErr result (λ fault. fault ≢ RowFault.OutOfMemory → is_faulty settings.now records.now ≡ true) }
+fn read_records(
+    alloc: Global,
+    records: &[u8],
+    schema: &Schema,
+    cuts: Cuts,
+    comment_prefix: Option<&CommentPrefix>,
+) -> Result<DataFrame, RowFault>
+    requires carried { list_all is_carried (types_of schema.now) ≡ true }
+    requires distinct { HaveDistinctNames schema.now }
+    requires apart { AreDistinct (marks cuts.separator cuts.quote_char cuts.eol_char) }
+    ensures read { IfOk result (λ frame. frame ≡ frame_of_rows cuts.quote_char schema.now (rows (marks cuts.separator cuts.quote_char cuts.eol_char) (prefix_of comment_prefix.entry) records.now)) }
+    ensures whole { OnOk result (has_fault cuts.quote_char (types_of schema.now) (rows (marks cuts.separator cuts.quote_char cuts.eol_char) (prefix_of comment_prefix.entry) records.now) ≡ false) }
+    ensures fault { IfErr result (λ fault. fault ≢ RowFault.OutOfMemory → has_fault cuts.quote_char (types_of schema.now) (rows (marks cuts.separator cuts.quote_char cuts.eol_char) (prefix_of comment_prefix.entry) records.now) ≡ true) }
 {
-    let mut buffers = match init_buffers(alloc, &settings.schema) {
+    let mut buffers = match init_buffers(alloc, schema) {
         Ok(buffers) => buffers,
         Err(_) => return Err(RowFault::OutOfMemory),
     };
-    match columns_of_records(alloc, records, settings, &mut buffers) {
+    match columns_of_records(alloc, records, schema, cuts, comment_prefix, &mut buffers) {
         Ok(columns) => Ok(DataFrame::of_distinct(columns)),
         Err(fault) => Err(fault),
     }

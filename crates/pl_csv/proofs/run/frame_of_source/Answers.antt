@@ -1,30 +1,53 @@
-use Rattle.std.proofs.Common.{sym, ◌∙◌, ap}
+use Rattle.std.proofs.Common.{sym, subst}
 use Rattle.std.specs.Prelude.{Err}
-use Rattle.pl_csv.specs.Reading.{reference_read, is_compressed, is_faulty}
+use Rattle.pl_csv.specs.declared.reading.ReadFault.TheVariants as read_fault
+use Rattle.pl_csv.specs.Reading.{IsRead, IsReadFault}
 use Rattle.pl_csv.proofs.run.frame_of_source.Goals as goal
 
 pub returns-in-Ok-read_frame-clause-frame : goal.returns-in-Ok-read_frame-clause-frame
 returns-in-Ok-read_frame-clause-frame g c =
     let input = c.in-Ok-read_all.input.items in
     record {
-      read = record { schema = c.in-Ok.schema; meaning = c.in-Ok.ensures.schema; input = input; came = c.in-Ok-read_all.ensures.all; end = c.in-Ok-read_all.ensures.end; within = c.in-Ok-read_all.ensures.within };
-      is = ap (reference_read c.in-Ok.schema) (sym c.deref.ensures.value) ∙ c.in-Ok-read_frame.ensures.read;
+      read = record { settings = c.in-Ok.settings; meaning = c.in-Ok.ensures.settings; input = input; came = c.in-Ok-read_all.ensures.all; end = c.in-Ok-read_all.ensures.end; within = c.in-Ok-read_all.ensures.within };
+      is = subst (λ bytes. IsRead c.in-Ok.settings bytes c.in-Ok-read_frame.frame) c.deref.ensures.value c.in-Ok-read_frame.ensures;
+    }
+
+pub returns-in-Err-Dialect-clause-refused : goal.returns-in-Err-Dialect-clause-refused
+returns-in-Err-Dialect-clause-refused g c =
+    let input = c.in-Ok-read_all.input.items in
+    record {
+      read = record { settings = c.in-Ok.settings; meaning = c.in-Ok.ensures.settings; input = input; came = c.in-Ok-read_all.ensures.all; end = c.in-Ok-read_all.ensures.end; within = c.in-Ok-read_all.ensures.within };
+      is = subst (λ bytes. IsReadFault c.in-Ok.settings bytes read_fault.Dialect) c.deref.ensures.value (subst (IsReadFault c.in-Ok.settings c.deref.result.now) c.in-Err-Dialect.field-0-is c.in-Err-Dialect.ensures);
+    }
+
+pub returns-in-Err-Option-clause-refused : goal.returns-in-Err-Option-clause-refused
+returns-in-Err-Option-clause-refused g c =
+    let input = c.in-Ok-read_all.input.items in
+    record {
+      read = record { settings = c.in-Ok.settings; meaning = c.in-Ok.ensures.settings; input = input; came = c.in-Ok-read_all.ensures.all; end = c.in-Ok-read_all.ensures.end; within = c.in-Ok-read_all.ensures.within };
+      is = subst (λ bytes. IsReadFault c.in-Ok.settings bytes read_fault.Option) c.deref.ensures.value (subst (IsReadFault c.in-Ok.settings c.deref.result.now) c.in-Err-Option.field-0-is c.in-Err-Option.ensures);
     }
 
 pub returns-in-Err-Compressed-clause-refused : goal.returns-in-Err-Compressed-clause-refused
 returns-in-Err-Compressed-clause-refused g c =
     let input = c.in-Ok-read_all.input.items in
     record {
-      read = record { schema = c.in-Ok.schema; meaning = c.in-Ok.ensures.schema; input = input; came = c.in-Ok-read_all.ensures.all; end = c.in-Ok-read_all.ensures.end; within = c.in-Ok-read_all.ensures.within };
-      mark = ap is_compressed (sym c.deref.ensures.value) ∙ c.in-Err-Compressed.ensures.compressed (ap Err c.in-Err-Compressed.field-0-is);
+      read = record { settings = c.in-Ok.settings; meaning = c.in-Ok.ensures.settings; input = input; came = c.in-Ok-read_all.ensures.all; end = c.in-Ok-read_all.ensures.end; within = c.in-Ok-read_all.ensures.within };
+      is = subst (λ bytes. IsReadFault c.in-Ok.settings bytes read_fault.Compressed) c.deref.ensures.value (subst (IsReadFault c.in-Ok.settings c.deref.result.now) c.in-Err-Compressed.field-0-is c.in-Err-Compressed.ensures);
+    }
+
+pub returns-in-Err-Skip-clause-refused : goal.returns-in-Err-Skip-clause-refused
+returns-in-Err-Skip-clause-refused g c =
+    let input = c.in-Ok-read_all.input.items in
+    record {
+      read = record { settings = c.in-Ok.settings; meaning = c.in-Ok.ensures.settings; input = input; came = c.in-Ok-read_all.ensures.all; end = c.in-Ok-read_all.ensures.end; within = c.in-Ok-read_all.ensures.within };
+      is = subst (λ bytes. IsReadFault c.in-Ok.settings bytes read_fault.Skip) c.deref.ensures.value (subst (IsReadFault c.in-Ok.settings c.deref.result.now) c.in-Err-Skip.field-0-is c.in-Err-Skip.ensures);
     }
 
 pub returns-in-Err-Record-clause-refused : goal.returns-in-Err-Record-clause-refused
 returns-in-Err-Record-clause-refused g c =
     let input = c.in-Ok-read_all.input.items in
-    let wrong = c.in-Err-Record.ensures.fault (ap Err c.in-Err-Record.field-0-is) in
     record {
-      read = record { schema = c.in-Ok.schema; meaning = c.in-Ok.ensures.schema; input = input; came = c.in-Ok-read_all.ensures.all; end = c.in-Ok-read_all.ensures.end; within = c.in-Ok-read_all.ensures.within };
-      no_mark = ap is_compressed (sym c.deref.ensures.value) ∙ wrong.0;
-      fault = ap (is_faulty c.in-Ok.schema) (sym c.deref.ensures.value) ∙ wrong.1;
+      read = record { settings = c.in-Ok.settings; meaning = c.in-Ok.ensures.settings; input = input; came = c.in-Ok-read_all.ensures.all; end = c.in-Ok-read_all.ensures.end; within = c.in-Ok-read_all.ensures.within };
+      is = subst (λ bytes. IsReadFault c.in-Ok.settings bytes read_fault.Record) c.deref.ensures.value (subst (IsReadFault c.in-Ok.settings c.deref.result.now) c.in-Err-Record.field-0-is c.in-Err-Record.ensures);
     }

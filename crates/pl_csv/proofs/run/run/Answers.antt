@@ -1,31 +1,53 @@
-use Rattle.std.proofs.Common.{map, string_bytes, sym, ◌∙◌, subst}
-use Rattle.pl_csv.specs.Run.{views, IsExpected, expected_status}
-use Rattle.pl_csv.proofs.RunLaws.{expected-converted, expected-refused, compressed-refused, faulty-refused}
+use Rattle.std.proofs.Common.{map, string_bytes, sym, ◌∙◌, subst, inl, refl}
+use Rattle.pl_csv.specs.Run.{views, IsExpected}
+use Rattle.pl_csv.proofs.RunLaws.{valid-refused, refused-as}
 use Rattle.pl_csv.proofs.run.run.Goals as goal
 
-pub returns-in-Ok-clause-expected : goal.returns-in-Ok-clause-expected
-returns-in-Ok-clause-expected g c = λ input told.
-    let before = views (g.So.Source.left c.args.source.now) (g.Si.Sink.received c.args.out.now) (g.So.Source.faults c.args.source.now) (g.Si.Sink.faults c.args.out.now) in
-    let now = views (g.So.Source.left c.convert.new.source) (g.Si.Sink.received c.convert.new.out) (g.So.Source.faults c.convert.new.source) (g.Si.Sink.faults c.convert.new.out) in
-    expected-converted (map string_bytes c.args.words.now) before now input c.in-Ok.ensures.converted told
-
-pub returns-in-Err-clause-expected : goal.returns-in-Err-clause-expected
-returns-in-Err-clause-expected g c = λ input told.
+pub returns-in-Err-clause-valid : goal.returns-in-Err-clause-valid
+returns-in-Err-clause-valid g c = λ input told valid.
     let words = map string_bytes c.args.words.now in
     let before = views (g.So.Source.left c.args.source.now) (g.Si.Sink.received c.args.out.now) (g.So.Source.faults c.args.source.now) (g.Si.Sink.faults c.args.out.now) in
     let now = views (g.So.Source.left c.convert.new.source) (g.Si.Sink.received c.convert.new.out) (g.So.Source.faults c.convert.new.source) (g.Si.Sink.faults c.convert.new.out) in
-    subst (λ s. IsExpected (expected_status words input) s before now) (sym c.status.ensures) (expected-refused words before now input c.in-Err.refusal c.in-Err.ensures.refused told)
+    subst (λ s. IsExpected s before now) (sym c.status.ensures) (valid-refused words before now input c.in-Err.refusal c.in-Err.ensures.refused told valid)
+
+pub returns-in-Err-clause-dialect : goal.returns-in-Err-clause-dialect
+returns-in-Err-clause-dialect g c = λ e.
+    let words = map string_bytes c.args.words.now in
+    let before = views (g.So.Source.left c.args.source.now) (g.Si.Sink.received c.args.out.now) (g.So.Source.faults c.args.source.now) (g.Si.Sink.faults c.args.out.now) in
+    let now = views (g.So.Source.left c.convert.new.source) (g.Si.Sink.received c.convert.new.out) (g.So.Source.faults c.convert.new.source) (g.Si.Sink.faults c.convert.new.out) in
+    refused-as words before now c.in-Err.refusal 11 c.in-Err.ensures.refused (sym c.status.ensures ∙ e)
+
+pub returns-in-Err-clause-option : goal.returns-in-Err-clause-option
+returns-in-Err-clause-option g c = λ e.
+    let words = map string_bytes c.args.words.now in
+    let before = views (g.So.Source.left c.args.source.now) (g.Si.Sink.received c.args.out.now) (g.So.Source.faults c.args.source.now) (g.Si.Sink.faults c.args.out.now) in
+    let now = views (g.So.Source.left c.convert.new.source) (g.Si.Sink.received c.convert.new.out) (g.So.Source.faults c.convert.new.source) (g.Si.Sink.faults c.convert.new.out) in
+    refused-as words before now c.in-Err.refusal 12 c.in-Err.ensures.refused (sym c.status.ensures ∙ e)
 
 pub returns-in-Err-clause-compressed : goal.returns-in-Err-clause-compressed
 returns-in-Err-clause-compressed g c = λ e.
     let words = map string_bytes c.args.words.now in
     let before = views (g.So.Source.left c.args.source.now) (g.Si.Sink.received c.args.out.now) (g.So.Source.faults c.args.source.now) (g.Si.Sink.faults c.args.out.now) in
     let now = views (g.So.Source.left c.convert.new.source) (g.Si.Sink.received c.convert.new.out) (g.So.Source.faults c.convert.new.source) (g.Si.Sink.faults c.convert.new.out) in
-    compressed-refused words before now c.in-Err.refusal c.in-Err.ensures.refused (sym c.status.ensures ∙ e)
+    refused-as words before now c.in-Err.refusal 14 c.in-Err.ensures.refused (sym c.status.ensures ∙ e)
+
+pub returns-in-Err-clause-skip : goal.returns-in-Err-clause-skip
+returns-in-Err-clause-skip g c = λ e.
+    let words = map string_bytes c.args.words.now in
+    let before = views (g.So.Source.left c.args.source.now) (g.Si.Sink.received c.args.out.now) (g.So.Source.faults c.args.source.now) (g.Si.Sink.faults c.args.out.now) in
+    let now = views (g.So.Source.left c.convert.new.source) (g.Si.Sink.received c.convert.new.out) (g.So.Source.faults c.convert.new.source) (g.Si.Sink.faults c.convert.new.out) in
+    refused-as words before now c.in-Err.refusal 20 c.in-Err.ensures.refused (sym c.status.ensures ∙ e)
 
 pub returns-in-Err-clause-faulty : goal.returns-in-Err-clause-faulty
 returns-in-Err-clause-faulty g c = λ e.
     let words = map string_bytes c.args.words.now in
     let before = views (g.So.Source.left c.args.source.now) (g.Si.Sink.received c.args.out.now) (g.So.Source.faults c.args.source.now) (g.Si.Sink.faults c.args.out.now) in
     let now = views (g.So.Source.left c.convert.new.source) (g.Si.Sink.received c.convert.new.out) (g.So.Source.faults c.convert.new.source) (g.Si.Sink.faults c.convert.new.out) in
-    faulty-refused words before now c.in-Err.refusal c.in-Err.ensures.refused (sym c.status.ensures ∙ e)
+    refused-as words before now c.in-Err.refusal 24 c.in-Err.ensures.refused (sym c.status.ensures ∙ e)
+
+pub returns-in-Err-clause-sink_fault : goal.returns-in-Err-clause-sink_fault
+returns-in-Err-clause-sink_fault g c = λ e.
+    let words = map string_bytes c.args.words.now in
+    let before = views (g.So.Source.left c.args.source.now) (g.Si.Sink.received c.args.out.now) (g.So.Source.faults c.args.source.now) (g.Si.Sink.faults c.args.out.now) in
+    let now = views (g.So.Source.left c.convert.new.source) (g.Si.Sink.received c.convert.new.out) (g.So.Source.faults c.convert.new.source) (g.Si.Sink.faults c.convert.new.out) in
+    refused-as words before now c.in-Err.refusal 4 c.in-Err.ensures.refused (sym c.status.ensures ∙ e)

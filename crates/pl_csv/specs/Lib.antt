@@ -9,3 +9,4 @@ pub mod Frames
 pub mod Words
 pub mod Writing
 pub mod Run
+pub mod Counting

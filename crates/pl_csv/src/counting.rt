@@ -1,5 +1,5 @@
 //! How many rows the text at a path has.
-ghost use Rattle.std.specs.Prelude.{◌≡◌, ◌↔◌, ◌≤◌, ℕ, List, true, false, Some, Err, IfOk, IfErr, IsErrOf};
+ghost use Rattle.std.specs.Prelude.{◌≡◌, ◌↔◌, ◌≤◌, ◌⊎◌, ℕ, List, true, false, Some, Err, IfOk, IfErr, IsErrOf};
 ghost use Rattle.pl_frame.specs.Causes.{Rose};
 ghost use Rattle.pl_frame.specs.Dialect.{marks, IsDialect};
 ghost use Rattle.pl_frame.specs.declared.error.PolarsError.TheVariants as error;
@@ -21,11 +21,7 @@ use std::alloc::Global;
 const LIMIT: usize = 1 << 36;
 
 // All bytes at a path. The source is closed before the answer.
-fn read_path<O: Opener>(
-    alloc: Global,
-    opener: &mut O,
-    path: &str,
-) -> Result<Vec<u8>, ReadAllFault>
+fn read_path<O: Opener>(alloc: Global, opener: &mut O, path: &str) -> Result<Vec<u8>, ReadAllFault>
     ensures read { IfOk result (λ bytes. IsHeld (O.holds opener.old path.now) bytes.items) }
     ensures failed { IsErrOf result ReadAllFault.Source → Rose (O.faults opener.old) (O.faults opener.new) }
     ensures later { O.faults opener.old ≤ O.faults opener.new }
@@ -52,6 +48,10 @@ fn count_rows_of_bytes(
     ensures dialect { (result ≡ Err no_dialect) ↔ (¬ IsDialect (marks separator quote_char eol_char) (prefix_of comment_prefix.entry)) }
     ensures answer { IsDialect (marks separator quote_char eol_char) (prefix_of comment_prefix.entry)
         → result ≡ counted has_header (marks separator quote_char eol_char) (prefix_of comment_prefix.entry) bytes.now }
+    ensures rows { IfOk result (λ n. IsDialect (marks separator quote_char eol_char) (prefix_of comment_prefix.entry) × (is_compressed bytes.now ≡ false)
+        × (row_count has_header (marks separator quote_char eol_char) (prefix_of comment_prefix.entry) bytes.now ≡ n)) }
+    ensures compressed { IsErrOf result compressed → IsDialect (marks separator quote_char eol_char) (prefix_of comment_prefix.entry) × (is_compressed bytes.now ≡ true) }
+    ensures known { IfErr result (λ fault. (fault ≡ no_dialect) ⊎ (fault ≡ compressed)) }
 {
     if !dialect_ok(separator, quote_char, eol_char, comment_prefix) {
         return Err(PolarsError::InvalidOperation(OpFault::Dialect));
@@ -117,4 +117,65 @@ pub fn count_rows<O: Opener>(
         eol_char,
         has_header,
     )
+}
+
+#[cfg(test)]
+mod tests {
+    use super::*;
+    use pl_frame::opener::{MemOpener, PipeOpener};
+
+    const GZIP: &[u8] = &[0x1F, 0x8B];
+
+    // The answer under commas and double quotes, with a header.
+    fn count<O: Opener>(alloc: Global, opener: &mut O, path: &str) -> PolarsResult<usize> {
+        count_rows(alloc, opener, path, b',', Some(b'"'), None, b'\n', true)
+    }
+
+    #[test]
+    fn rows_of_held_paths(rt: HostRuntime) {
+        let alloc = rt.alloc();
+        let entries: [(&str, &[u8]); 2] = [("f", b"a\n1\n"), ("z", GZIP)];
+        let mut opener = MemOpener::new(&entries);
+        assert_eq!(rt; count(alloc, &mut opener, "f").ok(), Some(1));
+        assert!(rt; matches!(count(alloc, &mut opener, "g"), Err(PolarsError::IO)));
+        let zipped = count(alloc, &mut opener, "z");
+        assert!(rt;
+            matches!(
+                zipped,
+                Err(PolarsError::ComputeError(ComputeFault::Compressed))
+            )
+        );
+        let same = count_rows(alloc, &mut opener, "z", b',', Some(b','), None, b'\n', true);
+        assert!(rt; matches!(same, Err(PolarsError::InvalidOperation(OpFault::Dialect))));
+    }
+
+    #[test]
+    fn source_that_fails_at_each_call(rt: HostRuntime) {
+        let alloc = rt.alloc();
+        let entries: [(&str, &[u8]); 1] = [("f", b"a\n1\n")];
+        for call in 0..5 {
+            let fails = [call];
+            let mut opener = PipeOpener::new(&entries, 1, &fails);
+            let failed = count(alloc, &mut opener, "f");
+            assert!(rt; matches!(failed, Err(PolarsError::IO)), "at call {call}");
+            let missing = count(alloc, &mut opener, "g");
+            assert!(rt; matches!(missing, Err(PolarsError::IO)));
+            let no_dialect = count_rows(
+                alloc,
+                &mut opener,
+                "f",
+                b',',
+                Some(b','),
+                None,
+                b'\n',
+                true,
+            );
+            assert!(rt;
+                matches!(no_dialect, Err(PolarsError::IO)),
+                "at call {call}"
+            );
+        }
+        let mut opener = PipeOpener::new(&entries, 1, &[5]);
+        assert_eq!(rt; count(alloc, &mut opener, "f").ok(), Some(1));
+    }
 }

@@ -1,6 +1,6 @@
 -- What contracts see of openers.
 use Rattle.std.specs.Borrow.{Bor}
-use Rattle.std.specs.Prelude.{◌≡◌, ℕ, ◌<◌, List, Option, map, find}
+use Rattle.std.specs.Prelude.{◌≡◌, ℕ, ◌<◌, ◌≤◌, List, Option, map, find}
 use Rattle.std.specs.Option.{option_map}
 use Rattle.std.specs.Str.{bytes_eq}
 use Rattle.pl_frame.specs.Causes.{Rose}
@@ -10,8 +10,9 @@ pub record IsOpened (bytes left : Option (List ℕ)) (faults : ℕ) : Type 0 whe
   pub whole : left ≡ bytes
   pub fresh : faults ≡ 0
 
--- the count of an opener rises where the source that it takes back had failed, and stays where it had not
+-- the count of an opener never falls, rises where the source that it takes back had failed, and stays where it had not
 pub record Closes (failed before now : ℕ) : Type 0 where
+  pub later : before ≤ now
   pub rises : 0 < failed → Rose before now
   pub stays : failed ≡ 0 → now ≡ before
 

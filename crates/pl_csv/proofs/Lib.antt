@@ -1,3 +1,4 @@
+pub mod CountingLaws
 pub mod FaultLaws
 pub mod FrameLaws
 pub mod IntegerLaws

@@ -10,3 +10,4 @@ pub mod Frames
 pub mod Words
 pub mod Writing
 pub mod Run
+pub mod Counting

@@ -1,14 +1,19 @@
-//! Readers and writers of the standard library as sources and sinks.
+//! Readers, writers and files of the standard library as sources, sinks and an opener.
 //!
-//! They tell no content to callers that see a source or a sink: what passes here is the trusted edge of the program.
+//! They tell no content to callers that see a source, a sink or an opener: what passes here is the trusted edge of the
+//! program.
 ghost use Rattle.std.specs.Prelude.{◌≡◌, ℕ, ◌<◌, ◌≤◌, List, length, take, None, IfOk, OnOk, IsErrOf, IsOkUnless};
 ghost use Rattle.std.specs.Io.{ReadsAtMost};
 ghost use Rattle.std.specs.Io.KnownBytes.{Appends, ReadConsumes, WriteAppends};
 ghost use Rattle.pl_frame.specs.Causes.{Rose, HasCause, TakesSome};
-ghost use Rattle.pl_frame.specs.Outside.{RisesAtErr};
+ghost use Rattle.pl_frame.specs.Opening.{IsOpened, Closes};
+ghost use Rattle.pl_frame.specs.Outside.{raised, RisesAtErr};
 
+use pl_frame::opener::Opener;
 use pl_frame::sink::{Sink, SinkFault};
 use pl_frame::source::{Failed, Source};
+use std::fs;
+use std::fs::Files;
 use std::io::{Read, Write};
 use std::marker::Model;
 
@@ -56,6 +61,64 @@ impl<R: Read> Source for ReadSource<R> {
                 self.faults = self.faults.saturating_add(1);
                 Err(Failed)
             }
+        }
+    }
+}
+
+/// The files of a file system as an opener, which counts each error and each source that failed. Contracts see it as the
+/// file system and the count.
+#[derive(Drop)]
+pub struct FsOpener<F: Files> {
+    files: F,
+    faults: u64,
+}
+
+impl<F: Files> Model for FsOpener<F> {
+    ghost use Rattle.std.specs.Prelude.{ℕ};
+
+    ghost Value = { F × ℕ };
+
+    ghost view = { λ opener. (opener.files, opener.faults) };
+}
+
+impl<F: Files> FsOpener<F> {
+    /// An opener of the files of this file system.
+    pub fn new(files: F) -> Self
+        ensures { result ≡ (files, 0) }
+    {
+        FsOpener { files, faults: 0 }
+    }
+}
+
+impl<F: Files> Opener for FsOpener<F> {
+    type Opened = ReadSource<F::File>;
+
+    ghost holds = { λ _ _. None };
+
+    ghost faults = { λ opener. opener.1 };
+
+    fn open_path(&mut self, path: &str) -> Result<ReadSource<F::File>, Failed>
+        ensures opened { IfOk result (λ opened. IsOpened None None opened.1) }
+        ensures cause { HasCause self.old.1 self.new.1 result }
+
+        // Each error of the file system is counted once.
+        ensures counted { RisesAtErr self.old.1 self.new.1 result }
+    {
+        let Ok(file) = fs::open(&self.files, path) else {
+            self.faults = self.faults.saturating_add(1);
+            return Err(Failed);
+        };
+        Ok(ReadSource::new(file))
+    }
+
+    fn close(&mut self, opened: ReadSource<F::File>)
+        ensures counted { Closes opened.1 self.old.1 self.new.1 }
+
+        // A source that has failed is counted once.
+        ensures failed { 0 < opened.1 → self.new.1 ≡ raised self.old.1 }
+    {
+        if opened.faults > 0 {
+            self.faults = self.faults.saturating_add(1);
         }
     }
 }
@@ -123,7 +186,9 @@ impl<W: Write> Sink for WriteSink<W> {
 #[cfg(test)]
 mod tests {
     use super::*;
+    use crate::counting::count_rows;
     use crate::read_all::{ReadAllFault, read_all};
+    use pl_frame::error::PolarsError;
     use pl_frame::sink::write_all;
     use std::io;
     use std::test::Fail;
@@ -157,6 +222,19 @@ mod tests {
         }
         let failed = read_all(rt.alloc(), &mut ReadSource::new(Broken), 5);
         assert!(rt; matches!(failed, Err(ReadAllFault::Source)));
+        Ok(())
+    }
+
+    #[test]
+    fn files_are_opened_and_faults_counted(rt: HostRuntime) -> Result<(), Fail> {
+        let path = "/tmp/pl_csv_files_are_opened.csv";
+        fs::write(&rt, path, "a\n1\n")?;
+        let mut opener = FsOpener::new(&rt);
+        let rows = count_rows(rt.alloc(), &mut opener, path, b',', None, None, b'\n', true);
+        fs::remove_file(&rt, path)?;
+        assert_eq!(rt; rows.ok(), Some(1));
+        let rows = count_rows(rt.alloc(), &mut opener, path, b',', None, None, b'\n', true);
+        assert!(rt; matches!(rows, Err(PolarsError::IO)));
         Ok(())
     }
 

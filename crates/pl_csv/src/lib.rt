@@ -3,6 +3,8 @@
 
 pub mod adapters;
 mod buffer;
+mod compression;
+pub mod counting;
 mod frames;
 mod integers;
 mod quoting;

@@ -4,6 +4,7 @@ pub mod Columns
 pub mod Dialect
 pub mod Frame
 pub mod Names
+pub mod Opening
 pub mod Optional
 pub mod Outside
 pub mod Schema

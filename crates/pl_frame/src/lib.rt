@@ -8,6 +8,7 @@ pub mod error;
 pub mod frame;
 pub mod name;
 pub mod numbers;
+pub mod opener;
 pub mod schema;
 pub mod sink;
 pub mod source;

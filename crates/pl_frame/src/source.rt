@@ -1,5 +1,5 @@
 //! Where bytes come from.
-ghost use Rattle.std.specs.Prelude.{◌≡◌, ℕ, ◌+◌, ◌<◌, ◌↔◌, min, List, [], length, Option, Some, drop, IsErr, IfOk, Ok, Contains};
+ghost use Rattle.std.specs.Prelude.{◌≡◌, ℕ, ◌+◌, ◌<◌, ◌↔◌, min, List, [], length, Option, Some, drop, IsErr, IsTrue, IfOk, Ok, Contains};
 ghost use Rattle.std.specs.Io.{ReadsAtMost};
 ghost use Rattle.std.specs.Io.KnownBytes.{ReadConsumes};
 ghost use Rattle.pl_frame.specs.Causes.{HasCause};
@@ -148,6 +148,13 @@ impl<'a> PipeSource<'a> {
             calls: 0,
             faults: 0,
         }
+    }
+
+    /// Whether a read has failed.
+    pub fn has_failed(&self) -> bool
+        ensures { IsTrue result ↔ (0 < self.now.faults) }
+    {
+        self.faults > 0
     }
 }
 

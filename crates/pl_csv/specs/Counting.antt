@@ -1,0 +1,38 @@
+-- What counting the rows at a path answers (docs/grammar.md, "Counting rows").
+use Rattle.std.specs.Prelude.{◌≡◌, ℕ, ◌⊎◌, Bool, if◌then◌else◌, List, Option, None, Some, Result, Ok, Err}
+use Rattle.pl_frame.specs.Causes.{Rose}
+use Rattle.pl_frame.specs.Dialect.{Marks}
+use Rattle.pl_frame.specs.declared.error.PolarsError.{PolarsError}
+use Rattle.pl_frame.specs.declared.error.PolarsError.TheVariants as error
+use Rattle.pl_frame.specs.declared.error.OpFault.TheVariants as op_fault
+use Rattle.pl_frame.specs.declared.error.ComputeFault.TheVariants as compute_fault
+use Rattle.pl_scan.specs.RowCount.{row_count}
+use Rattle.pl_csv.specs.Reading.{is_compressed}
+
+-- these are the bytes at a path, where they are told
+abbrev pub IsHeld : Option (List ℕ) → List ℕ → Type 0
+IsHeld None bytes = Unit {0}
+IsHeld (Some held) bytes = held ≡ bytes
+
+-- bytes that are those at a path, where they are told, and of which this holds
+abbrev pub HoldsSome : Option (List ℕ) → (List ℕ → Type 0) → Type 0
+HoldsSome held P = (bytes : List ℕ) × IsHeld held bytes × P bytes
+
+abbrev pub no_dialect : PolarsError
+no_dialect = error.InvalidOperation op_fault.Dialect
+
+abbrev pub compressed : PolarsError
+compressed = error.ComputeError compute_fault.Compressed
+
+-- what bytes have under a dialect: the refusal of a compressed stream, or else the number of rows
+abbrev pub counted : Bool → Marks → Option (List ℕ) → List ℕ → Result ℕ PolarsError
+counted has_header m comment bytes = if is_compressed bytes then Err compressed else Ok (row_count has_header m comment bytes)
+
+-- this answer, or want of memory, or a fault of the opener whose count rose
+abbrev pub AnswersUnlessFailed : Result ℕ PolarsError → Result ℕ PolarsError → ℕ → ℕ → Type 0
+AnswersUnlessFailed result expected before now =
+    (result ≡ expected) ⊎ (result ≡ Err error.OutOfMemory) ⊎ ((result ≡ Err error.IO) × Rose before now)
+
+-- the faults that counting the rows at a path may have
+abbrev pub IsCountFault : PolarsError → Type 0
+IsCountFault fault = (fault ≡ error.IO) ⊎ (fault ≡ no_dialect) ⊎ (fault ≡ compressed) ⊎ (fault ≡ error.OutOfMemory)

@@ -8,9 +8,10 @@ ghost use Rattle.pl_scan.specs.Comment.{prefix_of};
 ghost use Rattle.pl_csv.specs.Buffers.{is_carried};
 ghost use Rattle.pl_csv.specs.Rows.{states};
 ghost use Rattle.pl_csv.specs.Frames.{empty_states};
-ghost use Rattle.pl_csv.specs.Reading.{types_of, is_compressed, data_of, rows, has_fault, frame_of_rows, IsRead, IsReadFault};
+ghost use Rattle.pl_csv.specs.Reading.{types_of, data_of, rows, has_fault, frame_of_rows, IsRead, IsReadFault};
 
 use crate::buffer::Buffer;
+use crate::compression::has_compression_mark;
 use crate::frames::{init_buffers, into_columns};
 use crate::rows::{Cuts, RowFault, add_rows};
 use crate::settings::Settings;
@@ -38,23 +39,8 @@ pub enum ReadFault {
     OutOfMemory,
 }
 
-// Whether the input begins with the mark of a compressed stream.
-fn has_compression_mark(input: &[u8]) -> bool
-    ensures { result ≡ is_compressed input.now }
-{
-    input.starts_with(&[0x1F, 0x8B])
-        || input.starts_with(&[0x78, 0x01])
-        || input.starts_with(&[0x78, 0x9C])
-        || input.starts_with(&[0x78, 0xDA])
-        || input.starts_with(&[0x28, 0xB5, 0x2F, 0xFD])
-}
-
 // What stands from the starting point on, where there is one.
-fn data_from_start<'a>(
-    input: &'a [u8],
-    settings: &Settings,
-    columns: usize,
-) -> Option<&'a [u8]>
+fn data_from_start<'a>(input: &'a [u8], settings: &Settings, columns: usize) -> Option<&'a [u8]>
     requires { columns ≡ length settings.now.schema }
     ensures { option_copied result ≡ data_of settings.now input.now }
 {
@@ -74,11 +60,7 @@ fn data_from_start<'a>(
 
 /// The frame that an input means. Refuses, in this order, marks that are no dialect, lines and rows that are both to be
 /// skipped, a compressed input, fewer items than are to be skipped, and a record with a fault; and want of memory.
-pub fn read_frame(
-    alloc: Global,
-    input: &[u8],
-    settings: &Settings,
-) -> Result<DataFrame, ReadFault>
+pub fn read_frame(alloc: Global, input: &[u8], settings: &Settings) -> Result<DataFrame, ReadFault>
     requires { list_all is_carried (types_of settings.now.schema) ≡ true }
     ensures { MatchResult result (IsRead settings.now input.now) (IsReadFault settings.now input.now) }
 {

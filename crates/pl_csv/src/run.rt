@@ -150,7 +150,7 @@ fn convert<So: Source, Si: Sink>(
 /// Reads CSV from a source under the schema that the words give, writes the text of its frame to `out`, and answers the
 /// status: 0 only where the reference read of the input exists, and `out` then received exactly the text of its frame.
 ///
-/// The words are `--schema` and the text of a schema. Another status has its cause: 2 words without a meaning; 3 a fault
+/// docs/command-line.md has the words. Another status has its cause: 2 words without a meaning; 3 a fault
 /// of the source; 4 one of `out`, which then received a prefix of the text; 5 want of memory, with a prefix of the text
 /// or nothing received; 6 an input of more than 2^36 bytes; 11 marks that are no dialect; 12 lines and rows that are both
 /// to be skipped; 14 a compressed input; 20 fewer items than are to be skipped; 24 a record with a fault. At 2, 3, 6 and
@@ -209,26 +209,28 @@ mod tests {
     use std::alloc::AllocError;
     use std::test::Fail;
 
-    const TWO_COLUMNS: &str = "a:int64,b:string";
+    const TWO_COLUMNS: &str = "--schema a:int64,b:string";
 
     const ROW: &str = "a,b\n1,x\n2,\n";
 
-    fn words_for(alloc: Global, schema: &str) -> Result<Vec<String>, AllocError> {
+    // The words of a line stand between blanks.
+    fn words_for(alloc: Global, line: &str) -> Result<Vec<String>, AllocError> {
         let mut words = Vec::new(alloc);
-        words.push(String::from_str(alloc, "--schema")?)?;
-        words.push(String::from_str(alloc, schema)?)?;
+        for word in line.split(' ') {
+            words.push(String::from_str(alloc, word)?)?;
+        }
         Ok(words)
     }
 
     // The status, and whether these are what the two sinks received.
     fn converts(
         alloc: Global,
-        schema: &str,
+        words: &str,
         input: &[u8],
         out: &[u8],
         line: &[u8],
     ) -> Result<(u8, bool), AllocError> {
-        let words = words_for(alloc, schema)?;
+        let words = words_for(alloc, words)?;
         let mut source = MemSource::new(input);
         let mut sink = MemSink::new(alloc);
         let mut err = MemSink::new(alloc);
@@ -239,37 +241,32 @@ mod tests {
     #[test]
     fn inputs_under_a_schema(rt: HostRuntime) -> Result<(), Fail> {
         let alloc = rt.alloc();
+        let none = b"".as_slice();
         let record = b"refusal 14 record\n".as_slice();
-        for (schema, input, out, line, status) in [
-            (TWO_COLUMNS, ROW, ROW, b"".as_slice(), 0),
-            (TWO_COLUMNS, "", "a,b\n", b"".as_slice(), 0),
+        for (words, input, out, line, status) in [
+            (TWO_COLUMNS, ROW, ROW, none, 0),
+            (TWO_COLUMNS, "", "a,b\n", none, 0),
             (
                 TWO_COLUMNS,
                 "a,b\r\n1,\"x\"\r\n\r\n2,y\r\n",
                 "a,b\n1,x\n,\n2,y\n",
-                b"".as_slice(),
+                none,
                 0,
             ),
             (
-                "a:int64,b:int64",
+                "--schema a:int64,b:int64",
                 "a,b\n1,2,",
                 "a,b\n1,2\n",
-                b"".as_slice(),
+                none,
                 0,
             ),
-            ("a:int64,b:int64", "a,b\n1,2,\n", "", record, 24),
-            (
-                "a:int64",
-                "a\n 7\n\" 7\"\n \t\n\"\"\n",
-                "a\n7\n7\n\n\n",
-                b"".as_slice(),
-                0,
-            ),
-            ("t:string", "t\n\"", "", record, 24),
-            ("a:int8", ROW, "", b"words\n".as_slice(), 2),
+            ("--schema a:int64,b:int64", "a,b\n1,2,\n", "", record, 24),
+            ("--schema=t:string", "t\n\"", "", record, 24),
+            ("--schema a:int8", ROW, "", b"words\n", 2),
+            ("--no-header", ROW, "", b"words\n", 2),
         ] {
-            let answer = converts(alloc, schema, input.as_bytes(), out.as_bytes(), line)?;
-            assert_eq!(rt; answer, (status, true), "at {input:?} under {schema}");
+            let answer = converts(alloc, words, input.as_bytes(), out.as_bytes(), line)?;
+            assert_eq!(rt; answer, (status, true), "at {input:?} under {words}");
         }
         let gzip = converts(
             alloc,
@@ -279,6 +276,102 @@ mod tests {
             b"refusal 4 compressed\n",
         )?;
         assert_eq!(rt; gzip, (14, true));
+        Ok(())
+    }
+
+    #[test]
+    fn inputs_without_header_under_options(rt: HostRuntime) -> Result<(), Fail> {
+        let alloc = rt.alloc();
+        let none = b"".as_slice();
+        for (words, input, out, line, status) in [
+            (
+                "--schema t:string --no-header",
+                "x\"y\n\"c\nd\"\n",
+                "t\n\"x\"\"y\"\n\"c\nd\"\n",
+                none,
+                0,
+            ),
+            (
+                "--schema a:int64 --no-header",
+                " 7\n\" 7\"\n \t\n\"\"\n",
+                "a\n7\n7\n\n\n",
+                none,
+                0,
+            ),
+            (
+                "--schema a:int64 --no-header --comment #",
+                "#\"\n1\n#\"\n2\n",
+                "a\n1\n2\n",
+                none,
+                0,
+            ),
+            (
+                "--no-header --skip-rows 2 --schema a:int64",
+                "1\n2\n",
+                "a\n",
+                none,
+                0,
+            ),
+            (
+                "--schema a:int64 --no-header --skip-rows=3",
+                "1\n2\n",
+                "",
+                b"refusal 10 skip\n",
+                20,
+            ),
+            (
+                "--schema a:int64 --no-header --sep x22",
+                "1\n",
+                "",
+                b"refusal 1 dialect\n",
+                11,
+            ),
+            (
+                "--schema a:int64 --no-header --sep ab",
+                "1\n",
+                "",
+                b"words\n",
+                2,
+            ),
+            (
+                "--schema a:int64 --no-header --skip-rows 1 --skip-lines 1",
+                "1\n",
+                "",
+                b"refusal 2 option\n",
+                12,
+            ),
+            (
+                "--schema a:string,b:int64 --no-header --sep | --quote ' --eol ;",
+                "'x;y'|1;'z'|2;",
+                "a,b\nx;y,1\nz,2\n",
+                none,
+                0,
+            ),
+            (
+                "--schema a:int64 --no-header --eol x0D",
+                "1\r2\r",
+                "a\n1\n2\n",
+                none,
+                0,
+            ),
+            (
+                "--schema a:string,b:string --no-header --quote=none",
+                "\"a,b\"\n",
+                "a,b\n\"\"\"a\",\"b\"\"\"\n",
+                none,
+                0,
+            ),
+            (
+                "--schema a:int64,b:int64 --skip-lines=1 --skip-after 1",
+                "junk\na,b\n1,2\n3,4\n",
+                "a,b\n3,4\n",
+                none,
+                0,
+            ),
+        ] {
+            let answer = converts(alloc, words, input.as_bytes(), out.as_bytes(), line)?;
+            assert_eq!(rt; answer, (status, true), "at {input:?} under {words}");
+        }
         Ok(())
     }
 
@@ -335,7 +428,7 @@ mod tests {
     #[test]
     fn failing_error_sink_cuts_the_line_short(rt: HostRuntime) -> Result<(), Fail> {
         let alloc = rt.alloc();
-        let words = words_for(alloc, "a:int8")?;
+        let words = words_for(alloc, "--sep ab")?;
         let mut source = MemSource::new(ROW.as_bytes());
         let mut sink = MemSink::new(alloc);
         let mut err = PipeSink::new(alloc, 1, &[2]);

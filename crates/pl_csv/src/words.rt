@@ -431,8 +431,43 @@ mod tests {
         }
     }
 
+    // What a test compares of settings.
+    #[derive(Clone, Copy, Debug, PartialEq, Eq)]
+    struct Meant {
+        columns: usize,
+        separator: u8,
+        quote_char: Option<u8>,
+        eol_char: u8,
+        comment_length: Option<usize>,
+        has_header: bool,
+        skip_lines: usize,
+        skip_rows: usize,
+        skip_rows_after_header: usize,
+    }
+
+    // The settings of one column with nothing else given.
+    const PLAIN: Meant = Meant {
+        columns: 1,
+        separator: b',',
+        quote_char: Some(b'"'),
+        eol_char: b'\n',
+        comment_length: None,
+        has_header: true,
+        skip_lines: 0,
+        skip_rows: 0,
+        skip_rows_after_header: 0,
+    };
+
+    fn comment_length(prefix: &Option<CommentPrefix>) -> Option<usize> {
+        match prefix {
+            Some(CommentPrefix::Single(_)) => Some(1),
+            Some(CommentPrefix::Multi(text)) => Some(text.as_str().len()),
+            None => None,
+        }
+    }
+
     // The words of a line stand between blanks.
-    fn width_of_line(alloc: Global, line: &str) -> Result<usize, WordsFault> {
+    fn meant_by_line(alloc: Global, line: &str) -> Result<Meant, WordsFault> {
         let mut words = Vec::new(alloc);
         for word in line.split(' ') {
             let Ok(word) = String::from_str(alloc, word) else {
@@ -443,13 +478,23 @@ mod tests {
             }
         }
         match parse_words(alloc, words.as_slice()) {
-            Ok(settings) => Ok(settings.schema.len()),
+            Ok(settings) => Ok(Meant {
+                columns: settings.schema.len(),
+                separator: settings.separator,
+                quote_char: settings.quote_char,
+                eol_char: settings.eol_char,
+                comment_length: comment_length(&settings.comment_prefix),
+                has_header: settings.has_header,
+                skip_lines: settings.skip_lines,
+                skip_rows: settings.skip_rows,
+                skip_rows_after_header: settings.skip_rows_after_header,
+            }),
             Err(fault) => Err(fault),
         }
     }
 
     #[test]
-    fn schema_texts_and_words(rt: HostRuntime) -> Result<(), Fail> {
+    fn schema_texts(rt: HostRuntime) -> Result<(), Fail> {
         let alloc = rt.alloc();
         let refused = Err(WordsFault::Words);
         for (text, columns) in [
@@ -464,15 +509,86 @@ mod tests {
         ] {
             assert_eq!(rt; width(parse_schema(alloc, text)), columns, "at {text}");
         }
-        for (line, columns) in [
-            ("--schema a:int64", Ok(1)),
-            ("--schema", refused),
-            ("--schema a:int64 b:int64", refused),
-            ("--schemas a:int64", refused),
-            ("--schema -a:int64", refused),
-            ("--schema ", refused),
+        Ok(())
+    }
+
+    #[test]
+    fn words_with_a_meaning(rt: HostRuntime) -> Result<(), Fail> {
+        let alloc = rt.alloc();
+        for (line, meant) in [
+            ("--schema a:int64", PLAIN),
+            ("--schema=a:int64,b:string", Meant { columns: 2, ..PLAIN }),
+            ("--schema=-=:int64", PLAIN),
+            ("--schema a:int64 --sep ;", Meant { separator: b';', ..PLAIN }),
+            ("--sep=x --schema a:int64", Meant { separator: b'x', ..PLAIN }),
+            ("--sep x22 --schema a:int64", Meant { separator: b'"', ..PLAIN }),
+            ("--sep== --schema a:int64", Meant { separator: b'=', ..PLAIN }),
+            ("--sep=- --schema a:int64", Meant { separator: b'-', ..PLAIN }),
+            ("--schema a:int64 --quote none", Meant { quote_char: None, ..PLAIN }),
+            ("--schema a:int64 --quote='", Meant { quote_char: Some(39), ..PLAIN }),
+            ("--schema a:int64 --eol xC3", Meant { eol_char: 195, ..PLAIN }),
+            ("--schema a:int64 --eol=x0d", Meant { eol_char: 13, ..PLAIN }),
+            ("--comment # --schema a:int64", Meant { comment_length: Some(1), ..PLAIN }),
+            ("--comment=-- --schema a:int64", Meant { comment_length: Some(2), ..PLAIN }),
+            ("--no-header --schema a:int64", Meant { has_header: false, ..PLAIN }),
+            ("--schema a:int64 --no-header", Meant { has_header: false, ..PLAIN }),
+            ("--skip-lines 7 --schema a:int64", Meant { skip_lines: 7, ..PLAIN }),
+            ("--skip-lines=07 --schema a:int64", Meant { skip_lines: 7, ..PLAIN }),
+            ("--skip-rows 8 --schema a:int64", Meant { skip_rows: 8, ..PLAIN }),
+            ("--skip-rows=8 --schema a:int64", Meant { skip_rows: 8, ..PLAIN }),
+            ("--skip-after 9 --schema a:int64", Meant { skip_rows_after_header: 9, ..PLAIN }),
+            (
+                "--skip-after=999999999999999999 --schema a:int64",
+                Meant { skip_rows_after_header: 999_999_999_999_999_999, ..PLAIN },
+            ),
         ] {
-            assert_eq!(rt; width_of_line(alloc, line), columns, "at {line}");
+            assert_eq!(rt; meant_by_line(alloc, line), Ok(meant), "at {line}");
+        }
+        Ok(())
+    }
+
+    #[test]
+    fn words_without_a_meaning(rt: HostRuntime) -> Result<(), Fail> {
+        let alloc = rt.alloc();
+        for line in [
+            "",
+            "--schema",
+            "--schema ",
+            "--schema=",
+            "--schemas a:int64",
+            "--schema -a:int64",
+            "--schema a:int64 b:int64",
+            "--schema a:int64 --schema b:int64",
+            "--sep ; --no-header",
+            "--schema a:int64 --sep ; --sep=;",
+            "--schema a:int64 --sep --no-header",
+            "--schema a:int64 --sep",
+            "--schema a:int64 --sep ab",
+            "--schema a:int64 --sep=",
+            "--schema a:int64 --sep xG1",
+            "--schema a:int64 --sep x1",
+            "--schema a:int64 --sep X22",
+            "--schema a:int64 --sep é",
+            "--schema a:int64 --eol none",
+            "--schema a:int64 --quote None",
+            "--schema a:int64 --comment # --comment //",
+            "--schema a:int64 --comment=",
+            "--schema a:int64 --comment --",
+            "--schema a:int64 --no-header --no-header",
+            "--schema a:int64 --no-header=x",
+            "--schema a:int64 --no-header=",
+            "--schema a:int64 --skip-lines 1000000000000000000",
+            "--schema a:int64 --skip-rows 0000000000000000001",
+            "--schema a:int64 --skip-rows +1",
+            "--schema a:int64 --skip-rows=-1",
+            "--schema a:int64 --skip-after 1x",
+            "--schema a:int64 --skip-after 1 --skip-after 1",
+            "--schema a:int64 --skip 1",
+            "--schema a:int64 -s ;",
+            "--schema a:int64 --",
+            "--schema a:int64 ",
+        ] {
+            assert_eq!(rt; meant_by_line(alloc, line), Err(WordsFault::Words), "at {line}");
         }
         Ok(())
     }

@@ -1,6 +1,6 @@
 -- The schema of a text, entry by entry.
 use Rattle.std.proofs.Common.{◌≡◌, ℕ, ◌+◌, ◌<◌, Bool, true, false, not, cond, if◌then◌else◌, ◌&&◌, ◌||◌, List, [], ◌∷◌, ◌++◌, map, length, position, suc, refl, sym, ◌∙◌, ap, append_assoc, append-nil, arith, lit<}
-use Rattle.std.specs.Prelude.{Option, Some, None, codes, is_some, slice_set, MatchOption}
+use Rattle.std.specs.Prelude.{Option, Some, None, codes, is_some, slice_set, MatchOption, ◌≢◌}
 use Rattle.std.specs.Borrow.{Bor}
 use Rattle.std.specs.List.{list_all, list_any, position_or_len, slice_split, onto_first, before_first, after_first}
 use Rattle.std.specs.Option.{option_map, option_map_or, option_and_then}
@@ -18,7 +18,9 @@ use Rattle.pl_frame.proofs.SchemaLaws.{none_passes}
 use Rattle.pl_csv.specs.Buffers.{is_carried}
 use Rattle.pl_csv.specs.Settings.{SchemaValue}
 use Rattle.pl_csv.specs.Reading.{types_of}
-use Rattle.pl_csv.specs.Words.{named_type, entry_of, all_of, are_distinct, schema_of, is_comma, is_colon}
+use Rattle.pl_csv.specs.Words.{named_type, entry_of, all_of, are_distinct, schema_of, is_comma, is_colon, is_equals_sign, at_equals_sign, Part, parts_of, with_value, with_part, with_parts, settings_of_given}
+use Rattle.pl_csv.specs.declared.settings.Settings.{Settings}
+use Rattle.pl_csv.specs.declared.words.Given.{Given}
 
 abbrev Named : Type 0
 Named = List ℕ × DataType
@@ -133,6 +135,42 @@ cut_at_comma text r is = by r (split_once_first 44 text r is (lit< tt))
     by None h = uncut is_comma text h
     by (Some x) h = slice_split_first is_comma text 0 h.0 ∙ sym (λ j. h.1 j ∷ slice_split is_comma (h.2 j))
 
+-- ---- the cut at an equals sign
+
+none_is : {X : Type 0} (p : X → Bool) (xs : List X) → position_or_len p xs ≡ length xs → list_any p xs ≡ false
+none_is p [] e = refl
+none_is p (x ∷ xs) e = by (p x) refl (none_is p xs)
+  where
+    by : (t : Bool) → p x ≡ t → (position_or_len p xs ≡ length xs → list_any p xs ≡ false) → list_any p (x ∷ xs) ≡ false
+    by true is deeper =
+        let at : 0 ≡ suc (length xs) = sym (ap (λ t. cond (not t) (1 + position_or_len p xs) 0) is) ∙ e in absurd (omega arith)
+    by false is deeper =
+        let at : 1 + position_or_len p xs ≡ suc (length xs) = sym (ap (λ t. cond (not t) (1 + position_or_len p xs) 0) is) ∙ e in
+        ap (λ t. t || list_any p xs) is ∙ deeper (omega arith)
+
+some_is : {X : Type 0} (p : X → Bool) (xs : List X) → position_or_len p xs < length xs → list_any p xs ≡ true
+some_is p [] l = absurd (omega arith)
+some_is p (x ∷ xs) l = by (p x) refl (some_is p xs)
+  where
+    by : (t : Bool) → p x ≡ t → (position_or_len p xs < length xs → list_any p xs ≡ true) → list_any p (x ∷ xs) ≡ true
+    by true is deeper = ap (λ t. t || list_any p xs) is
+    by false is deeper =
+        let at : position_or_len p (x ∷ xs) ≡ 1 + position_or_len p xs = ap (λ t. cond (not t) (1 + position_or_len p xs) 0) is in
+        ap (λ t. t || list_any p xs) is ∙ deeper (omega (arith, at, l))
+
+pub cut_at_equals_sign : (word : List ℕ) (r : Option (Bor (List ℕ) × Bor (List ℕ))) → IsSplitOnceResult 61 word r
+    → option_map (λ (cut : Bor (List ℕ) × Bor (List ℕ)). (cut.0.now, cut.1.now)) r ≡ at_equals_sign word
+cut_at_equals_sign word r is = by r (split_once_first 61 word r is (lit< tt))
+  where
+    answer : Bool → Option (List ℕ × List ℕ)
+    answer t = if t then Some (before_first is_equals_sign word, after_first is_equals_sign word) else None
+
+    by : (r : Option (Bor (List ℕ) × Bor (List ℕ)))
+        → MatchOption r (position_or_len is_equals_sign word ≡ length word) (λ x. (position_or_len is_equals_sign word < length word) × (x.0.now ≡ before_first is_equals_sign word) × (x.1.now ≡ after_first is_equals_sign word))
+        → option_map (λ (cut : Bor (List ℕ) × Bor (List ℕ)). (cut.0.now, cut.1.now)) r ≡ at_equals_sign word
+    by None h = sym (ap answer (none_is is_equals_sign word h))
+    by (Some x) h = (λ j. Some (h.1 j, h.2 j)) ∙ sym (ap answer (some_is is_equals_sign word h.0))
+
 -- ---- the whole
 
 -- entries behind those that stand already, where no name stands twice
@@ -232,3 +270,51 @@ schema_of-carried text schema is = by (all_of (map entry_of (slice_split is_comm
         inner : (t : Bool) → (if t then Some es else None) ≡ Some schema → list_all is_carried (types_of schema) ≡ true
         inner true e = let same : es ≡ schema = cc in sym (ap (λ (l : SchemaValue). list_all is_carried (types_of l)) same) ∙ carried_all (slice_split is_comma text) es at
         inner false e = cc
+
+-- ---- flags and options
+
+differs : (a b : List ℕ) → a ≢ b → bytes_eq a b ≡ false
+differs a b unlike = by (bytes_eq a b) refl
+  where
+    by : (t : Bool) → bytes_eq a b ≡ t → bytes_eq a b ≡ false
+    by true e = absurd (unlike ((bytes_eq-Decides a b).0 e))
+    by false e = e
+
+-- an unknown name
+pub with_value-unknown : (given : Given) (name value : List ℕ)
+    → name ≢ codes "--schema" → name ≢ codes "--sep" → name ≢ codes "--quote" → name ≢ codes "--eol"
+    → name ≢ codes "--comment" → name ≢ codes "--skip-lines" → name ≢ codes "--skip-rows" → name ≢ codes "--skip-after"
+    → with_value given name value ≡ None
+with_value-unknown given name [] a b c d e f g h = refl
+with_value-unknown given name (x ∷ xs) a b c d e f g h =
+    rw (differs name _ a, differs name _ b, differs name _ c, differs name _ d, differs name _ e, differs name _ f, differs name _ g, differs name _ h) refl
+
+-- the settings that words mean behind what is given
+abbrev pub settings_from : Given → List (List ℕ) → Option Settings
+settings_from given words = option_and_then (λ parts. option_and_then settings_of_given (with_parts given parts)) (parts_of words)
+
+abbrev pub is_carried_given : Given → Type 0
+is_carried_given given = MatchOption given.schema (Unit {0}) (λ schema. list_all is_carried (types_of schema) ≡ true)
+
+pub settings_from-cut : (given : Given) (words : List (List ℕ)) → parts_of words ≡ None → settings_from given words ≡ None
+settings_from-cut given words is = ap (option_and_then (λ parts. option_and_then settings_of_given (with_parts given parts))) is
+
+-- one part, and then the others
+pub settings_from-more : (given now : Given) (words others : List (List ℕ)) (part : Part)
+    → parts_of words ≡ option_map (λ parts. part ∷ parts) (parts_of others) → with_part given part ≡ Some now → settings_from given words ≡ settings_from now others
+settings_from-more given now words others part cut is =
+    ap (option_and_then (λ parts. option_and_then settings_of_given (with_parts given parts))) cut ∙ by (parts_of others)
+  where
+    by : (o : Option (List Part)) → option_and_then (λ parts. option_and_then settings_of_given (with_parts given parts)) (option_map (λ parts. part ∷ parts) o)
+        ≡ option_and_then (λ parts. option_and_then settings_of_given (with_parts now parts)) o
+    by None = refl
+    by (Some parts) = ap (λ o. option_and_then settings_of_given (option_and_then (λ given. with_parts given parts) o)) is
+
+pub settings_from-none : (given : Given) (words others : List (List ℕ)) (part : Part)
+    → parts_of words ≡ option_map (λ parts. part ∷ parts) (parts_of others) → with_part given part ≡ None → settings_from given words ≡ None
+settings_from-none given words others part cut is =
+    ap (option_and_then (λ parts. option_and_then settings_of_given (with_parts given parts))) cut ∙ by (parts_of others)
+  where
+    by : (o : Option (List Part)) → option_and_then (λ parts. option_and_then settings_of_given (with_parts given parts)) (option_map (λ parts. part ∷ parts) o) ≡ None
+    by None = refl
+    by (Some parts) = ap (λ o. option_and_then settings_of_given (option_and_then (λ given. with_parts given parts) o)) is

@@ -1,12 +1,15 @@
 -- The words of the command line and the text of a schema (docs/command-line.md).
-use Rattle.std.specs.Prelude.{ℕ, Bool, true, false, not, ◌&&◌, ◌==◌, if◌then◌else◌, List, [], ◌∷◌, map, codes, Option, None, Some}
+use Rattle.std.specs.Prelude.{ℕ, ◌+◌, ◌-◌, ◌*◌, ◌^◌, Bool, true, false, not, ◌&&◌, ◌==◌, nat_lt, nat_le, if◌then◌else◌, List, [], ◌∷◌, map, length, codes, Option, None, Some}
 use Rattle.std.specs.List.{list_any, slice_split, before_first, after_first}
-use Rattle.std.specs.Option.{option_map, option_and_then}
+use Rattle.std.specs.Option.{option_map, option_and_then, unwrap_or}
 use Rattle.std.specs.Str.{bytes_eq}
 use Rattle.pl_frame.specs.declared.data_type.DataType.{DataType}
 use Rattle.pl_frame.specs.declared.data_type.DataType.TheVariants as dtype
 use Rattle.pl_frame.specs.Schema.{names_in}
+use Rattle.pl_scan.specs.Comment.{prefix_from}
 use Rattle.pl_csv.specs.declared.settings.Settings.{Settings}
+use Rattle.pl_csv.specs.declared.words.Given.{Given}
+use Rattle.pl_csv.specs.Integers.{number_below}
 use Rattle.pl_csv.specs.Settings.{SchemaValue, default_settings}
 
 -- the type that a text names
@@ -48,8 +51,128 @@ abbrev pub is_value : List ℕ → Bool
 is_value [] = false
 is_value (x ∷ xs) = not (x == 45)
 
--- exactly the two words `--schema` and the text of a schema
+-- ---- the values of options
+
+-- what a hexadecimal digit of either case counts
+abbrev pub hexadecimal_digit : ℕ → Option ℕ
+hexadecimal_digit x =
+    if nat_le 48 x && nat_le x 57 then Some (x - 48)
+    else if nat_le 65 x && nat_le x 70 then Some (x - 55)
+    else if nat_le 97 x && nat_le x 102 then Some (x - 87)
+    else None
+
+-- the number that two hexadecimal digits write
+abbrev pub hexadecimal_pair : ℕ → ℕ → Option ℕ
+hexadecimal_pair high low = option_and_then (λ h. option_map (λ l. 16 * h + l) (hexadecimal_digit low)) (hexadecimal_digit high)
+
+-- BYTE: one ASCII character, or `x` and two hexadecimal digits
+abbrev pub byte_of : List ℕ → Option ℕ
+byte_of [] = None
+byte_of (x ∷ []) = if nat_lt x 128 then Some x else None
+byte_of (x ∷ y ∷ []) = None
+byte_of (x ∷ high ∷ low ∷ []) = if x == 120 then hexadecimal_pair high low else None
+byte_of (x ∷ y ∷ z ∷ w ∷ others) = None
+
+-- a quote: BYTE, or `none` where fields are not quoted
+abbrev pub quote_of : List ℕ → Option (Option ℕ)
+quote_of text = if bytes_eq text (codes "none") then Some None else option_map (λ byte. Some byte) (byte_of text)
+
+-- NUM: 1 to 18 decimal digits, whose number is always below the limit
+abbrev pub count_of : List ℕ → Option ℕ
+count_of text = if nat_le (length text) 18 then number_below (2 ^ 64) text else None
+
+-- ---- flags and options
+
+-- a flag, or an option with its value
+abbrev pub Part : Type 0
+Part = List ℕ × Option (List ℕ)
+
+abbrev pub is_equals_sign : ℕ → Bool
+is_equals_sign x = x == 61
+
+-- the name and the value of `name=value`, cut at the first equals sign
+abbrev pub at_equals_sign : List ℕ → Option (List ℕ × List ℕ)
+at_equals_sign word =
+    if list_any is_equals_sign word then Some (before_first is_equals_sign word, after_first is_equals_sign word) else None
+
+-- what one word is alone: the flag, or an option with its value
+abbrev pub whole_part : List ℕ → Option Part
+whole_part word =
+    if bytes_eq word (codes "--no-header") then Some (word, None)
+    else option_map (λ cut. (cut.0, Some cut.1)) (at_equals_sign word)
+
+-- the flags and options of words: what a word is alone, or else an option's name with the next word as its value
+abbrev pub parts_of : List (List ℕ) → Option (List Part)
+parts_of [] = Some []
+parts_of (word ∷ []) = option_map (λ part. part ∷ []) (whole_part word)
+parts_of (word ∷ next ∷ words) = elim (whole_part word) [
+  | Some part ↦ option_map (λ parts. part ∷ parts) (parts_of (next ∷ words))
+  | None ↦ if is_value next then option_map (λ parts. (word, Some next) ∷ parts) (parts_of words) else None
+]
+
+-- ---- what was given
+
+-- a value with a meaning, where none was given before
+abbrev pub once : {X : Type 0} → Option X → Option X → Option (Option X)
+once None (Some x) = Some (Some x)
+once None None = None
+once (Some x) meant = None
+
+-- what is given with one option more; an empty value and an unknown name have no meaning
+abbrev pub with_value : Given → List ℕ → List ℕ → Option Given
+with_value given name [] = None
+with_value given name (x ∷ xs) = let value : List ℕ = x ∷ xs in
+    if bytes_eq name (codes "--schema") then option_map (λ o. record given { schema = o }) (once given.schema (schema_of value))
+    else if bytes_eq name (codes "--sep") then option_map (λ o. record given { separator = o }) (once given.separator (byte_of value))
+    else if bytes_eq name (codes "--quote") then option_map (λ o. record given { quote_char = o }) (once given.quote_char (quote_of value))
+    else if bytes_eq name (codes "--eol") then option_map (λ o. record given { eol_char = o }) (once given.eol_char (byte_of value))
+    else if bytes_eq name (codes "--comment") then option_map (λ o. record given { comment_prefix = o }) (once given.comment_prefix (Some (prefix_from value)))
+    else if bytes_eq name (codes "--skip-lines") then option_map (λ o. record given { skip_lines = o }) (once given.skip_lines (count_of value))
+    else if bytes_eq name (codes "--skip-rows") then option_map (λ o. record given { skip_rows = o }) (once given.skip_rows (count_of value))
+    else if bytes_eq name (codes "--skip-after") then option_map (λ o. record given { skip_rows_after_header = o }) (once given.skip_rows_after_header (count_of value))
+    else None
+
+-- what is given with one part more; the flag too stands once
+abbrev pub with_part : Given → Part → Option Given
+with_part given (name, None) = if given.no_header then None else Some (record given { no_header = true })
+with_part given (name, Some value) = with_value given name value
+
+-- what is given with some parts more, one after another
+abbrev pub with_parts : Given → List Part → Option Given
+with_parts given [] = Some given
+with_parts given (part ∷ parts) = option_and_then (λ given. with_parts given parts) (with_part given part)
+
+abbrev pub nothing_given : Given
+nothing_given = record {
+  schema = None;
+  separator = None;
+  quote_char = None;
+  eol_char = None;
+  comment_prefix = None;
+  no_header = false;
+  skip_lines = None;
+  skip_rows = None;
+  skip_rows_after_header = None;
+}
+
+-- the settings under a schema: what is given, and the default for the rest
+abbrev pub settings_under : Given → SchemaValue → Settings
+settings_under given schema = let defaults = default_settings schema in record {
+  schema = schema;
+  separator = unwrap_or given.separator defaults.separator;
+  quote_char = unwrap_or given.quote_char defaults.quote_char;
+  eol_char = unwrap_or given.eol_char defaults.eol_char;
+  comment_prefix = given.comment_prefix;
+  has_header = not given.no_header;
+  skip_lines = unwrap_or given.skip_lines defaults.skip_lines;
+  skip_rows = unwrap_or given.skip_rows defaults.skip_rows;
+  skip_rows_after_header = unwrap_or given.skip_rows_after_header defaults.skip_rows_after_header;
+}
+
+-- the settings of what is given; a schema must be there
+abbrev pub settings_of_given : Given → Option Settings
+settings_of_given given = option_map (settings_under given) given.schema
+
+-- the settings that words mean: their flags and options, each at most once
 abbrev pub settings_of_words : List (List ℕ) → Option Settings
-settings_of_words (name ∷ text ∷ []) =
-    if bytes_eq name (codes "--schema") && is_value text then option_map default_settings (schema_of text) else None
-settings_of_words _ = None
+settings_of_words words = option_and_then (λ parts. option_and_then settings_of_given (with_parts nothing_given parts)) (parts_of words)

@@ -42,7 +42,8 @@ fn number_of_long(digits: &[u8]) -> Option<u64>
     Some(number)
 }
 
-fn number_of(digits: &[u8]) -> Option<u64>
+/// The number of one or more digits, where it fits 64 bits. Takes no memory.
+pub fn number_of(digits: &[u8]) -> Option<u64>
     ensures { result ≡ number_below (2 ^ 64) digits.now }
 {
     if digits.len() <= SHORT {

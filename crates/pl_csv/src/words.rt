@@ -1,17 +1,20 @@
 //! The words of the command line.
-ghost use Rattle.std.specs.Prelude.{◌≡◌, ◌++◌, ◌∷◌, [], if◌then◌else◌, true, false, None, Some, map, string_bytes, IfOk, OnOk, IsErrOf, MatchOption, length, ◌<◌, ◌≢◌, Err};
+ghost use Rattle.std.specs.Prelude.{◌≡◌, ◌++◌, ◌∷◌, [], if◌then◌else◌, true, false, None, Some, map, string_bytes, IfOk, OnOk, IsErrOf, MatchOption, length, ◌<◌, ◌≤◌, ◌≢◌, Err};
 ghost use Rattle.std.specs.List.{list_all, list_any, slice_split};
 ghost use Rattle.std.specs.Option.{option_map, option_and_then};
 ghost use Rattle.std.specs.Str.{bytes_eq};
 ghost use Rattle.pl_frame.specs.Schema.{names_in};
+ghost use Rattle.pl_scan.specs.Comment.{prefix_from};
 ghost use Rattle.pl_csv.specs.Buffers.{is_carried};
 ghost use Rattle.pl_csv.specs.Reading.{types_of};
-ghost use Rattle.pl_csv.specs.Words.{named_type, is_comma, entry_of, is_value, schema_of, settings_of_words};
+ghost use Rattle.pl_csv.specs.Words.{named_type, is_comma, entry_of, is_value, schema_of, hexadecimal_digit, hexadecimal_pair, byte_of, quote_of, count_of, at_equals_sign, whole_part, parts_of, once, with_value, with_part, nothing_given, settings_of_given, settings_of_words};
 
+use crate::integers::number_of;
 use crate::settings::Settings;
 use pl_frame::data_type::DataType;
 use pl_frame::name::PlSmallStr;
 use pl_frame::schema::Schema;
+use pl_scan::comment::CommentPrefix;
 use std::alloc::Global;
 
 /// Why words mean no schema.
@@ -114,6 +117,240 @@ pub fn parse_schema(alloc: Global, text: &str) -> Result<Schema, WordsFault>
     Ok(schema)
 }
 
+/// What the words have given so far.
+#[derive(Debug, Drop)]
+pub struct Given {
+    pub schema: Option<Schema>,
+    pub separator: Option<u8>,
+    /// Some(None) where fields are not to be quoted.
+    pub quote_char: Option<Option<u8>>,
+    pub eol_char: Option<u8>,
+    pub comment_prefix: Option<CommentPrefix>,
+    pub no_header: bool,
+    pub skip_lines: Option<usize>,
+    pub skip_rows: Option<usize>,
+    pub skip_rows_after_header: Option<usize>,
+}
+
+impl Given {
+    // What no words give.
+    fn nothing() -> Self
+        ensures { result ≡ nothing_given }
+    {
+        Given {
+            schema: None,
+            separator: None,
+            quote_char: None,
+            eol_char: None,
+            comment_prefix: None,
+            no_header: false,
+            skip_lines: None,
+            skip_rows: None,
+            skip_rows_after_header: None,
+        }
+    }
+}
+
+// What a hexadecimal digit counts.
+fn parse_hexadecimal_digit(byte: u8) -> Option<u8>
+    ensures value { result ≡ hexadecimal_digit byte }
+    ensures small { MatchOption result (Unit {0}) (λ digit. digit < 16) }
+{
+    match byte {
+        b'0'..=b'9' => Some(byte - b'0'),
+        b'A'..=b'F' => Some(byte - b'A' + 10),
+        b'a'..=b'f' => Some(byte - b'a' + 10),
+        _ => None,
+    }
+}
+
+// The byte that two hexadecimal digits write.
+fn parse_hexadecimal_pair(high: u8, low: u8) -> Option<u8>
+    ensures { result ≡ hexadecimal_pair high low }
+{
+    match (parse_hexadecimal_digit(high), parse_hexadecimal_digit(low)) {
+        (Some(high), Some(low)) => Some(16 * high + low),
+        _ => None,
+    }
+}
+
+// The byte that a text writes: one ASCII character, or `x` and two hexadecimal digits.
+fn parse_byte(text: &str) -> Option<u8>
+    ensures { result ≡ byte_of text.now }
+{
+    match text.as_bytes() {
+        [byte] if byte.is_ascii() => Some(*byte),
+        [b'x', high, low] => parse_hexadecimal_pair(*high, *low),
+        _ => None,
+    }
+}
+
+// The quote that a text writes: a byte, or `none`.
+fn parse_quote(text: &str) -> Option<Option<u8>>
+    ensures { result ≡ quote_of text.now }
+{
+    if text == "none" {
+        return Some(None);
+    }
+    match parse_byte(text) {
+        Some(byte) => Some(Some(byte)),
+        None => None,
+    }
+}
+
+// The number that 1 to 18 digits write.
+fn parse_count(text: &str) -> Option<usize>
+    ensures { result ≡ count_of text.now }
+{
+    if text.len() > 18 {
+        return None;
+    }
+    match number_of(text.as_bytes()) {
+        Some(number) => Some(number as usize),
+        None => None,
+    }
+}
+
+// Keeps a value with a meaning where none was given before.
+fn give<T: Copy>(given: &mut Option<T>, meant: Option<T>) -> Result<(), WordsFault>
+    ensures given { OnOk result (once given.old meant ≡ Some given.new) }
+    ensures refused { IsErrOf result WordsFault.Words → once given.old meant ≡ None }
+{
+    match (*given, meant) {
+        (None, Some(_)) => {
+            *given = meant;
+            Ok(())
+        }
+        _ => Err(WordsFault::Words),
+    }
+}
+
+// Keeps the schema of a text where none was given before. Refuses a text without a meaning, and want of memory.
+fn give_schema(
+    alloc: Global,
+    given: &mut Option<Schema>,
+    text: &str,
+) -> Result<(), WordsFault>
+    ensures given { OnOk result (once given.old (schema_of text.now) ≡ Some given.new) }
+    ensures carried { OnOk result (MatchOption given.new (Unit {0}) (λ schema. list_all is_carried (types_of schema) ≡ true)) }
+    ensures refused { IsErrOf result WordsFault.Words → once given.old (schema_of text.now) ≡ None }
+{
+    if given.is_some() {
+        return Err(WordsFault::Words);
+    }
+    match parse_schema(alloc, text) {
+        Ok(schema) => {
+            *given = Some(schema);
+            Ok(())
+        }
+        Err(fault) => Err(fault),
+    }
+}
+
+// Keeps a comment prefix where none was given before. Refuses a second one, and want of memory.
+fn give_comment(
+    alloc: Global,
+    given: &mut Option<CommentPrefix>,
+    text: &str,
+) -> Result<(), WordsFault>
+    ensures given { OnOk result (once given.old (Some (prefix_from text.now)) ≡ Some given.new) }
+    ensures refused { IsErrOf result WordsFault.Words → once given.old (Some (prefix_from text.now)) ≡ None }
+{
+    if given.is_some() {
+        return Err(WordsFault::Words);
+    }
+    match CommentPrefix::new_from_str(alloc, text) {
+        Ok(prefix) => {
+            *given = Some(prefix);
+            Ok(())
+        }
+        Err(_) => Err(WordsFault::OutOfMemory),
+    }
+}
+
+// Keeps the value of an option that was not given before.
+fn give_value(
+    alloc: Global,
+    given: &mut Given,
+    name: &str,
+    value: &str,
+) -> Result<(), WordsFault>
+    requires carried { MatchOption given.old.schema (Unit {0}) (λ schema. list_all is_carried (types_of schema) ≡ true) }
+    ensures given { OnOk result (with_value given.old name.now value.now ≡ Some given.new) }
+    ensures carried { OnOk result (MatchOption given.new.schema (Unit {0}) (λ schema. list_all is_carried (types_of schema) ≡ true)) }
+    ensures refused { IsErrOf result WordsFault.Words → with_value given.old name.now value.now ≡ None }
+{
+    if value.is_empty() {
+        return Err(WordsFault::Words);
+    }
+    match name {
+        "--schema" => give_schema(alloc, &mut given.schema, value),
+        "--sep" => give(&mut given.separator, parse_byte(value)),
+        "--quote" => give(&mut given.quote_char, parse_quote(value)),
+        "--eol" => give(&mut given.eol_char, parse_byte(value)),
+        "--comment" => give_comment(alloc, &mut given.comment_prefix, value),
+        "--skip-lines" => give(&mut given.skip_lines, parse_count(value)),
+        "--skip-rows" => give(&mut given.skip_rows, parse_count(value)),
+        "--skip-after" => give(&mut given.skip_rows_after_header, parse_count(value)),
+        _ => Err(WordsFault::Words),
+    }
+}
+
+// Keeps a flag or an option that was not given before.
+fn give_part(
+    alloc: Global,
+    given: &mut Given,
+    name: &str,
+    value: Option<&str>,
+) -> Result<(), WordsFault>
+    requires carried { MatchOption given.old.schema (Unit {0}) (λ schema. list_all is_carried (types_of schema) ≡ true) }
+    ensures given { OnOk result (with_part given.old (name.now, option_map (λ text. text.now) value.entry) ≡ Some given.new) }
+    ensures carried { OnOk result (MatchOption given.new.schema (Unit {0}) (λ schema. list_all is_carried (types_of schema) ≡ true)) }
+    ensures refused { IsErrOf result WordsFault.Words → with_part given.old (name.now, option_map (λ text. text.now) value.entry) ≡ None }
+{
+    match value {
+        Some(value) => give_value(alloc, given, name, value),
+        None => {
+            if given.no_header {
+                return Err(WordsFault::Words);
+            }
+            given.no_header = true;
+            Ok(())
+        }
+    }
+}
+
+// The settings of what is given, where a schema is.
+fn settings_of(given: Given) -> Option<Settings>
+    ensures { result ≡ settings_of_given given }
+{
+    let Given {
+        schema,
+        separator,
+        quote_char,
+        eol_char,
+        comment_prefix,
+        no_header,
+        skip_lines,
+        skip_rows,
+        skip_rows_after_header,
+    } = given;
+    match schema {
+        Some(schema) => Some(Settings {
+            schema,
+            separator: separator.unwrap_or(b','),
+            quote_char: quote_char.unwrap_or(Some(b'"')),
+            eol_char: eol_char.unwrap_or(b'\n'),
+            comment_prefix,
+            has_header: !no_header,
+            skip_lines: skip_lines.unwrap_or(0),
+            skip_rows: skip_rows.unwrap_or(0),
+            skip_rows_after_header: skip_rows_after_header.unwrap_or(0),
+        }),
+        None => None,
+    }
+}
+
 // Whether a word can be the value of an option.
 fn is_value_word(text: &str) -> bool
     ensures { result ≡ is_value text.now }
@@ -124,22 +361,61 @@ fn is_value_word(text: &str) -> bool
     }
 }
 
-/// The settings that the words mean: exactly the two words `--schema` and the text of a schema. Refuses other words, and
+// The parts of a word before and behind its first equals sign, where there is one.
+fn cut_option(word: &str) -> Option<(&str, &str)>
+    ensures { option_map (λ cut. (cut.0.now, cut.1.now)) result ≡ at_equals_sign word.now }
+{
+    word.split_once('=')
+}
+
+// What one word is alone: the flag, or an option with its value.
+fn read_whole(word: &str) -> Option<(&str, Option<&str>)>
+    ensures { option_map (λ part. (part.0.now, option_map (λ text. text.now) part.1)) result ≡ whole_part word.now }
+{
+    if word == "--no-header" {
+        return Some((word, None));
+    }
+    match cut_option(word) {
+        Some((name, value)) => Some((name, Some(value))),
+        None => None,
+    }
+}
+
+// The first flag or option, and the words behind it.
+fn cut_words<'a>(word: &'a str, words: &'a [String]) -> Option<(&'a str, Option<&'a str>, &'a [String])>
+    ensures cut { MatchOption result (parts_of (word.now ∷ map string_bytes words.now) ≡ None) (λ cut. parts_of (word.now ∷ map string_bytes words.now) ≡ option_map (λ parts. (cut.0.now, option_map (λ text. text.now) cut.1) ∷ parts) (parts_of (map string_bytes cut.2.now))) }
+    ensures shorter { MatchOption result (Unit {0}) (λ cut. length cut.2.now ≤ length words.now) }
+{
+    if let Some((name, value)) = read_whole(word) {
+        return Some((name, value, words));
+    }
+    match words {
+        [next, behind @ ..] if is_value_word(next.as_str()) => {
+            Some((word, Some(next.as_str()), behind))
+        }
+        _ => None,
+    }
+}
+
+/// The settings that the words mean: flags and options, each at most once, a schema among them. Refuses other words, and
 /// want of memory.
 pub fn parse_words(alloc: Global, words: &[String]) -> Result<Settings, WordsFault>
     ensures settings { IfOk result (λ settings. settings_of_words (map string_bytes words.now) ≡ Some settings) }
     ensures carried { IfOk result (λ settings. list_all is_carried (types_of settings.schema) ≡ true) }
     ensures refused { IsErrOf result WordsFault.Words → settings_of_words (map string_bytes words.now) ≡ None }
 {
-    let [name, text] = words else {
-        return Err(WordsFault::Words);
-    };
-    if name.as_str() != "--schema" || !is_value_word(text.as_str()) {
-        return Err(WordsFault::Words);
+    let mut given = Given::nothing();
+    let mut rest = words;
+    while let [word, behind @ ..] = rest {
+        let Some((name, value, next)) = cut_words(word.as_str(), behind) else {
+            return Err(WordsFault::Words);
+        };
+        give_part(alloc, &mut given, name, value)?;
+        rest = next;
     }
-    match parse_schema(alloc, text.as_str()) {
-        Ok(schema) => Ok(Settings::new(schema)),
-        Err(fault) => Err(fault),
+    match settings_of(given) {
+        Some(settings) => Ok(settings),
+        None => Err(WordsFault::Words),
     }
 }
 
@@ -155,8 +431,43 @@ mod tests {
         }
     }
 
+    // What a test compares of settings.
+    #[derive(Clone, Copy, Debug, PartialEq, Eq)]
+    struct Meant {
+        columns: usize,
+        separator: u8,
+        quote_char: Option<u8>,
+        eol_char: u8,
+        comment_length: Option<usize>,
+        has_header: bool,
+        skip_lines: usize,
+        skip_rows: usize,
+        skip_rows_after_header: usize,
+    }
+
+    // The settings of one column with nothing else given.
+    const PLAIN: Meant = Meant {
+        columns: 1,
+        separator: b',',
+        quote_char: Some(b'"'),
+        eol_char: b'\n',
+        comment_length: None,
+        has_header: true,
+        skip_lines: 0,
+        skip_rows: 0,
+        skip_rows_after_header: 0,
+    };
+
+    fn comment_length(prefix: &Option<CommentPrefix>) -> Option<usize> {
+        match prefix {
+            Some(CommentPrefix::Single(_)) => Some(1),
+            Some(CommentPrefix::Multi(text)) => Some(text.as_str().len()),
+            None => None,
+        }
+    }
+
     // The words of a line stand between blanks.
-    fn width_of_line(alloc: Global, line: &str) -> Result<usize, WordsFault> {
+    fn meant_by_line(alloc: Global, line: &str) -> Result<Meant, WordsFault> {
         let mut words = Vec::new(alloc);
         for word in line.split(' ') {
             let Ok(word) = String::from_str(alloc, word) else {
@@ -167,13 +478,23 @@ mod tests {
             }
         }
         match parse_words(alloc, words.as_slice()) {
-            Ok(settings) => Ok(settings.schema.len()),
+            Ok(settings) => Ok(Meant {
+                columns: settings.schema.len(),
+                separator: settings.separator,
+                quote_char: settings.quote_char,
+                eol_char: settings.eol_char,
+                comment_length: comment_length(&settings.comment_prefix),
+                has_header: settings.has_header,
+                skip_lines: settings.skip_lines,
+                skip_rows: settings.skip_rows,
+                skip_rows_after_header: settings.skip_rows_after_header,
+            }),
             Err(fault) => Err(fault),
         }
     }
 
     #[test]
-    fn schema_texts_and_words(rt: HostRuntime) -> Result<(), Fail> {
+    fn schema_texts(rt: HostRuntime) -> Result<(), Fail> {
         let alloc = rt.alloc();
         let refused = Err(WordsFault::Words);
         for (text, columns) in [
@@ -188,15 +509,86 @@ mod tests {
         ] {
             assert_eq!(rt; width(parse_schema(alloc, text)), columns, "at {text}");
         }
-        for (line, columns) in [
-            ("--schema a:int64", Ok(1)),
-            ("--schema", refused),
-            ("--schema a:int64 b:int64", refused),
-            ("--schemas a:int64", refused),
-            ("--schema -a:int64", refused),
-            ("--schema ", refused),
+        Ok(())
+    }
+
+    #[test]
+    fn words_with_a_meaning(rt: HostRuntime) -> Result<(), Fail> {
+        let alloc = rt.alloc();
+        for (line, meant) in [
+            ("--schema a:int64", PLAIN),
+            ("--schema=a:int64,b:string", Meant { columns: 2, ..PLAIN }),
+            ("--schema=-=:int64", PLAIN),
+            ("--schema a:int64 --sep ;", Meant { separator: b';', ..PLAIN }),
+            ("--sep=x --schema a:int64", Meant { separator: b'x', ..PLAIN }),
+            ("--sep x22 --schema a:int64", Meant { separator: b'"', ..PLAIN }),
+            ("--sep== --schema a:int64", Meant { separator: b'=', ..PLAIN }),
+            ("--sep=- --schema a:int64", Meant { separator: b'-', ..PLAIN }),
+            ("--schema a:int64 --quote none", Meant { quote_char: None, ..PLAIN }),
+            ("--schema a:int64 --quote='", Meant { quote_char: Some(39), ..PLAIN }),
+            ("--schema a:int64 --eol xC3", Meant { eol_char: 195, ..PLAIN }),
+            ("--schema a:int64 --eol=x0d", Meant { eol_char: 13, ..PLAIN }),
+            ("--comment # --schema a:int64", Meant { comment_length: Some(1), ..PLAIN }),
+            ("--comment=-- --schema a:int64", Meant { comment_length: Some(2), ..PLAIN }),
+            ("--no-header --schema a:int64", Meant { has_header: false, ..PLAIN }),
+            ("--schema a:int64 --no-header", Meant { has_header: false, ..PLAIN }),
+            ("--skip-lines 7 --schema a:int64", Meant { skip_lines: 7, ..PLAIN }),
+            ("--skip-lines=07 --schema a:int64", Meant { skip_lines: 7, ..PLAIN }),
+            ("--skip-rows 8 --schema a:int64", Meant { skip_rows: 8, ..PLAIN }),
+            ("--skip-rows=8 --schema a:int64", Meant { skip_rows: 8, ..PLAIN }),
+            ("--skip-after 9 --schema a:int64", Meant { skip_rows_after_header: 9, ..PLAIN }),
+            (
+                "--skip-after=999999999999999999 --schema a:int64",
+                Meant { skip_rows_after_header: 999_999_999_999_999_999, ..PLAIN },
+            ),
         ] {
-            assert_eq!(rt; width_of_line(alloc, line), columns, "at {line}");
+            assert_eq!(rt; meant_by_line(alloc, line), Ok(meant), "at {line}");
+        }
+        Ok(())
+    }
+
+    #[test]
+    fn words_without_a_meaning(rt: HostRuntime) -> Result<(), Fail> {
+        let alloc = rt.alloc();
+        for line in [
+            "",
+            "--schema",
+            "--schema ",
+            "--schema=",
+            "--schemas a:int64",
+            "--schema -a:int64",
+            "--schema a:int64 b:int64",
+            "--schema a:int64 --schema b:int64",
+            "--sep ; --no-header",
+            "--schema a:int64 --sep ; --sep=;",
+            "--schema a:int64 --sep --no-header",
+            "--schema a:int64 --sep",
+            "--schema a:int64 --sep ab",
+            "--schema a:int64 --sep=",
+            "--schema a:int64 --sep xG1",
+            "--schema a:int64 --sep x1",
+            "--schema a:int64 --sep X22",
+            "--schema a:int64 --sep é",
+            "--schema a:int64 --eol none",
+            "--schema a:int64 --quote None",
+            "--schema a:int64 --comment # --comment //",
+            "--schema a:int64 --comment=",
+            "--schema a:int64 --comment --",
+            "--schema a:int64 --no-header --no-header",
+            "--schema a:int64 --no-header=x",
+            "--schema a:int64 --no-header=",
+            "--schema a:int64 --skip-lines 1000000000000000000",
+            "--schema a:int64 --skip-rows 0000000000000000001",
+            "--schema a:int64 --skip-rows +1",
+            "--schema a:int64 --skip-rows=-1",
+            "--schema a:int64 --skip-after 1x",
+            "--schema a:int64 --skip-after 1 --skip-after 1",
+            "--schema a:int64 --skip 1",
+            "--schema a:int64 -s ;",
+            "--schema a:int64 --",
+            "--schema a:int64 ",
+        ] {
+            assert_eq!(rt; meant_by_line(alloc, line), Err(WordsFault::Words), "at {line}");
         }
         Ok(())
     }

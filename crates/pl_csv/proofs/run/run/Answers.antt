@@ -51,3 +51,24 @@ returns-in-Err-clause-sink_fault g c = λ e.
     let before = views (g.So.Source.left c.args.source.now) (g.Si.Sink.received c.args.out.now) (g.So.Source.faults c.args.source.now) (g.Si.Sink.faults c.args.out.now) in
     let now = views (g.So.Source.left c.convert.new.source) (g.Si.Sink.received c.convert.new.out) (g.So.Source.faults c.convert.new.source) (g.Si.Sink.faults c.convert.new.out) in
     refused-as words before now c.in-Err.refusal 4 c.in-Err.ensures.refused (sym c.status.ensures ∙ e)
+
+pub returns-in-Err-clause-words_form : goal.returns-in-Err-clause-words_form
+returns-in-Err-clause-words_form g c = λ e.
+    let words = map string_bytes c.args.words.now in
+    let before = views (g.So.Source.left c.args.source.now) (g.Si.Sink.received c.args.out.now) (g.So.Source.faults c.args.source.now) (g.Si.Sink.faults c.args.out.now) in
+    let now = views (g.So.Source.left c.convert.new.source) (g.Si.Sink.received c.convert.new.out) (g.So.Source.faults c.convert.new.source) (g.Si.Sink.faults c.convert.new.out) in
+    refused-as words before now c.in-Err.refusal 2 c.in-Err.ensures.refused (sym c.status.ensures ∙ e)
+
+pub returns-in-Err-clause-source_fault : goal.returns-in-Err-clause-source_fault
+returns-in-Err-clause-source_fault g c = λ e.
+    let words = map string_bytes c.args.words.now in
+    let before = views (g.So.Source.left c.args.source.now) (g.Si.Sink.received c.args.out.now) (g.So.Source.faults c.args.source.now) (g.Si.Sink.faults c.args.out.now) in
+    let now = views (g.So.Source.left c.convert.new.source) (g.Si.Sink.received c.convert.new.out) (g.So.Source.faults c.convert.new.source) (g.Si.Sink.faults c.convert.new.out) in
+    refused-as words before now c.in-Err.refusal 3 c.in-Err.ensures.refused (sym c.status.ensures ∙ e)
+
+pub returns-in-Err-clause-too_long : goal.returns-in-Err-clause-too_long
+returns-in-Err-clause-too_long g c = λ e.
+    let words = map string_bytes c.args.words.now in
+    let before = views (g.So.Source.left c.args.source.now) (g.Si.Sink.received c.args.out.now) (g.So.Source.faults c.args.source.now) (g.Si.Sink.faults c.args.out.now) in
+    let now = views (g.So.Source.left c.convert.new.source) (g.Si.Sink.received c.convert.new.out) (g.So.Source.faults c.convert.new.source) (g.Si.Sink.faults c.convert.new.out) in
+    refused-as words before now c.in-Err.refusal 6 c.in-Err.ensures.refused (sym c.status.ensures ∙ e)

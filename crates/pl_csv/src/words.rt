@@ -226,11 +226,7 @@ fn give<T: Copy>(given: &mut Option<T>, meant: Option<T>) -> Result<(), WordsFau
 }
 
 // Keeps the schema of a text where none was given before. Refuses a text without a meaning, and want of memory.
-fn give_schema(
-    alloc: Global,
-    given: &mut Option<Schema>,
-    text: &str,
-) -> Result<(), WordsFault>
+fn give_schema(alloc: Global, given: &mut Option<Schema>, text: &str) -> Result<(), WordsFault>
     ensures given { OnOk result (once given.old (schema_of text.now) ≡ Some given.new) }
     ensures carried { OnOk result (MatchOption given.new (Unit {0}) (λ schema. list_all is_carried (types_of schema) ≡ true)) }
     ensures refused { IsErrOf result WordsFault.Words → once given.old (schema_of text.now) ≡ None }
@@ -269,12 +265,7 @@ fn give_comment(
 }
 
 // Keeps the value of an option that was not given before.
-fn give_value(
-    alloc: Global,
-    given: &mut Given,
-    name: &str,
-    value: &str,
-) -> Result<(), WordsFault>
+fn give_value(alloc: Global, given: &mut Given, name: &str, value: &str) -> Result<(), WordsFault>
     requires carried { MatchOption given.old.schema (Unit {0}) (λ schema. list_all is_carried (types_of schema) ≡ true) }
     ensures given { OnOk result (with_value given.old name.now value.now ≡ Some given.new) }
     ensures carried { OnOk result (MatchOption given.new.schema (Unit {0}) (λ schema. list_all is_carried (types_of schema) ≡ true)) }
@@ -382,7 +373,10 @@ fn read_whole(word: &str) -> Option<(&str, Option<&str>)>
 }
 
 // The first flag or option, and the words behind it.
-fn cut_words<'a>(word: &'a str, words: &'a [String]) -> Option<(&'a str, Option<&'a str>, &'a [String])>
+fn cut_words<'a>(
+    word: &'a str,
+    words: &'a [String],
+) -> Option<(&'a str, Option<&'a str>, &'a [String])>
     ensures cut { MatchOption result (parts_of (word.now ∷ map string_bytes words.now) ≡ None) (λ cut. parts_of (word.now ∷ map string_bytes words.now) ≡ option_map (λ parts. (cut.0.now, option_map (λ text. text.now) cut.1) ∷ parts) (parts_of (map string_bytes cut.2.now))) }
     ensures shorter { MatchOption result (Unit {0}) (λ cut. length cut.2.now ≤ length words.now) }
 {
@@ -517,29 +511,146 @@ mod tests {
         let alloc = rt.alloc();
         for (line, meant) in [
             ("--schema a:int64", PLAIN),
-            ("--schema=a:int64,b:string", Meant { columns: 2, ..PLAIN }),
+            (
+                "--schema=a:int64,b:string",
+                Meant {
+                    columns: 2,
+                    ..PLAIN
+                },
+            ),
             ("--schema=-=:int64", PLAIN),
-            ("--schema a:int64 --sep ;", Meant { separator: b';', ..PLAIN }),
-            ("--sep=x --schema a:int64", Meant { separator: b'x', ..PLAIN }),
-            ("--sep x22 --schema a:int64", Meant { separator: b'"', ..PLAIN }),
-            ("--sep== --schema a:int64", Meant { separator: b'=', ..PLAIN }),
-            ("--sep=- --schema a:int64", Meant { separator: b'-', ..PLAIN }),
-            ("--schema a:int64 --quote none", Meant { quote_char: None, ..PLAIN }),
-            ("--schema a:int64 --quote='", Meant { quote_char: Some(39), ..PLAIN }),
-            ("--schema a:int64 --eol xC3", Meant { eol_char: 195, ..PLAIN }),
-            ("--schema a:int64 --eol=x0d", Meant { eol_char: 13, ..PLAIN }),
-            ("--comment # --schema a:int64", Meant { comment_length: Some(1), ..PLAIN }),
-            ("--comment=-- --schema a:int64", Meant { comment_length: Some(2), ..PLAIN }),
-            ("--no-header --schema a:int64", Meant { has_header: false, ..PLAIN }),
-            ("--schema a:int64 --no-header", Meant { has_header: false, ..PLAIN }),
-            ("--skip-lines 7 --schema a:int64", Meant { skip_lines: 7, ..PLAIN }),
-            ("--skip-lines=07 --schema a:int64", Meant { skip_lines: 7, ..PLAIN }),
-            ("--skip-rows 8 --schema a:int64", Meant { skip_rows: 8, ..PLAIN }),
-            ("--skip-rows=8 --schema a:int64", Meant { skip_rows: 8, ..PLAIN }),
-            ("--skip-after 9 --schema a:int64", Meant { skip_rows_after_header: 9, ..PLAIN }),
+            (
+                "--schema a:int64 --sep ;",
+                Meant {
+                    separator: b';',
+                    ..PLAIN
+                },
+            ),
+            (
+                "--sep=x --schema a:int64",
+                Meant {
+                    separator: b'x',
+                    ..PLAIN
+                },
+            ),
+            (
+                "--sep x22 --schema a:int64",
+                Meant {
+                    separator: b'"',
+                    ..PLAIN
+                },
+            ),
+            (
+                "--sep== --schema a:int64",
+                Meant {
+                    separator: b'=',
+                    ..PLAIN
+                },
+            ),
+            (
+                "--sep=- --schema a:int64",
+                Meant {
+                    separator: b'-',
+                    ..PLAIN
+                },
+            ),
+            (
+                "--schema a:int64 --quote none",
+                Meant {
+                    quote_char: None,
+                    ..PLAIN
+                },
+            ),
+            (
+                "--schema a:int64 --quote='",
+                Meant {
+                    quote_char: Some(39),
+                    ..PLAIN
+                },
+            ),
+            (
+                "--schema a:int64 --eol xC3",
+                Meant {
+                    eol_char: 195,
+                    ..PLAIN
+                },
+            ),
+            (
+                "--schema a:int64 --eol=x0d",
+                Meant {
+                    eol_char: 13,
+                    ..PLAIN
+                },
+            ),
+            (
+                "--comment # --schema a:int64",
+                Meant {
+                    comment_length: Some(1),
+                    ..PLAIN
+                },
+            ),
+            (
+                "--comment=-- --schema a:int64",
+                Meant {
+                    comment_length: Some(2),
+                    ..PLAIN
+                },
+            ),
+            (
+                "--no-header --schema a:int64",
+                Meant {
+                    has_header: false,
+                    ..PLAIN
+                },
+            ),
+            (
+                "--schema a:int64 --no-header",
+                Meant {
+                    has_header: false,
+                    ..PLAIN
+                },
+            ),
+            (
+                "--skip-lines 7 --schema a:int64",
+                Meant {
+                    skip_lines: 7,
+                    ..PLAIN
+                },
+            ),
+            (
+                "--skip-lines=07 --schema a:int64",
+                Meant {
+                    skip_lines: 7,
+                    ..PLAIN
+                },
+            ),
+            (
+                "--skip-rows 8 --schema a:int64",
+                Meant {
+                    skip_rows: 8,
+                    ..PLAIN
+                },
+            ),
+            (
+                "--skip-rows=8 --schema a:int64",
+                Meant {
+                    skip_rows: 8,
+                    ..PLAIN
+                },
+            ),
+            (
+                "--skip-after 9 --schema a:int64",
+                Meant {
+                    skip_rows_after_header: 9,
+                    ..PLAIN
+                },
+            ),
             (
                 "--skip-after=999999999999999999 --schema a:int64",
-                Meant { skip_rows_after_header: 999_999_999_999_999_999, ..PLAIN },
+                Meant {
+                    skip_rows_after_header: 999_999_999_999_999_999,
+                    ..PLAIN
+                },
             ),
         ] {
             assert_eq!(rt; meant_by_line(alloc, line), Ok(meant), "at {line}");
@@ -588,7 +699,11 @@ mod tests {
             "--schema a:int64 --",
             "--schema a:int64 ",
         ] {
-            assert_eq!(rt; meant_by_line(alloc, line), Err(WordsFault::Words), "at {line}");
+            assert_eq!(rt;
+                meant_by_line(alloc, line),
+                Err(WordsFault::Words),
+                "at {line}"
+            );
         }
         Ok(())
     }

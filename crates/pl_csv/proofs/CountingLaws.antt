@@ -1,5 +1,5 @@
 -- What counting rows answers, by what the bytes are.
-use Rattle.std.proofs.Common.{◌≡◌, ℕ, Bool, true, false, cond, List, refl, sym, ◌∙◌, ap, subst, inl, inr}
+use Rattle.std.proofs.Common.{◌≡◌, ℕ, Bool, false, cond, List, refl, sym, ◌∙◌, ap, subst, inl, inr}
 use Rattle.std.specs.Prelude.{Option, Result, Ok, Err, IfOk, IfErr, IsErrOf, ◌⊎◌}
 use Rattle.pl_frame.specs.Dialect.{Marks, IsDialect}
 use Rattle.pl_frame.specs.declared.error.PolarsError.{PolarsError}

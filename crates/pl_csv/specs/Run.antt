@@ -1,5 +1,5 @@
 -- What a run has done, by its status (docs/command-line.md).
-use Rattle.std.specs.Prelude.{◌≡◌, ℕ, ◌^◌, ◌<◌, ◌≤◌, ◌==◌, ◌⊎◌, true, false, if◌then◌else◌, Bool, nat_lt, List, [], ◌∷◌, length, codes, Option, None, Some, IsSome}
+use Rattle.std.specs.Prelude.{◌≡◌, ℕ, ◌^◌, ◌<◌, ◌≤◌, ◌==◌, ◌⊎◌, if◌then◌else◌, Bool, List, [], ◌∷◌, length, codes, Option, None, Some, IsSome}
 use Rattle.std.specs.Io.KnownBytes.{Consumes, IsAtEnd, Appends, Keeps}
 use Rattle.std.specs.List.{list_any}
 use Rattle.pl_frame.specs.Causes.{Rose}

@@ -1,4 +1,4 @@
-use Rattle.std.proofs.Common.{◌+◌, ◌∙◌, ◌≡◌, ℕ, sym, ap, drop, not, ◌==◌, length, arith, rules}
+use Rattle.std.proofs.Common.{◌+◌, ◌∙◌, ◌≡◌, sym, ap, drop, not, ◌==◌, length, arith, rules}
 use Rattle.std.specs.List.{prefix_len}
 use Rattle.std.proofs.Math.ListN.{drop_of_length-le}
 use Rattle.std.proofs.lemmas.List.{take_rest}

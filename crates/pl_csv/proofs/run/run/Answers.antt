@@ -1,4 +1,4 @@
-use Rattle.std.proofs.Common.{map, string_bytes, sym, ◌∙◌, subst, inl, refl}
+use Rattle.std.proofs.Common.{map, string_bytes, sym, ◌∙◌, subst}
 use Rattle.pl_csv.specs.Run.{views, IsExpected}
 use Rattle.pl_csv.proofs.RunLaws.{valid-refused, refused-as}
 use Rattle.pl_csv.proofs.run.run.Goals as goal

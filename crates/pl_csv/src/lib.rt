@@ -5,6 +5,7 @@ pub mod adapters;
 mod buffer;
 mod frames;
 mod integers;
+mod options;
 mod quoting;
 pub mod read_all;
 mod reading;

@@ -1,4 +1,4 @@
-use Rattle.std.proofs.Common.{◌^◌, ◌∙◌, ap, sym}
+use Rattle.std.proofs.Common.{◌^◌, ◌∙◌, ap, sym, arith}
 use Rattle.pl_csv.specs.Integers.{number_below}
 use Rattle.pl_csv.proofs.WordLaws.{count_of-is}
 use Rattle.pl_csv.proofs.options.parse_count.Goals as goal
@@ -8,4 +8,4 @@ returns-in-None c =
     sym c.in-None.is
     ∙ c.number_of.ensures
     ∙ ap (number_below (2 ^ 64)) c.as_bytes.ensures.value
-    ∙ count_of-is c.args.text.now c.if-text-gt18.false
+    ∙ count_of-is c.args.text.now (omega arith)

@@ -1,10 +1,10 @@
 -- The schema of a text, entry by entry.
-use Rattle.std.proofs.Common.{◌≡◌, ℕ, ◌+◌, ◌<◌, Bool, true, false, not, cond, if◌then◌else◌, ◌&&◌, ◌||◌, List, [], ◌∷◌, ◌++◌, map, length, position, suc, refl, sym, ◌∙◌, ap, append_assoc, append-nil, arith, lit<}
+use Rattle.std.proofs.Common.{◌≡◌, ℕ, ◌+◌, ◌-◌, ◌*◌, ◌^◌, ◌<◌, ◌≤◌, Bool, true, false, not, cond, if◌then◌else◌, ◌&&◌, ◌||◌, List, [], ◌∷◌, ◌++◌, map, length, position, suc, refl, sym, ◌∙◌, ap, append_assoc, append-nil, arith, lit<}
 use Rattle.std.specs.Prelude.{Option, Some, None, codes, is_some, slice_set, MatchOption, ◌≢◌}
 use Rattle.std.specs.Borrow.{Bor}
 use Rattle.std.specs.List.{list_all, list_any, position_or_len, slice_split, onto_first, before_first, after_first}
 use Rattle.std.specs.Option.{option_map, option_map_or, option_and_then}
-use Rattle.std.specs.Str.{bytes_eq}
+use Rattle.std.specs.Str.{bytes_eq, all_ascii_digits}
 use Rattle.std.proofs.lemmas.List.{map-append}
 use Rattle.std.proofs.lemmas.List.Folds.{list_any-append, list_any_at}
 use Rattle.std.proofs.lemmas.List.Quantifiers.{position-Some}
@@ -17,10 +17,15 @@ use Rattle.pl_frame.specs.Schema.{names_in, place_of, with_type}
 use Rattle.pl_frame.proofs.SchemaLaws.{none_passes}
 use Rattle.pl_csv.specs.Buffers.{is_carried}
 use Rattle.pl_csv.specs.Settings.{SchemaValue}
+use Rattle.std.proofs.Math.Nat.{pow-le-pow_right, pow-suc, mul-le-mul_right, mul_assoc}
+use Rattle.std.proofs.lemmas.Bool.Decides.{nat_tests}
+use Rattle.std.specs.Char.{is_ascii_digit}
+use Rattle.pl_csv.specs.Integers.{number_after, number_of, number_below}
+use Rattle.pl_csv.proofs.IntegerLaws.{digit_small}
 use Rattle.pl_csv.specs.Reading.{types_of}
-use Rattle.pl_csv.specs.Words.{named_type, entry_of, all_of, are_distinct, schema_of, is_comma, is_colon, is_equals_sign, at_equals_sign, Part, parts_of, with_value, with_part, with_parts, settings_of_given}
+use Rattle.pl_csv.specs.Words.{named_type, entry_of, all_of, are_distinct, schema_of, is_comma, is_colon, is_equals_sign, at_equals_sign, Part, parts_of, count_of, with_value, with_part, with_parts, settings_of_given}
 use Rattle.pl_csv.specs.declared.settings.Settings.{Settings}
-use Rattle.pl_csv.specs.declared.words.Given.{Given}
+use Rattle.pl_csv.specs.declared.options.Given.{Given}
 
 abbrev Named : Type 0
 Named = List ℕ × DataType
@@ -271,6 +276,32 @@ schema_of-carried text schema is = by (all_of (map entry_of (slice_split is_comm
         inner true e = let same : es ≡ schema = cc in sym (ap (λ (l : SchemaValue). list_all is_carried (types_of l)) same) ∙ carried_all (slice_split is_comma text) es at
         inner false e = cc
 
+-- ---- numbers
+
+number_after-small : (n : ℕ) (xs : List ℕ) → all_ascii_digits xs ≡ true → number_after n xs < (n + 1) * 10 ^ length xs
+number_after-small n [] digits = omega arith
+number_after-small n (x ∷ xs) digits =
+    let parts = and_true (is_ascii_digit x) (all_ascii_digits xs) digits in
+    let next : n * 10 + (x - 48) + 1 ≤ (n + 1) * 10 = omega (arith, digit_small x parts.0) in
+    let wider : (n * 10 + (x - 48) + 1) * 10 ^ length xs ≤ (n + 1) * 10 * 10 ^ length xs = mul-le-mul_right (10 ^ length xs) next in
+    let whole : (n + 1) * 10 * 10 ^ length xs ≡ (n + 1) * 10 ^ suc (length xs) = mul_assoc (n + 1) 10 (10 ^ length xs) ∙ ap (λ p. (n + 1) * p) (sym (ten_times (length xs))) in
+    omega (arith, number_after-small (n * 10 + (x - 48)) xs parts.1, wider, whole)
+  where
+    ten_times : (i : ℕ) → 10 ^ suc i ≡ 10 * 10 ^ i
+    ten_times i = pow-suc 10 i ∙ omega arith
+
+-- a number of at most 18 digits is below 2 ^ 64
+pub count_of-is : (text : List ℕ) → length text ≤ 18 → number_below (2 ^ 64) text ≡ count_of text
+count_of-is [] few = refl
+count_of-is (x ∷ xs) few = by (all_ascii_digits (x ∷ xs)) refl
+  where
+    by : (t : Bool) → all_ascii_digits (x ∷ xs) ≡ t → number_below (2 ^ 64) (x ∷ xs) ≡ count_of (x ∷ xs)
+    by true digits =
+        let small : number_of (x ∷ xs) < 10 ^ 18 = omega (arith, number_after-small 0 (x ∷ xs) digits, pow-le-pow_right {n = 10} (lit< tt) {i = length (x ∷ xs)} {j = 18} few) in
+        let fits : number_of (x ∷ xs) < 2 ^ 64 = omega (arith, small) in
+        rw (digits) (grind (arith, nat_tests, fits, few))
+    by false digits = rw (digits) refl
+
 -- ---- flags and options
 
 differs : (a b : List ℕ) → a ≢ b → bytes_eq a b ≡ false
@@ -292,9 +323,6 @@ with_value-unknown given name (x ∷ xs) a b c d e f g h =
 -- the settings that words mean behind what is given
 abbrev pub settings_from : Given → List (List ℕ) → Option Settings
 settings_from given words = option_and_then (λ parts. option_and_then settings_of_given (with_parts given parts)) (parts_of words)
-
-abbrev pub is_carried_given : Given → Type 0
-is_carried_given given = MatchOption given.schema (Unit {0}) (λ schema. list_all is_carried (types_of schema) ≡ true)
 
 pub settings_from-cut : (given : Given) (words : List (List ℕ)) → parts_of words ≡ None → settings_from given words ≡ None
 settings_from-cut given words is = ap (option_and_then (λ parts. option_and_then settings_of_given (with_parts given parts))) is

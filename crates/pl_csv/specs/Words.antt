@@ -1,6 +1,6 @@
 -- The words of the command line and the text of a schema (docs/command-line.md).
-use Rattle.std.specs.Prelude.{ℕ, ◌+◌, ◌-◌, ◌*◌, ◌^◌, Bool, true, false, not, ◌&&◌, ◌==◌, nat_lt, nat_le, if◌then◌else◌, List, [], ◌∷◌, map, length, codes, Option, None, Some}
-use Rattle.std.specs.List.{list_any, slice_split, before_first, after_first}
+use Rattle.std.specs.Prelude.{ℕ, ◌+◌, ◌-◌, ◌*◌, Bool, true, false, not, ◌&&◌, ◌==◌, ◌≡◌, nat_lt, nat_le, if◌then◌else◌, List, [], ◌∷◌, map, length, codes, Option, None, Some, MatchOption}
+use Rattle.std.specs.List.{list_all, list_any, slice_split, before_first, after_first}
 use Rattle.std.specs.Option.{option_map, option_and_then, unwrap_or}
 use Rattle.std.specs.Str.{bytes_eq}
 use Rattle.pl_frame.specs.declared.data_type.DataType.{DataType}
@@ -8,8 +8,10 @@ use Rattle.pl_frame.specs.declared.data_type.DataType.TheVariants as dtype
 use Rattle.pl_frame.specs.Schema.{names_in}
 use Rattle.pl_scan.specs.Comment.{prefix_from}
 use Rattle.pl_csv.specs.declared.settings.Settings.{Settings}
-use Rattle.pl_csv.specs.declared.words.Given.{Given}
-use Rattle.pl_csv.specs.Integers.{number_below}
+use Rattle.pl_csv.specs.declared.options.Given.{Given}
+use Rattle.pl_csv.specs.Buffers.{is_carried}
+use Rattle.pl_csv.specs.Integers.{is_digits, number_of}
+use Rattle.pl_csv.specs.Reading.{types_of}
 use Rattle.pl_csv.specs.Settings.{SchemaValue, default_settings}
 
 -- the type that a text names
@@ -46,6 +48,10 @@ schema_of text =
     option_and_then (λ entries. if are_distinct (names_in entries) then Some entries else None)
     (all_of (map entry_of (slice_split is_comma text)))
 
+-- the schema, where there is one, has types of which cells can be read
+abbrev pub IsCarriedSchema : Option SchemaValue → Type 0
+IsCarriedSchema schema = MatchOption schema (Unit {0}) (λ schema. list_all is_carried (types_of schema) ≡ true)
+
 -- the word behind an option is not empty and does not begin with a minus
 abbrev pub is_value : List ℕ → Bool
 is_value [] = false
@@ -77,9 +83,9 @@ byte_of (x ∷ y ∷ z ∷ w ∷ others) = None
 abbrev pub quote_of : List ℕ → Option (Option ℕ)
 quote_of text = if bytes_eq text (codes "none") then Some None else option_map (λ byte. Some byte) (byte_of text)
 
--- NUM: 1 to 18 decimal digits, whose number is always below the limit
+-- NUM: 1 to 18 decimal digits
 abbrev pub count_of : List ℕ → Option ℕ
-count_of text = if nat_le (length text) 18 then number_below (2 ^ 64) text else None
+count_of text = if is_digits text && nat_le (length text) 18 then Some (number_of text) else None
 
 -- ---- flags and options
 

@@ -7,6 +7,7 @@ mod compression;
 pub mod counting;
 mod frames;
 mod integers;
+mod options;
 mod quoting;
 pub mod read_all;
 mod reading;

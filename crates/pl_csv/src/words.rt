@@ -4,17 +4,15 @@ ghost use Rattle.std.specs.List.{list_all, list_any, slice_split};
 ghost use Rattle.std.specs.Option.{option_map, option_and_then};
 ghost use Rattle.std.specs.Str.{bytes_eq};
 ghost use Rattle.pl_frame.specs.Schema.{names_in};
-ghost use Rattle.pl_scan.specs.Comment.{prefix_from};
 ghost use Rattle.pl_csv.specs.Buffers.{is_carried};
 ghost use Rattle.pl_csv.specs.Reading.{types_of};
-ghost use Rattle.pl_csv.specs.Words.{named_type, is_comma, entry_of, is_value, schema_of, hexadecimal_digit, hexadecimal_pair, byte_of, quote_of, count_of, at_equals_sign, whole_part, parts_of, once, with_value, with_part, nothing_given, settings_of_given, settings_of_words};
+ghost use Rattle.pl_csv.specs.Words.{named_type, is_comma, entry_of, is_value, schema_of, at_equals_sign, whole_part, parts_of, settings_of_words};
 
-use crate::integers::number_of;
+use crate::options::{Given, give_part, settings_of};
 use crate::settings::Settings;
 use pl_frame::data_type::DataType;
 use pl_frame::name::PlSmallStr;
 use pl_frame::schema::Schema;
-use pl_scan::comment::CommentPrefix;
 use std::alloc::Global;
 
 /// Why words mean no schema.
@@ -117,231 +115,6 @@ pub fn parse_schema(alloc: Global, text: &str) -> Result<Schema, WordsFault>
     Ok(schema)
 }
 
-/// What the words have given so far.
-#[derive(Debug, Drop)]
-pub struct Given {
-    pub schema: Option<Schema>,
-    pub separator: Option<u8>,
-    /// Some(None) where fields are not to be quoted.
-    pub quote_char: Option<Option<u8>>,
-    pub eol_char: Option<u8>,
-    pub comment_prefix: Option<CommentPrefix>,
-    pub no_header: bool,
-    pub skip_lines: Option<usize>,
-    pub skip_rows: Option<usize>,
-    pub skip_rows_after_header: Option<usize>,
-}
-
-impl Given {
-    // What no words give.
-    fn nothing() -> Self
-        ensures { result ≡ nothing_given }
-    {
-        Given {
-            schema: None,
-            separator: None,
-            quote_char: None,
-            eol_char: None,
-            comment_prefix: None,
-            no_header: false,
-            skip_lines: None,
-            skip_rows: None,
-            skip_rows_after_header: None,
-        }
-    }
-}
-
-// What a hexadecimal digit counts.
-fn parse_hexadecimal_digit(byte: u8) -> Option<u8>
-    ensures value { result ≡ hexadecimal_digit byte }
-    ensures small { MatchOption result (Unit {0}) (λ digit. digit < 16) }
-{
-    match byte {
-        b'0'..=b'9' => Some(byte - b'0'),
-        b'A'..=b'F' => Some(byte - b'A' + 10),
-        b'a'..=b'f' => Some(byte - b'a' + 10),
-        _ => None,
-    }
-}
-
-// The byte that two hexadecimal digits write.
-fn parse_hexadecimal_pair(high: u8, low: u8) -> Option<u8>
-    ensures { result ≡ hexadecimal_pair high low }
-{
-    match (parse_hexadecimal_digit(high), parse_hexadecimal_digit(low)) {
-        (Some(high), Some(low)) => Some(16 * high + low),
-        _ => None,
-    }
-}
-
-// The byte that a text writes: one ASCII character, or `x` and two hexadecimal digits.
-fn parse_byte(text: &str) -> Option<u8>
-    ensures { result ≡ byte_of text.now }
-{
-    match text.as_bytes() {
-        [byte] if byte.is_ascii() => Some(*byte),
-        [b'x', high, low] => parse_hexadecimal_pair(*high, *low),
-        _ => None,
-    }
-}
-
-// The quote that a text writes: a byte, or `none`.
-fn parse_quote(text: &str) -> Option<Option<u8>>
-    ensures { result ≡ quote_of text.now }
-{
-    if text == "none" {
-        return Some(None);
-    }
-    match parse_byte(text) {
-        Some(byte) => Some(Some(byte)),
-        None => None,
-    }
-}
-
-// The number that 1 to 18 digits write.
-fn parse_count(text: &str) -> Option<usize>
-    ensures { result ≡ count_of text.now }
-{
-    if text.len() > 18 {
-        return None;
-    }
-    match number_of(text.as_bytes()) {
-        Some(number) => Some(number as usize),
-        None => None,
-    }
-}
-
-// Keeps a value with a meaning where none was given before.
-fn give<T: Copy>(given: &mut Option<T>, meant: Option<T>) -> Result<(), WordsFault>
-    ensures given { OnOk result (once given.old meant ≡ Some given.new) }
-    ensures refused { IsErrOf result WordsFault.Words → once given.old meant ≡ None }
-{
-    match (*given, meant) {
-        (None, Some(_)) => {
-            *given = meant;
-            Ok(())
-        }
-        _ => Err(WordsFault::Words),
-    }
-}
-
-// Keeps the schema of a text where none was given before. Refuses a text without a meaning, and want of memory.
-fn give_schema(alloc: Global, given: &mut Option<Schema>, text: &str) -> Result<(), WordsFault>
-    ensures given { OnOk result (once given.old (schema_of text.now) ≡ Some given.new) }
-    ensures carried { OnOk result (MatchOption given.new (Unit {0}) (λ schema. list_all is_carried (types_of schema) ≡ true)) }
-    ensures refused { IsErrOf result WordsFault.Words → once given.old (schema_of text.now) ≡ None }
-{
-    if given.is_some() {
-        return Err(WordsFault::Words);
-    }
-    match parse_schema(alloc, text) {
-        Ok(schema) => {
-            *given = Some(schema);
-            Ok(())
-        }
-        Err(fault) => Err(fault),
-    }
-}
-
-// Keeps a comment prefix where none was given before. Refuses a second one, and want of memory.
-fn give_comment(
-    alloc: Global,
-    given: &mut Option<CommentPrefix>,
-    text: &str,
-) -> Result<(), WordsFault>
-    ensures given { OnOk result (once given.old (Some (prefix_from text.now)) ≡ Some given.new) }
-    ensures refused { IsErrOf result WordsFault.Words → once given.old (Some (prefix_from text.now)) ≡ None }
-{
-    if given.is_some() {
-        return Err(WordsFault::Words);
-    }
-    match CommentPrefix::new_from_str(alloc, text) {
-        Ok(prefix) => {
-            *given = Some(prefix);
-            Ok(())
-        }
-        Err(_) => Err(WordsFault::OutOfMemory),
-    }
-}
-
-// Keeps the value of an option that was not given before.
-fn give_value(alloc: Global, given: &mut Given, name: &str, value: &str) -> Result<(), WordsFault>
-    requires carried { MatchOption given.old.schema (Unit {0}) (λ schema. list_all is_carried (types_of schema) ≡ true) }
-    ensures given { OnOk result (with_value given.old name.now value.now ≡ Some given.new) }
-    ensures carried { OnOk result (MatchOption given.new.schema (Unit {0}) (λ schema. list_all is_carried (types_of schema) ≡ true)) }
-    ensures refused { IsErrOf result WordsFault.Words → with_value given.old name.now value.now ≡ None }
-{
-    if value.is_empty() {
-        return Err(WordsFault::Words);
-    }
-    match name {
-        "--schema" => give_schema(alloc, &mut given.schema, value),
-        "--sep" => give(&mut given.separator, parse_byte(value)),
-        "--quote" => give(&mut given.quote_char, parse_quote(value)),
-        "--eol" => give(&mut given.eol_char, parse_byte(value)),
-        "--comment" => give_comment(alloc, &mut given.comment_prefix, value),
-        "--skip-lines" => give(&mut given.skip_lines, parse_count(value)),
-        "--skip-rows" => give(&mut given.skip_rows, parse_count(value)),
-        "--skip-after" => give(&mut given.skip_rows_after_header, parse_count(value)),
-        _ => Err(WordsFault::Words),
-    }
-}
-
-// Keeps a flag or an option that was not given before.
-fn give_part(
-    alloc: Global,
-    given: &mut Given,
-    name: &str,
-    value: Option<&str>,
-) -> Result<(), WordsFault>
-    requires carried { MatchOption given.old.schema (Unit {0}) (λ schema. list_all is_carried (types_of schema) ≡ true) }
-    ensures given { OnOk result (with_part given.old (name.now, option_map (λ text. text.now) value.entry) ≡ Some given.new) }
-    ensures carried { OnOk result (MatchOption given.new.schema (Unit {0}) (λ schema. list_all is_carried (types_of schema) ≡ true)) }
-    ensures refused { IsErrOf result WordsFault.Words → with_part given.old (name.now, option_map (λ text. text.now) value.entry) ≡ None }
-{
-    match value {
-        Some(value) => give_value(alloc, given, name, value),
-        None => {
-            if given.no_header {
-                return Err(WordsFault::Words);
-            }
-            given.no_header = true;
-            Ok(())
-        }
-    }
-}
-
-// The settings of what is given, where a schema is.
-fn settings_of(given: Given) -> Option<Settings>
-    ensures { result ≡ settings_of_given given }
-{
-    let Given {
-        schema,
-        separator,
-        quote_char,
-        eol_char,
-        comment_prefix,
-        no_header,
-        skip_lines,
-        skip_rows,
-        skip_rows_after_header,
-    } = given;
-    match schema {
-        Some(schema) => Some(Settings {
-            schema,
-            separator: separator.unwrap_or(b','),
-            quote_char: quote_char.unwrap_or(Some(b'"')),
-            eol_char: eol_char.unwrap_or(b'\n'),
-            comment_prefix,
-            has_header: !no_header,
-            skip_lines: skip_lines.unwrap_or(0),
-            skip_rows: skip_rows.unwrap_or(0),
-            skip_rows_after_header: skip_rows_after_header.unwrap_or(0),
-        }),
-        None => None,
-    }
-}
-
 // Whether a word can be the value of an option.
 fn is_value_word(text: &str) -> bool
     ensures { result ≡ is_value text.now }
@@ -416,6 +189,7 @@ pub fn parse_words(alloc: Global, words: &[String]) -> Result<Settings, WordsFau
 #[cfg(test)]
 mod tests {
     use super::*;
+    use pl_scan::comment::CommentPrefix;
     use std::test::Fail;
 
     fn width(schema: Result<Schema, WordsFault>) -> Result<usize, WordsFault> {

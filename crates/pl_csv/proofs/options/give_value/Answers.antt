@@ -1,5 +1,5 @@
 use Rattle.pl_csv.proofs.WordLaws.{with_value-unknown}
-use Rattle.pl_csv.proofs.words.give_value.Goals as goal
+use Rattle.pl_csv.proofs.options.give_value.Goals as goal
 
 pub returns-in_default-clause-refused : goal.returns-in_default-clause-refused
 returns-in_default-clause-refused c =

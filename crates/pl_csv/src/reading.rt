@@ -60,11 +60,7 @@ fn data_from_start<'a>(input: &'a [u8], settings: &Settings, columns: usize) -> 
 
 /// The frame that an input means. Refuses, in this order, marks that are no dialect, lines and rows that are both to be
 /// skipped, a compressed input, fewer items than are to be skipped, and a record with a fault; and want of memory.
-pub fn read_frame(
-    alloc: Global,
-    input: &[u8],
-    settings: &Settings,
-) -> Result<DataFrame, ReadFault>
+pub fn read_frame(alloc: Global, input: &[u8], settings: &Settings) -> Result<DataFrame, ReadFault>
     requires { list_all is_carried (types_of settings.now.schema) ≡ true }
     ensures { MatchResult result (IsRead settings.now input.now) (IsReadFault settings.now input.now) }
 {

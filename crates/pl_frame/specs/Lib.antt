@@ -9,3 +9,4 @@ pub mod Optional
 pub mod Outside
 pub mod Schema
 pub mod Text
+pub mod Types

@@ -1,5 +1,6 @@
 //! The types of columns.
 ghost use Rattle.std.specs.Prelude.{◌≡◌};
+ghost use Rattle.pl_frame.specs.Types.{is_readable, is_readable_decimal, is_readable_enum};
 
 use crate::name::PlSmallStr;
 use std::marker::Model;
@@ -64,5 +65,16 @@ impl Categories {
         ensures { result.now ≡ self.now }
     {
         &self.texts
+    }
+}
+
+// A scale and a precision that go together.
+fn is_readable_decimal(precision: Option<u32>, scale: Option<u32>) -> bool
+    ensures { result ≡ is_readable_decimal precision scale }
+{
+    match (precision, scale) {
+        (_, None) => false,
+        (None, Some(scale)) => scale <= 38,
+        (Some(digits), Some(scale)) => scale <= 38 && 1 <= digits && digits <= 38 && scale <= digits,
     }
 }

@@ -1,6 +1,6 @@
 -- What a run answers, by its outcome.
-use Rattle.std.proofs.Common.{◌≡◌, ℕ, ◌≤◌, ◌==◌, if◌then◌else◌, Bool, true, false, List, ◌++◌, length, refl, sym, ◌∙◌, ap, subst, append-nil, arith, inl, inr, length-append}
-use Rattle.std.specs.Prelude.{Option, None, Some}
+use Rattle.std.proofs.Common.{◌≡◌, ◌≢◌, ℕ, ◌^◌, ◌<◌, ◌≤◌, ◌==◌, if◌then◌else◌, Bool, true, false, List, ◌++◌, length, refl, sym, ◌∙◌, ap, subst, append-nil, arith, inl, inr, length-append}
+use Rattle.std.specs.Prelude.{Option, None, Some, IsSome, ◌⊎◌}
 use Rattle.std.specs.Io.KnownBytes.{Consumes, IsAtEnd}
 use Rattle.pl_frame.specs.Frame.{ColumnValue}
 use Rattle.pl_csv.specs.declared.reading.ReadFault.{ReadFault}
@@ -9,7 +9,8 @@ use Rattle.pl_csv.specs.declared.run.Refusal.{Refusal}
 use Rattle.pl_csv.specs.declared.run.Refusal.TheVariants as refusal
 use Rattle.pl_csv.specs.declared.settings.Settings.{Settings}
 use Rattle.pl_csv.specs.Reading.{IsRead, IsReadFault, is_faulty}
-use Rattle.pl_csv.specs.Run.{HasRead, HasCause, IsValid, Views, IsRefused, status_of, IsExpected}
+use Rattle.pl_csv.specs.Run.{HasRead, HasCause, IsValid, IsInvalid, Views, IsRefused, status_of, status_of_fault, IsDue, EndsAsDue, Converted}
+use Rattle.pl_csv.specs.Words.{settings_of_words}
 
 -- an input that is known is the one that was read
 pub same_input : (input came : List ℕ) (now : Option (List ℕ)) → Consumes (Some input) now came → IsAtEnd now → input ≡ came
@@ -42,7 +43,7 @@ true_false true one other = cc
 true_false false one other = cc
 
 -- an input that has a reference read has no fault
-no_fault : (s : Settings) (input : List ℕ) (frame : List ColumnValue) (fault : ReadFault) → IsRead s input frame → IsReadFault s input fault → (fault ≡ read_fault.OutOfMemory → ⊥) → ⊥
+no_fault : (s : Settings) (input : List ℕ) (frame : List ColumnValue) (fault : ReadFault) → IsRead s input frame → IsReadFault s input fault → fault ≢ read_fault.OutOfMemory → ⊥
 no_fault s input frame read_fault.Dialect read is other = is read.can_start.0
 no_fault s input frame read_fault.Option read is other = read.can_start.1 is.1
 no_fault s input frame read_fault.Compressed read is other = true_false _ is.1 read.no_mark
@@ -52,42 +53,146 @@ no_fault s input frame read_fault.Record read is other =
     true_false _ (sym (ap (is_faulty s) same) ∙ is.4) read.whole
 no_fault s input frame read_fault.OutOfMemory read is other = other refl
 
--- a valid input has no cause
-no_cause : (words : List (List ℕ)) (left left_now : Option (List ℕ)) (input : List ℕ) (fault : ReadFault) → HasCause words left left_now fault → (fault ≡ read_fault.OutOfMemory → ⊥)
-    → left ≡ Some input → IsValid words input → ⊥
-no_cause words left left_now input fault cause other told valid =
+-- an input has one first cause
+one_fault : (s : Settings) (input : List ℕ) (f g : ReadFault) → IsReadFault s input f → IsReadFault s input g → f ≢ read_fault.OutOfMemory → g ≢ read_fault.OutOfMemory → f ≡ g
+one_fault s input read_fault.Dialect read_fault.Dialect x y known_x known_y = refl
+one_fault s input read_fault.Dialect read_fault.Option x y known_x known_y = absurd (x y.0)
+one_fault s input read_fault.Dialect read_fault.Compressed x y known_x known_y = absurd (x y.0.0)
+one_fault s input read_fault.Dialect read_fault.Skip x y known_x known_y = absurd (x y.0.0)
+one_fault s input read_fault.Dialect read_fault.Record x y known_x known_y = absurd (x y.0.0)
+one_fault s input read_fault.Dialect read_fault.OutOfMemory x y known_x known_y = absurd (known_y refl)
+one_fault s input read_fault.Option read_fault.Dialect x y known_x known_y = absurd (y x.0)
+one_fault s input read_fault.Option read_fault.Option x y known_x known_y = refl
+one_fault s input read_fault.Option read_fault.Compressed x y known_x known_y = absurd (y.0.1 x.1)
+one_fault s input read_fault.Option read_fault.Skip x y known_x known_y = absurd (y.0.1 x.1)
+one_fault s input read_fault.Option read_fault.Record x y known_x known_y = absurd (y.0.1 x.1)
+one_fault s input read_fault.Option read_fault.OutOfMemory x y known_x known_y = absurd (known_y refl)
+one_fault s input read_fault.Compressed read_fault.Dialect x y known_x known_y = absurd (y x.0.0)
+one_fault s input read_fault.Compressed read_fault.Option x y known_x known_y = absurd (x.0.1 y.1)
+one_fault s input read_fault.Compressed read_fault.Compressed x y known_x known_y = refl
+one_fault s input read_fault.Compressed read_fault.Skip x y known_x known_y = absurd (true_false _ x.1 y.1)
+one_fault s input read_fault.Compressed read_fault.Record x y known_x known_y = absurd (true_false _ x.1 y.1)
+one_fault s input read_fault.Compressed read_fault.OutOfMemory x y known_x known_y = absurd (known_y refl)
+one_fault s input read_fault.Skip read_fault.Dialect x y known_x known_y = absurd (y x.0.0)
+one_fault s input read_fault.Skip read_fault.Option x y known_x known_y = absurd (x.0.1 y.1)
+one_fault s input read_fault.Skip read_fault.Compressed x y known_x known_y = absurd (true_false _ y.1 x.1)
+one_fault s input read_fault.Skip read_fault.Skip x y known_x known_y = refl
+one_fault s input read_fault.Skip read_fault.Record x y known_x known_y = absurd (none_some _ y.2 x.2 y.3)
+one_fault s input read_fault.Skip read_fault.OutOfMemory x y known_x known_y = absurd (known_y refl)
+one_fault s input read_fault.Record read_fault.Dialect x y known_x known_y = absurd (y x.0.0)
+one_fault s input read_fault.Record read_fault.Option x y known_x known_y = absurd (x.0.1 y.1)
+one_fault s input read_fault.Record read_fault.Compressed x y known_x known_y = absurd (true_false _ y.1 x.1)
+one_fault s input read_fault.Record read_fault.Skip x y known_x known_y = absurd (none_some _ x.2 y.2 x.3)
+one_fault s input read_fault.Record read_fault.Record x y known_x known_y = refl
+one_fault s input read_fault.Record read_fault.OutOfMemory x y known_x known_y = absurd (known_y refl)
+one_fault s input read_fault.OutOfMemory read_fault.Dialect x y known_x known_y = absurd (known_x refl)
+one_fault s input read_fault.OutOfMemory read_fault.Option x y known_x known_y = absurd (known_x refl)
+one_fault s input read_fault.OutOfMemory read_fault.Compressed x y known_x known_y = absurd (known_x refl)
+one_fault s input read_fault.OutOfMemory read_fault.Skip x y known_x known_y = absurd (known_x refl)
+one_fault s input read_fault.OutOfMemory read_fault.Record x y known_x known_y = absurd (known_x refl)
+one_fault s input read_fault.OutOfMemory read_fault.OutOfMemory x y known_x known_y = absurd (known_y refl)
+
+-- words and a known input that were read have settings and a length that are known
+pub record WasRead (words : List (List ℕ)) (input : List ℕ) : Type 0 where
+  pub settings : Settings
+  pub meaning : settings_of_words words ≡ Some settings
+  pub within : length input ≤ 2 ^ 36
+
+abbrev was_read : (words : List (List ℕ)) (input : List ℕ) (left left_now : Option (List ℕ)) (read : HasRead words left left_now) → left ≡ Some input → WasRead words input
+was_read words input left left_now read told =
+    record { settings = read.settings; meaning = read.meaning; within = subst (λ i. length i ≤ 2 ^ 36) (sym (known_input words input left left_now read told)) read.within }
+
+-- what is due to an input that has a reference read
+due-read : (words : List (List ℕ)) (input : List ℕ) (status : ℕ) (was : WasRead words input) (frame : List ColumnValue) → IsRead was.settings input frame → IsDue words input status → status ≡ 0
+due-read words input status was frame read (inl due) = absurd (none_some _ was.settings due.0 was.meaning)
+due-read words input status was frame read (inr (inl due)) = absurd (omega (arith, due.1, was.within))
+due-read words input status was frame read (inr (inr (inl due))) = due.1
+due-read words input status was frame read (inr (inr (inr due))) =
+    let invalid = due.1 in
+    let same = same_some _ was.settings invalid.settings was.meaning invalid.meaning in
+    absurd (no_fault invalid.settings input frame due.0 (subst (λ s. IsRead s input frame) same read) invalid.cause invalid.known)
+
+-- what is due to an input that has none
+due-fault : (words : List (List ℕ)) (input : List ℕ) (status : ℕ) (was : WasRead words input) (fault : ReadFault) → IsReadFault was.settings input fault → fault ≢ read_fault.OutOfMemory
+    → IsDue words input status → status ≡ status_of_fault fault
+due-fault words input status was fault is known (inl due) = absurd (none_some _ was.settings due.0 was.meaning)
+due-fault words input status was fault is known (inr (inl due)) = absurd (omega (arith, due.1, was.within))
+due-fault words input status was fault is known (inr (inr (inl due))) =
+    let valid = due.0 in
+    let same = same_some _ was.settings valid.settings was.meaning valid.meaning in
+    absurd (no_fault valid.settings input valid.frame fault valid.read (subst (λ s. IsReadFault s input fault) same is) known)
+due-fault words input status was fault is known (inr (inr (inr due))) =
+    let invalid = due.1 in
+    let same = same_some _ was.settings invalid.settings was.meaning invalid.meaning in
+    due.2 ∙ ap status_of_fault (one_fault invalid.settings input due.0 fault invalid.cause (subst (λ s. IsReadFault s input fault) same is) invalid.known known)
+
+-- what is due where a cause was found
+due-cause : (words : List (List ℕ)) (left left_now : Option (List ℕ)) (input : List ℕ) (status : ℕ) (fault : ReadFault) → HasCause words left left_now fault → fault ≢ read_fault.OutOfMemory
+    → left ≡ Some input → IsDue words input status → status ≡ status_of_fault fault
+due-cause words left left_now input status fault cause known told due =
     let read = cause.read in
     let same = known_input words input left left_now read told in
-    let meaning = same_some _ valid.settings read.settings valid.meaning read.meaning in
-    no_fault read.settings read.input valid.frame fault (subst (λ s. IsRead s read.input valid.frame) meaning (subst (λ i. IsRead valid.settings i valid.frame) same valid.read)) cause.is other
+    due-fault words input status (was_read words input left left_now read told) fault (subst (λ i. IsReadFault read.settings i fault) (sym same) cause.is) known due
 
-abbrev other_fault : (fault : ReadFault) → Bool
-other_fault read_fault.OutOfMemory = false
-other_fault _ = true
+-- a told input that was converted was due to be
+pub due-converted : (words : List (List ℕ)) (before now : Views) (input : List ℕ) (status : ℕ) → Converted words before.left now.left before.received now.received
+    → before.left ≡ Some input → IsDue words input status → EndsAsDue status 0 before now
+due-converted words before now input status converted told due =
+    let read = converted.read in
+    let same = known_input words input before.left now.left read told in
+    inl (sym (due-read words input status (was_read words input before.left now.left read told) converted.is.0 (subst (λ i. IsRead read.settings i converted.is.0) (sym same) converted.is.1) due))
 
-is_other : (fault : ReadFault) → other_fault fault ≡ true → fault ≡ read_fault.OutOfMemory → ⊥
-is_other fault h e = true_false _ h (ap other_fault e)
+-- a cause, and no want of memory
+abbrev is_known : ReadFault → Bool
+is_known read_fault.OutOfMemory = false
+is_known _ = true
 
-pub valid-refused : (words : List (List ℕ)) (before now : Views) (input : List ℕ) (r : Refusal) → IsRefused words before now r → before.left ≡ Some input → IsValid words input
-    → IsExpected (status_of r) before now
-valid-refused words before now input refusal.Words is told valid = absurd (none_some _ valid.settings is.0 valid.meaning)
-valid-refused words before now input refusal.Source is told valid = inr (inr (inl (refl, is.1)))
-valid-refused words before now input refusal.Sink is told valid = inr (inr (inr (refl, is.0)))
-valid-refused words before now input refusal.OutOfMemory is told valid = inr (inl refl)
-valid-refused words before now input refusal.TooLong is told valid =
+other_fault : (fault : ReadFault) → is_known fault ≡ true → fault ≢ read_fault.OutOfMemory
+other_fault fault h e = true_false _ h (ap is_known e)
+
+none_is_some : {X : Type 0} {o : Option X} → o ≡ None → IsSome o → ⊥
+none_is_some {o = None} e some = cc
+none_is_some {X = X} {o = Some x} e some = none_some (Some x) x e refl
+
+-- what is due where the words have no meaning
+due-words : (words : List (List ℕ)) (input : List ℕ) (status : ℕ) → settings_of_words words ≡ None → IsDue words input status → status ≡ 2
+due-words words input status none (inl due) = due.1
+due-words words input status none (inr (inl due)) = absurd (none_is_some none due.0)
+due-words words input status none (inr (inr (inl due))) = absurd (none_some _ due.0.settings none due.0.meaning)
+due-words words input status none (inr (inr (inr due))) = absurd (none_some _ due.1.settings none due.1.meaning)
+
+-- what is due where the input is too long
+due-long : (words : List (List ℕ)) (input : List ℕ) (status : ℕ) → IsSome (settings_of_words words) → 2 ^ 36 < length input → IsDue words input status → status ≡ 6
+due-long words input status some long (inl due) = absurd (none_is_some due.0 some)
+due-long words input status some long (inr (inl due)) = due.2
+due-long words input status some long (inr (inr (inl due))) = absurd (omega (arith, long, due.0.within))
+due-long words input status some long (inr (inr (inr due))) = absurd (omega (arith, long, due.1.within))
+
+-- a told input that was refused ends as is due
+pub due-refused : (words : List (List ℕ)) (before now : Views) (input : List ℕ) (status : ℕ) (r : Refusal) → IsRefused words before now r → before.left ≡ Some input → IsDue words input status
+    → EndsAsDue status (status_of r) before now
+due-refused words before now input status refusal.Words is told due = inl (sym (due-words words input status is.0 due))
+due-refused words before now input status refusal.Source is told due = inr (inr (inl (refl, is.1)))
+due-refused words before now input status refusal.Sink is told due =
+    let part = is.1 in
+    let read = part.read in
+    let same = known_input words input before.left now.left read told in
+    inr (inr (inr (refl, due-read words input status (was_read words input before.left now.left read told) part.is.0 (subst (λ i. IsRead read.settings i part.is.0) (sym same) part.is.1) due, is.0)))
+due-refused words before now input status refusal.OutOfMemory is told due = inr (inl refl)
+due-refused words before now input status refusal.TooLong is told due =
     let came = is.1 in
     let least = longer_input input came.0 now.left (subst (λ l. Consumes l now.left came.0) told came.1) in
-    absurd (omega (arith, came.2, valid.within))
-valid-refused words before now input refusal.Dialect is told valid =
-    absurd (no_cause words before.left now.left input read_fault.Dialect is.0 (is_other read_fault.Dialect refl) told valid)
-valid-refused words before now input refusal.Option is told valid =
-    absurd (no_cause words before.left now.left input read_fault.Option is.0 (is_other read_fault.Option refl) told valid)
-valid-refused words before now input refusal.Compressed is told valid =
-    absurd (no_cause words before.left now.left input read_fault.Compressed is.0 (is_other read_fault.Compressed refl) told valid)
-valid-refused words before now input refusal.Skip is told valid =
-    absurd (no_cause words before.left now.left input read_fault.Skip is.0 (is_other read_fault.Skip refl) told valid)
-valid-refused words before now input refusal.Record is told valid =
-    absurd (no_cause words before.left now.left input read_fault.Record is.0 (is_other read_fault.Record refl) told valid)
+    inl (sym (due-long words input status is.0 (omega (arith, came.2, least)) due))
+due-refused words before now input status refusal.Dialect is told due =
+    inl (sym (due-cause words before.left now.left input status read_fault.Dialect is.0 (other_fault read_fault.Dialect refl) told due))
+due-refused words before now input status refusal.Option is told due =
+    inl (sym (due-cause words before.left now.left input status read_fault.Option is.0 (other_fault read_fault.Option refl) told due))
+due-refused words before now input status refusal.Compressed is told due =
+    inl (sym (due-cause words before.left now.left input status read_fault.Compressed is.0 (other_fault read_fault.Compressed refl) told due))
+due-refused words before now input status refusal.Skip is told due =
+    inl (sym (due-cause words before.left now.left input status read_fault.Skip is.0 (other_fault read_fault.Skip refl) told due))
+due-refused words before now input status refusal.Record is told due =
+    inl (sym (due-cause words before.left now.left input status read_fault.Record is.0 (other_fault read_fault.Record refl) told due))
 
 -- the refusal of a status
 abbrev named : ℕ → Refusal

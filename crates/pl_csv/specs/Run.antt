@@ -1,5 +1,5 @@
 -- What a run has done, by its status (docs/command-line.md).
-use Rattle.std.specs.Prelude.{◌≡◌, ℕ, ◌^◌, ◌<◌, ◌≤◌, ◌==◌, ◌⊎◌, if◌then◌else◌, Bool, List, [], ◌∷◌, length, codes, Option, None, Some, IsSome}
+use Rattle.std.specs.Prelude.{◌≡◌, ◌≢◌, ℕ, ◌^◌, ◌<◌, ◌≤◌, ◌==◌, ◌⊎◌, if◌then◌else◌, Bool, List, [], ◌∷◌, length, codes, Option, None, Some, IsSome}
 use Rattle.std.specs.Io.KnownBytes.{Consumes, IsAtEnd, Appends, Keeps}
 use Rattle.std.specs.List.{list_any}
 use Rattle.pl_frame.specs.Causes.{Rose}
@@ -139,7 +139,37 @@ pub record IsValid (words : List (List ℕ)) (input : List ℕ) : Type 0 where
   pub frame : List ColumnValue
   pub read : IsRead settings input frame
 
--- success, or want of memory, or a fault of the source or of the sink whose count rose
-abbrev pub IsExpected : ℕ → Views → Views → Type 0
-IsExpected status before now =
-    (status ≡ 0) ⊎ (status ≡ 5) ⊎ ((status ≡ 3) × Rose before.source_faults now.source_faults) ⊎ ((status ≡ 4) × Rose before.sink_faults now.sink_faults)
+-- the words mean settings under which an input of at most 2 ^ 36 bytes has no reference read, first for this cause
+pub record IsInvalid (words : List (List ℕ)) (input : List ℕ) (fault : ReadFault) : Type 0 where
+  pub settings : Settings
+  pub meaning : settings_of_words words ≡ Some settings
+  pub within : length input ≤ 2 ^ 36
+  pub cause : IsReadFault settings input fault
+  pub known : fault ≢ read_fault.OutOfMemory
+
+-- the status of a cause for which an input has no reference read
+abbrev pub status_of_fault : ReadFault → ℕ
+status_of_fault read_fault.Dialect = 11
+status_of_fault read_fault.Option = 12
+status_of_fault read_fault.Compressed = 14
+status_of_fault read_fault.Skip = 20
+status_of_fault read_fault.Record = 24
+status_of_fault read_fault.OutOfMemory = 5
+
+-- The status that is due to words and a whole input: 2 where the words have no meaning, 6 where the input is too long,
+-- 0 where it has a reference read, and else that of the first cause for which it has none.
+abbrev pub IsDue : List (List ℕ) → List ℕ → ℕ → Type 0
+IsDue words input status =
+    ((settings_of_words words ≡ None) × (status ≡ 2))
+    ⊎ (IsSome (settings_of_words words) × (2 ^ 36 < length input) × (status ≡ 6))
+    ⊎ (IsValid words input × (status ≡ 0))
+    ⊎ ((fault : ReadFault) × IsInvalid words input fault × (status ≡ status_of_fault fault))
+
+-- the status that is due, or want of memory, or a fault of the source, or of the sink where a text is due; of the two only
+-- one whose count rose
+abbrev pub EndsAsDue : ℕ → ℕ → Views → Views → Type 0
+EndsAsDue due status before now =
+    (status ≡ due)
+    ⊎ (status ≡ 5)
+    ⊎ ((status ≡ 3) × Rose before.source_faults now.source_faults)
+    ⊎ ((status ≡ 4) × (due ≡ 0) × Rose before.sink_faults now.sink_faults)

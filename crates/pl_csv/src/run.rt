@@ -3,7 +3,7 @@ ghost use Rattle.std.specs.Prelude.{◌≡◌, ◌≤◌, ◌⊎◌, ℕ, List, 
 ghost use Rattle.std.specs.Io.KnownBytes.{Keeps};
 ghost use Rattle.pl_frame.specs.Causes.{Rose};
 ghost use Rattle.pl_csv.specs.Words.{settings_of_words};
-ghost use Rattle.pl_csv.specs.Run.{status_of, fault_line, is_status, IsTold, IsValid, IsExpected, HasFrame, HasCause, IsReadRefused, Converted, ConvertedPart, IsTooLong, IsRefused, views};
+ghost use Rattle.pl_csv.specs.Run.{status_of, fault_line, is_status, IsTold, IsDue, EndsAsDue, HasFrame, HasCause, IsReadRefused, Converted, ConvertedPart, IsTooLong, IsRefused, views};
 
 use crate::read_all::{ReadAllFault, read_all};
 use crate::reading::{ReadFault, read_frame};
@@ -181,9 +181,9 @@ pub fn run<So: Source, Si: Sink, Se: Sink>(
     ensures faulty { result ≡ 24 → HasCause (map string_bytes words.now) (So.left source.old) (So.left source.new) ReadFault.Record × Keeps (Si.received out.old) (Si.received out.new) }
     ensures known { IsTrue (is_status result) }
 
-    // What is valid is converted, up to want of memory and a count that rose.
+    // The status that is due to the words and the input comes, up to want of memory and a count that rose.
     ensures no_meaning { settings_of_words (map string_bytes words.now) ≡ None → (result ≡ 2) ⊎ (result ≡ 5) }
-    ensures valid { (input : List ℕ) → So.left source.old ≡ Some input → IsValid (map string_bytes words.now) input → IsExpected result
+    ensures due { (input : List ℕ) (status : ℕ) → So.left source.old ≡ Some input → IsDue (map string_bytes words.now) input status → EndsAsDue status result
         (views (So.left source.old) (Si.received out.old) (So.faults source.old) (Si.faults out.old))
         (views (So.left source.new) (Si.received out.new) (So.faults source.new) (Si.faults out.new)) }
 

@@ -1,14 +1,21 @@
 use Rattle.std.proofs.Common.{map, string_bytes, sym, ◌∙◌, subst}
-use Rattle.pl_csv.specs.Run.{views, IsExpected}
-use Rattle.pl_csv.proofs.RunLaws.{valid-refused, refused-as}
+use Rattle.pl_csv.specs.Run.{views, EndsAsDue}
+use Rattle.pl_csv.proofs.RunLaws.{due-converted, due-refused, refused-as}
 use Rattle.pl_csv.proofs.run.run.Goals as goal
 
-pub returns-in-Err-clause-valid : goal.returns-in-Err-clause-valid
-returns-in-Err-clause-valid g c = λ input told valid.
+pub returns-in-Ok-clause-due : goal.returns-in-Ok-clause-due
+returns-in-Ok-clause-due g c = λ input status told due.
     let words = map string_bytes c.args.words.now in
     let before = views (g.So.Source.left c.args.source.now) (g.Si.Sink.received c.args.out.now) (g.So.Source.faults c.args.source.now) (g.Si.Sink.faults c.args.out.now) in
     let now = views (g.So.Source.left c.convert.new.source) (g.Si.Sink.received c.convert.new.out) (g.So.Source.faults c.convert.new.source) (g.Si.Sink.faults c.convert.new.out) in
-    subst (λ s. IsExpected s before now) (sym c.status.ensures) (valid-refused words before now input c.in-Err.refusal c.in-Err.ensures.refused told valid)
+    due-converted words before now input status c.in-Ok.ensures.converted told due
+
+pub returns-in-Err-clause-due : goal.returns-in-Err-clause-due
+returns-in-Err-clause-due g c = λ input status told due.
+    let words = map string_bytes c.args.words.now in
+    let before = views (g.So.Source.left c.args.source.now) (g.Si.Sink.received c.args.out.now) (g.So.Source.faults c.args.source.now) (g.Si.Sink.faults c.args.out.now) in
+    let now = views (g.So.Source.left c.convert.new.source) (g.Si.Sink.received c.convert.new.out) (g.So.Source.faults c.convert.new.source) (g.Si.Sink.faults c.convert.new.out) in
+    subst (λ s. EndsAsDue status s before now) (sym c.status.ensures) (due-refused words before now input status c.in-Err.refusal c.in-Err.ensures.refused told due)
 
 pub returns-in-Err-clause-dialect : goal.returns-in-Err-clause-dialect
 returns-in-Err-clause-dialect g c = λ e.

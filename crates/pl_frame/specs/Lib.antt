@@ -7,6 +7,7 @@ pub mod Names
 pub mod Opening
 pub mod Optional
 pub mod Outside
+pub mod Printed
 pub mod Schema
 pub mod Text
 pub mod Types

@@ -11,7 +11,7 @@ use Rattle.pl_scan.specs.declared.row_counter.Place.TheVariants.{Front, Start, F
 use Rattle.pl_scan.specs.Fields.{is_quote, is_plain, is_stop, begins_quoted, cut_field, field, behind, extent}
 use Rattle.pl_scan.specs.Items.{items, item, text_of}
 use Rattle.pl_scan.specs.RowCount.{cut_line_ends, is_row}
-use Rattle.pl_scan.specs.RowPlaces.{next_at_stop, next_place, begun, rows_behind, is_unquoted, place_of}
+use Rattle.pl_scan.specs.RowPlaces.{next_at_stop, next_place, begun, rows_behind, is_unquoted, is_run_place, place_of}
 use Rattle.pl_scan.proofs.Walk.{is_even, is_even-mark, mark, onto, walk}
 use Rattle.pl_scan.proofs.FieldLaws.{unquoted, cut_field-is, IsWalk-cut_field, is_stop-cut_field, behind-some, behind-shorter}
 use Rattle.pl_scan.proofs.ItemLaws.{extent_last, extent_more, IsRecordAt-extent, items-nil, items-step}
@@ -219,6 +219,24 @@ rows-unquoted m p (x ∷ y ∷ xs) (suc last) rest unquoted_p apart plain h =
     ∙ add_assoc _ _ _
     ∙ ap (λ k. cond (x == m.line_end) 1 0 + k) more
     ∙ sym (ap (λ (n : Place × ℕ). rows_from m n (y ∷ xs ++ rest)) next)
+
+-- in a quoted field at an odd number of quotes no row ends before the next quote
+rows-odd : (m : Marks) (xs rest : List ℕ) → ((k : ℕ) → k < length xs → is_quote m.quote (get_or xs k 0) ≡ false)
+    → rows_behind m Odd rest ≡ rows_behind m Odd (xs ++ rest)
+rows-odd m [] rest _ = refl
+rows-odd m (x ∷ xs) rest plain =
+    rows-odd m xs rest (λ k h. plain (suc k) (omega arith))
+    ∙ sym (zero-add (rows_behind m Odd (xs ++ rest)))
+    ∙ ap (λ q. rows_from m (cond q Even Odd, 0) (xs ++ rest)) (sym (plain 0 (omega arith)))
+
+pub rows-inside : (m : Marks) (p : Place) (xs rest : List ℕ) → is_run_place p ≡ true → is_unquoted p ≡ false
+    → ((k : ℕ) → k < length xs → is_quote m.quote (get_or xs k 0) ≡ false) → 0 + rows_behind m p rest ≡ rows_behind m p (xs ++ rest)
+rows-inside m Front xs rest h _ _ = absurd (cc)
+rows-inside m Start xs rest _ h _ = absurd (cc)
+rows-inside m Field xs rest _ h _ = absurd (cc)
+rows-inside m Plain xs rest _ h _ = absurd (cc)
+rows-inside m Even xs rest h _ _ = absurd (cc)
+rows-inside m Odd xs rest _ _ plain = zero-add (rows_behind m Odd rest) ∙ rows-odd m xs rest plain
 
 -- ---- how many there are
 

@@ -33,7 +33,7 @@ abbrev pub rows_behind : Marks → Place → List ℕ → ℕ
 rows_behind m p [] = begun p
 rows_behind m p (x ∷ xs) = (next_place m p x).1 + rows_behind m (next_place m p x).0 xs
 
--- no quote was seen since the last separator or line end, and the front of the text lies behind
+-- no quoted field is open, and the front of the text lies behind
 abbrev pub is_unquoted : Place → Bool
 is_unquoted Front = false
 is_unquoted Start = true
@@ -42,7 +42,16 @@ is_unquoted Plain = true
 is_unquoted Even = false
 is_unquoted Odd = false
 
--- the place behind a byte that is no quote, from such a place
+-- where bytes without quotes can be counted at once: no quoted field is open, or one that only a quote can end
+abbrev pub is_run_place : Place → Bool
+is_run_place Front = false
+is_run_place Start = true
+is_run_place Field = true
+is_run_place Plain = true
+is_run_place Even = false
+is_run_place Odd = true
+
+-- the place behind a byte that is no quote, where no quoted field is open
 abbrev pub place_of : ℕ → ℕ → ℕ → Place
 place_of s e x = if x == s then Field else (if x == e then Start else Plain)
 

@@ -1,17 +1,17 @@
 //! A count of the rows of a text that comes block by block.
-ghost use Rattle.std.specs.Prelude.{◌≡◌, ◌≢◌, ℕ, ◌+◌, ◌-◌, ◌^◌, ◌<◌, ◌≤◌, ◌==◌, false, if◌then◌else◌, List, [], ◌++◌, length, slice_index, None, count_by};
+ghost use Rattle.std.specs.Prelude.{◌≡◌, ◌≢◌, ℕ, ◌+◌, ◌-◌, ◌^◌, ◌<◌, ◌≤◌, ◌==◌, true, false, if◌then◌else◌, List, [], ◌++◌, length, slice_index, take, Option, None, count_by};
 ghost use Rattle.pl_frame.specs.Dialect.{marks, IsDialect};
 ghost use Rattle.pl_scan.specs.Fields.{is_quote};
 ghost use Rattle.pl_scan.specs.Items.{items};
 ghost use Rattle.pl_scan.specs.RowCount.{cut_line_ends, is_row};
-ghost use Rattle.pl_scan.specs.RowPlaces.{next_place, is_unquoted, place_of, rows_behind, Count, rows_with};
+ghost use Rattle.pl_scan.specs.RowPlaces.{next_place, is_unquoted, is_run_place, place_of, rows_behind, Count, rows_with};
 
 use crate::fields::is_the_quote;
 use memchr::memchr;
 use std::marker::Model;
 
-// How many bytes are searched for a quote at once.
-const PIECE_SIZE: usize = 1024;
+// How many bytes are searched for a quote before they are counted.
+const PIECE_SIZE: usize = 16384;
 
 // How many bytes are counted in one byte.
 const LANE_SIZE: usize = 192;
@@ -33,46 +33,29 @@ enum Place {
     Odd,
 }
 
-// The place behind one more byte, and whether a row ends at it.
+// The place behind one more byte, and how many rows end at it.
 #[inline]
-fn step(place: Place, byte: u8, separator: u8, quote_char: Option<u8>, eol_char: u8) -> (Place, bool)
-    ensures { (result.0, if result.1 then 1 else 0) ≡ next_place (marks separator quote_char eol_char) place byte }
-{
-    match place {
-        Place::Odd if is_the_quote(quote_char, byte) => (Place::Even, false),
-        Place::Odd => (Place::Odd, false),
-        Place::Front if byte == eol_char => (Place::Front, false),
-        _ if byte == separator => (Place::Field, false),
-        _ if byte == eol_char => (Place::Start, true),
-        Place::Plain => (Place::Plain, false),
-        _ if is_the_quote(quote_char, byte) => (Place::Odd, false),
-        Place::Even => (Place::Even, false),
-        _ => (Place::Plain, false),
-    }
-}
-
-// The place behind a piece, and how many rows end in it, byte by byte.
-fn count_bytewise(
-    piece: &[u8],
+fn step(
     place: Place,
+    byte: u8,
     separator: u8,
     quote_char: Option<u8>,
     eol_char: u8,
 ) -> (Place, usize)
-    ensures rows { (rest : List ℕ) → result.1 + rows_behind (marks separator quote_char eol_char) result.0 rest
-        ≡ rows_behind (marks separator quote_char eol_char) place (piece.now ++ rest) }
-    ensures few { result.1 ≤ length piece.now }
+    ensures value { result ≡ next_place (marks separator quote_char eol_char) place byte }
+    ensures few { result.1 ≤ 1 }
 {
-    let mut behind = place;
-    let mut rows = 0;
-    for &byte in piece {
-        let (next, ends) = step(behind, byte, separator, quote_char, eol_char);
-        behind = next;
-        if ends {
-            rows += 1;
-        }
+    match place {
+        Place::Odd if is_the_quote(quote_char, byte) => (Place::Even, 0),
+        Place::Odd => (Place::Odd, 0),
+        Place::Front if byte == eol_char => (Place::Front, 0),
+        _ if byte == separator => (Place::Field, 0),
+        _ if byte == eol_char => (Place::Start, 1),
+        Place::Plain => (Place::Plain, 0),
+        _ if is_the_quote(quote_char, byte) => (Place::Odd, 0),
+        Place::Even => (Place::Even, 0),
+        _ => (Place::Plain, 0),
     }
-    (behind, rows)
 }
 
 // How often a byte stands in a few bytes.
@@ -104,13 +87,18 @@ fn count_byte(bytes: &[u8], byte: u8) -> usize
     number
 }
 
-// Whether the quote, if there is one, stands in a slice.
-fn holds_quote(bytes: &[u8], quote_char: Option<u8>) -> bool
-    ensures { result ≡ false → (k : ℕ) → k < length bytes.now → is_quote quote_char (slice_index bytes.now k) ≡ false }
+// How many bytes come before the first quote, if there is one.
+#[inline]
+fn len_before_quote(bytes: &[u8], quote_char: Option<u8>) -> usize
+    ensures fits { result ≤ length bytes.now }
+    ensures none { (k : ℕ) → k < result → is_quote quote_char (slice_index bytes.now k) ≡ false }
 {
     match quote_char {
-        Some(quote) => memchr(quote, bytes).is_some(),
-        None => false,
+        Some(quote) => match memchr(quote, bytes) {
+            Some(at) => at,
+            None => bytes.len(),
+        },
+        None => bytes.len(),
     }
 }
 
@@ -136,24 +124,68 @@ fn place_of(byte: u8, separator: u8, eol_char: u8) -> Place
     }
 }
 
-// The place behind a piece, and how many rows end in it.
-fn count_piece(
-    piece: &[u8],
+// Whether bytes without quotes can be counted at once from a place on.
+#[inline]
+fn is_run_place(place: Place) -> bool
+    ensures { result ≡ is_run_place place }
+{
+    !matches!(place, Place::Front | Place::Even)
+}
+
+// How many bytes can be counted at once.
+#[inline]
+fn run_len(left: &[u8], place: Place, quote_char: Option<u8>) -> usize
+    ensures fits { result ≤ length left.now }
+    ensures none { (k : ℕ) → k < result → is_quote quote_char (slice_index left.now k) ≡ false }
+    ensures place { 0 < result → is_run_place place ≡ true }
+{
+    if is_run_place(place) {
+        len_before_quote(&left[..left.len().min(PIECE_SIZE)], quote_char)
+    } else {
+        0
+    }
+}
+
+// The place behind bytes without quotes, and how many rows end in them.
+#[inline]
+fn count_run(run: &[u8], place: Place, separator: u8, eol_char: u8) -> (Place, usize)
+    requires { (is_run_place place ≡ true) × (separator ≢ eol_char) × (0 < length run.now) }
+    ensures rows { (quote : Option ℕ) → ((k : ℕ) → k < length run.now → is_quote quote (slice_index run.now k) ≡ false)
+        → (rest : List ℕ) → result.1 + rows_behind (marks separator quote eol_char) result.0 rest
+        ≡ rows_behind (marks separator quote eol_char) place (run.now ++ rest) }
+    ensures few { result.1 ≤ length run.now }
+{
+    if is_unquoted(place) {
+        let behind = place_of(run[run.len() - 1], separator, eol_char);
+        (behind, count_byte(run, eol_char))
+    } else {
+        (place, 0)
+    }
+}
+
+// Some bytes at the front: the place behind them, how many rows end in them, and how many bytes they are.
+#[inline]
+fn count_front(
+    left: &[u8],
     place: Place,
     separator: u8,
     quote_char: Option<u8>,
     eol_char: u8,
-) -> (Place, usize)
-    requires { (separator ≢ eol_char) × (0 < length piece.now) }
+) -> (Place, usize, usize)
+    requires { (separator ≢ eol_char) × (0 < length left.now) }
+    ensures some { 0 < result.2 }
+    ensures fits { result.2 ≤ length left.now }
     ensures rows { (rest : List ℕ) → result.1 + rows_behind (marks separator quote_char eol_char) result.0 rest
-        ≡ rows_behind (marks separator quote_char eol_char) place (piece.now ++ rest) }
-    ensures few { result.1 ≤ length piece.now }
+        ≡ rows_behind (marks separator quote_char eol_char) place (take result.2 left.now ++ rest) }
+    ensures few { result.1 ≤ result.2 }
 {
-    if is_unquoted(place) && !holds_quote(piece, quote_char) {
-        let behind = place_of(piece[piece.len() - 1], separator, eol_char);
-        (behind, count_byte(piece, eol_char))
+    let len = run_len(left, place, quote_char);
+    if len > 0 {
+        let (behind, rows) = count_run(&left[..len], place, separator, eol_char);
+        (behind, rows, len)
     } else {
-        count_bytewise(piece, place, separator, quote_char, eol_char)
+        let (behind, rows) = step(place, left[0], separator, quote_char, eol_char);
+        (behind, rows, 1)
     }
 }
 
@@ -174,10 +206,10 @@ fn count_block(
     let mut rows = 0;
     let mut left = block;
     while !left.is_empty() {
-        let (piece, others) = left.split_at(left.len().min(PIECE_SIZE));
-        let (next, number) = count_piece(piece, behind, separator, quote_char, eol_char);
+        let (next, number, len) = count_front(left, behind, separator, quote_char, eol_char);
         behind = next;
         rows += number;
+        let (_, others) = left.split_at(len);
         left = others;
     }
     (behind, rows)

@@ -276,4 +276,59 @@ mod tests {
         let mut opener = PipeOpener::new(&entries, 1, &[5]);
         assert_eq!(rt; count(alloc, &mut opener, "f").ok(), Some(1));
     }
+
+    #[test]
+    fn blocks_may_end_anywhere(rt: HostRuntime) {
+        let alloc = rt.alloc();
+        let entries: [(&str, &[u8]); 6] = [
+            ("plain", b"\n\na,b\n1,2\n\n3,4"),
+            ("quoted", b"a\n\"1\n\"\"2\"\nx\"y\n"),
+            ("open", b"a\n\"1\n2\n"),
+            ("ends", b"\n\n\n\n\n"),
+            ("zstd", &[0x28, 0xB5, 0x2F, 0xFD, b'\n', b'a']),
+            ("short", &[0x28, 0xB5, 0x2F]),
+        ];
+        for step in 1..8 {
+            let mut opener = PipeOpener::new(&entries, step, &[]);
+            for (path, rows) in [
+                ("plain", 3),
+                ("quoted", 2),
+                ("open", 1),
+                ("ends", 0),
+                ("short", 0),
+            ] {
+                let counted = count(alloc, &mut opener, path);
+                assert_eq!(rt; counted.ok(), Some(rows), "{path} by {step}");
+            }
+            let packed = count(alloc, &mut opener, "zstd");
+            assert!(rt;
+                matches!(
+                    packed,
+                    Err(PolarsError::ComputeError(ComputeFault::Compressed))
+                ),
+                "by {step}"
+            );
+        }
+    }
+
+    #[test]
+    fn comments_are_no_rows(rt: HostRuntime) {
+        let alloc = rt.alloc();
+        let prefix = CommentPrefix::new_single(b'#');
+        let entries: [(&str, &[u8]); 1] = [("f", b"#c\na\n\n#d\n1\n")];
+        let mut opener = PipeOpener::new(&entries, 2, &[]);
+        let commented = count_rows(
+            alloc,
+            &mut opener,
+            "f",
+            b',',
+            None,
+            Some(&prefix),
+            b'\n',
+            true,
+        );
+        assert_eq!(rt; commented.ok(), Some(1));
+        let plain = count_rows(alloc, &mut opener, "f", b',', None, None, b'\n', true);
+        assert_eq!(rt; plain.ok(), Some(4));
+    }
 }

@@ -1,5 +1,5 @@
 -- The laws of places: the number of rows behind a place is the number of items.
-use Rattle.std.proofs.Common.{◌≡◌, ◌≢◌, ℕ, zero, suc, ◌+◌, ◌-◌, ◌<◌, ◌≤◌, Bool, true, false, cond, not, ◌&&◌, ◌||◌, ◌==◌, List, [], ◌∷◌, ◌++◌, length, take, drop, get_or, refl, sym, ◌∙◌, ap, arith, zero-add, add-zero, add_assoc, one-add, length-drop}
+use Rattle.std.proofs.Common.{◌≡◌, ◌≢◌, ℕ, zero, suc, ◌+◌, ◌<◌, ◌≤◌, Bool, true, false, cond, not, ◌&&◌, ◌||◌, ◌==◌, List, [], ◌∷◌, ◌++◌, length, take, drop, get_or, refl, sym, ◌∙◌, ap, arith, zero-add, add-zero, add_assoc, one-add, length-drop}
 use Rattle.std.specs.Prelude.{Option, None, Some, count_by}
 use Rattle.std.specs.List.{prefix_len}
 use Rattle.std.proofs.lemmas.List.Sums.{sum_by-cons}
@@ -8,7 +8,7 @@ use Rattle.std.proofs.lemmas.Bool.Decides.{nat_tests}
 use Rattle.pl_frame.specs.Dialect.{Marks}
 use Rattle.pl_scan.specs.declared.row_counter.Place.{Place}
 use Rattle.pl_scan.specs.declared.row_counter.Place.TheVariants.{Front, Start, Field, Plain, Even, Odd}
-use Rattle.pl_scan.specs.Fields.{is_quote, is_plain, is_stop, begins_quoted, cut_field, field, behind, extent}
+use Rattle.pl_scan.specs.Fields.{is_quote, is_plain, is_stop, cut_field, field, behind, extent}
 use Rattle.pl_scan.specs.Items.{items, item, text_of}
 use Rattle.pl_scan.specs.RowCount.{cut_line_ends, is_row}
 use Rattle.pl_scan.specs.RowPlaces.{next_at_stop, next_place, begun, rows_behind, is_unquoted, is_run_place, place_of}
@@ -68,6 +68,7 @@ rows-quoted m n (x ∷ xs) = by_tests (is_even n) (is_plain m x) (is_quote m.quo
   where
     next : (t q : Bool) → is_even n ≡ t → is_quote m.quote x ≡ q → inside (n + mark m x) ≡ cond (cond q (not t) t) Even Odd
     next t q even quote = ap (λ (u : Bool). cond u Even Odd) (is_even-mark m n x ∙ rw (even, quote) refl)
+
     by_tests : (t u q : Bool) → is_even n ≡ t → is_plain m x ≡ u → is_quote m.quote x ≡ q
         → rows_behind m (inside (n + mark m x)) xs ≡ rows_left m (walk m (n + mark m x) xs).1
         → rows_from m (next_place m (cond t Even Odd) x) xs ≡ rows_left m (cond (t && not u) ([], x ∷ xs) (onto x (walk m (n + mark m x) xs))).1
@@ -122,6 +123,7 @@ record_within m (suc n) b h = rows-field m b ∙ by_rest (behind m.separator (cu
   where
     rest : drop (length (field m b)) b ≡ (cut_field m b).1
     rest = ap (drop (length (field m b))) (sym (IsWalk-cut_field m b).whole) ∙ drop_at (field m b) (cut_field m b).1 (length (field m b)) refl
+
     by_rest : (o : Option (List ℕ)) → behind m.separator (cut_field m b).1 ≡ o
         → ((r : List ℕ) → length r < n → rows_behind m Field r ≡ 1 + rows_behind m Start (drop (extent m r + 1) r))
         → rows_left m (cut_field m b).1 ≡ 1 + rows_behind m Start (drop (extent m b + 1) b)

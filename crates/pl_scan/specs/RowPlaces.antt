@@ -1,6 +1,6 @@
 -- The places of a text between its bytes, by what the bytes before them opened. They stand behind the view of a count that
 -- goes on; contracts speak of items.
-use Rattle.std.specs.Prelude.{ℕ, ◌+◌, Bool, true, false, ◌==◌, if◌then◌else◌, List, [], ◌∷◌, Option}
+use Rattle.std.specs.Prelude.{ℕ, ◌+◌, Bool, true, false, ◌==◌, if◌then◌else◌, List, [], ◌∷◌}
 use Rattle.pl_frame.specs.Dialect.{Marks}
 use Rattle.pl_scan.specs.Fields.{is_quote}
 use Rattle.pl_scan.specs.declared.row_counter.Place.{Place}

@@ -25,6 +25,6 @@ loop-count-preserved g c =
       within = omega (arith, c.loop-count.invariant.within);
       few = omega (arith, c.add.ensures.few, c.loop-count.invariant.few, size);
       counted = HasCounted-more m _ _ _ c.loop-count.front.items c.extend_from_slice.new.self.items c.loop-count.length c.in-Ok.count c.min-wanting.result c.loop-count.counter c.add.new.self c.read.new.buf
-      c.loop-count.invariant.counted inside c.in-Ok.ensures.bytes.0 least (search rules) c.add.ensures.rows;
+          c.loop-count.invariant.counted inside c.in-Ok.ensures.bytes.0 least (search rules) c.add.ensures.rows;
       later = search rules;
     }

@@ -7,5 +7,8 @@ use Rattle.pl_csv.proofs.counting.count_rows_of_bytes.Goals as goal
 pub returns : goal.returns
 returns c =
     let d = c.dialect_ok.ensures.0 c.if-not-dialect_ok.false in
-    inr (d, (c.count_rows_from_slice.ensures.rows _).1 (d, refl)
-    ∙ sym (counted-plain c.args.has_header _ _ c.args.bytes.now (sym c.has_compression_mark.ensures ∙ c.if-has_compression_mark.false)))
+    inr (
+      d,
+      (c.count_rows_from_slice.ensures.rows _).1 (d, refl)
+          ∙ sym (counted-plain c.args.has_header _ _ c.args.bytes.now (sym c.has_compression_mark.ensures ∙ c.if-has_compression_mark.false)),
+    )

@@ -1,4 +1,4 @@
-use Rattle.std.proofs.Common.{◌≡◌, ◌∙◌, ap, sym, ℕ, ◌+◌, List, ◌++◌, take, drop, length, rules, arith, add_assoc, append_assoc, length-drop}
+use Rattle.std.proofs.Common.{◌≡◌, ◌∙◌, ap, sym, ◌+◌, ◌++◌, take, drop, rules, arith, add_assoc, append_assoc, length-drop}
 use Rattle.std.proofs.lemmas.List.{take-append-drop}
 use Rattle.pl_frame.specs.Dialect.{marks}
 use Rattle.pl_scan.specs.RowPlaces.{rows_behind}

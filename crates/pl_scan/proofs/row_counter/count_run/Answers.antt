@@ -1,4 +1,4 @@
-use Rattle.std.proofs.Common.{sym, ◌∙◌, ap, rules, arith, ◌+◌, length, ◌-◌}
+use Rattle.std.proofs.Common.{sym, ◌∙◌, ap, arith, ◌+◌, length, ◌-◌}
 use Rattle.std.specs.Prelude.{◌≡◌, ◌==◌, count_by}
 use Rattle.pl_frame.specs.Dialect.{marks}
 use Rattle.pl_scan.specs.RowPlaces.{rows_behind}

@@ -5,7 +5,7 @@ ghost use Rattle.pl_frame.specs.Causes.{Rose};
 ghost use Rattle.pl_csv.specs.Words.{settings_of_words};
 ghost use Rattle.pl_csv.specs.Run.{status_of, fault_line, is_status, IsTold, IsDue, EndsAsDue, HasFrame, HasCause, IsReadRefused, Converted, ConvertedPart, IsTooLong, IsRefused, views};
 
-use crate::read_all::{ReadAllFault, read_all};
+use crate::read_all::{LIMIT, ReadAllFault, read_all};
 use crate::reading::{ReadFault, read_frame};
 use crate::words::{WordsFault, parse_words};
 use crate::writer::write_frame;
@@ -13,9 +13,6 @@ use pl_frame::frame::DataFrame;
 use pl_frame::sink::{Sink, SinkFault, write_all};
 use pl_frame::source::Source;
 use std::alloc::Global;
-
-/// The largest input, in bytes.
-const LIMIT: usize = 1 << 36;
 
 /// Why a run ends with a status other than 0.
 #[derive(Clone, Copy, Debug, PartialEq, Eq)]

@@ -7,8 +7,8 @@ use Rattle.pl_frame.specs.declared.error.FaultKind.{FaultKind}
 use Rattle.pl_frame.specs.declared.error.FaultKind.TheVariants as fault
 use Rattle.pl_frame.specs.Frame.{Scalar, Number, Letters}
 use Rattle.pl_scan.specs.Fields.{begins_quoted}
-use Rattle.pl_csv.specs.Integers.{int64_value, without_blanks}
-use Rattle.pl_csv.specs.Quoting.{strip, is_well_quoted, inside, undouble}
+use Rattle.pl_cells.specs.Integers.{int64_value, without_blanks}
+use Rattle.pl_cells.specs.Quoting.{strip, is_well_quoted, inside, undouble}
 
 -- a value or a null, or what is wrong
 abbrev pub Cell : Type 0

@@ -4,14 +4,14 @@ ghost use Rattle.std.specs.Str.{is_utf8};
 ghost use Rattle.std.specs.Option.{option_map};
 ghost use Rattle.pl_frame.specs.Frame.{Number, Letters};
 ghost use Rattle.pl_scan.specs.Fields.{begins_quoted};
-ghost use Rattle.pl_csv.specs.Integers.{without_blanks};
-ghost use Rattle.pl_csv.specs.Quoting.{undouble};
+ghost use Rattle.pl_cells.specs.Integers.{without_blanks};
+ghost use Rattle.pl_cells.specs.Quoting.{undouble};
 ghost use Rattle.pl_csv.specs.Cells.{cell, number_cell, text_cell, text_or_null, quoted_cell, plain_cell, quoted_field_cell};
 ghost use Rattle.pl_csv.specs.Buffers.{AddsNumber, AddsText, AddsCell, IsCellFault, buffer_type, buffer_values, state_of, is_carried};
 
-use crate::integers::parse_int64;
-use crate::quoting::{between_quotes, undouble_into, without_return};
 use memchr::memchr;
+use pl_cells::integers::parse_int64;
+use pl_cells::quoting::{between_quotes, undouble_into, without_return};
 use pl_frame::column::{Column, Series};
 use pl_frame::data_type::DataType;
 use pl_frame::name::PlSmallStr;

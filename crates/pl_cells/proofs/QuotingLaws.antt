@@ -4,7 +4,7 @@ use Rattle.std.proofs.lemmas.List.{take_all, drop_all}
 use Rattle.std.specs.Str.{IsUtf8, is_utf8}
 use Rattle.std.proofs.lemmas.Str.{IsUtf8-from_is_utf8}
 use Rattle.memchr.specs.Find.{Nowhere, Passes, is_byte}
-use Rattle.pl_csv.specs.Quoting.{undouble}
+use Rattle.pl_cells.specs.Quoting.{undouble}
 
 pub undouble-other : (q x : ℕ) (xs : List ℕ) → (x == q) ≡ false → undouble q (x ∷ xs) ≡ x ∷ undouble q xs
 undouble-other q x [] e = rw (e, undouble) refl

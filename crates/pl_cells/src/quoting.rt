@@ -1,6 +1,6 @@
 //! The text of a field: without its carriage return, between its quotes, and with doubled quotes undoubled.
 ghost use Rattle.std.specs.Prelude.{◌≡◌, ◌<◌, ◌++◌, ◌∷◌, [], if◌then◌else◌, OnOk, MatchOption, true, false, length, slice_get, Some};
-ghost use Rattle.pl_csv.specs.Quoting.{strip, is_well_quoted, inside, undouble};
+ghost use Rattle.pl_cells.specs.Quoting.{strip, is_well_quoted, inside, undouble};
 
 use memchr::memchr;
 use std::alloc::AllocError;

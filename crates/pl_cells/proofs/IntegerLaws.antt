@@ -1,11 +1,13 @@
 -- The number of a text of digits, read digit by digit.
-use Rattle.std.proofs.Common.{◌≡◌, ℕ, zero, suc, ◌+◌, ◌-◌, ◌*◌, ◌^◌, ◌<◌, ◌≤◌, Bool, true, false, cond, ◌&&◌, ltb, List, [], ◌∷◌, ◌++◌, length, take, drop, get_or, add-one, lit<, refl, sym, ◌∙◌, ap, subst, arith, Some, None}
-use Rattle.std.proofs.Math.Nat.{pow-le-pow_right, pow-suc}
+use Rattle.std.proofs.Common.{◌≡◌, ℕ, zero, suc, ◌+◌, ◌-◌, ◌*◌, ◌^◌, ◌<◌, ◌≤◌, Bool, true, false, cond, ◌&&◌, ltb, List, [], ◌∷◌, ◌++◌, length, take, drop, get_or, add-one, lit<, refl, sym, ◌∙◌, ap, subst, arith, Some, None, replicate, Option, true≢false}
+use Rattle.std.proofs.Math.Nat.{pow-le-pow_right, pow-suc, mul-le-mul_right, mul_assoc}
+use Rattle.std.proofs.lemmas.Nat.{pow-add}
 use Rattle.std.specs.Str.{all_ascii_digits}
 use Rattle.std.specs.Char.{is_ascii_digit}
-use Rattle.std.proofs.lemmas.List.{take_more, take-append-drop}
+use Rattle.std.proofs.lemmas.List.{take_all, take_more, take-append-drop}
 use Rattle.std.proofs.lemmas.Bool.Decides.{nat_tests}
-use Rattle.pl_csv.specs.Integers.{is_digits, number_after, number_of, number_below}
+use Rattle.pl_cells.specs.Integers.{is_digits, number_after, number_of, number_below}
+use Rattle.pl_cells.specs.Times.{filled}
 
 pub number_after-append : (n : ℕ) (xs ys : List ℕ) → number_after n (xs ++ ys) ≡ number_after (number_after n xs) ys
 number_after-append n [] ys = refl
@@ -81,3 +83,58 @@ nineteen n i h few = omega (arith, pow-le-pow_right {n = 10} (lit< tt) {i = i} {
 -- a digit writes less than ten
 pub digit_small : (x : ℕ) → is_ascii_digit x ≡ true → x - 48 < 10
 digit_small x h = grind (arith, nat_tests)
+
+and_true : (s t : Bool) → (s && t) ≡ true → (s ≡ true) × (t ≡ true)
+and_true true t e = (refl, e)
+and_true false t e = cc
+
+-- so many digits write less than ten to their number
+pub number_after-small : (n : ℕ) (xs : List ℕ) → all_ascii_digits xs ≡ true → number_after n xs < (n + 1) * 10 ^ length xs
+number_after-small n [] digits = omega arith
+number_after-small n (x ∷ xs) digits =
+    let parts = and_true (is_ascii_digit x) (all_ascii_digits xs) digits in
+    let next : n * 10 + (x - 48) + 1 ≤ (n + 1) * 10 = omega (arith, digit_small x parts.0) in
+    let wider : (n * 10 + (x - 48) + 1) * 10 ^ length xs ≤ (n + 1) * 10 * 10 ^ length xs = mul-le-mul_right (10 ^ length xs) next in
+    let whole : (n + 1) * 10 * 10 ^ length xs ≡ (n + 1) * 10 ^ suc (length xs) = mul_assoc (n + 1) 10 (10 ^ length xs) ∙ ap (λ p. (n + 1) * p) (sym (ten_times (length xs))) in
+    omega (arith, number_after-small (n * 10 + (x - 48)) xs parts.1, wider, whole)
+  where
+    ten_times : (i : ℕ) → 10 ^ suc i ≡ 10 * 10 ^ i
+    ten_times i = pow-suc 10 i ∙ omega arith
+
+-- zeros behind a number multiply it by ten each
+pub number_after-zeros : (n k : ℕ) → number_after n (replicate k 48) ≡ n * 10 ^ k
+number_after-zeros n zero = omega arith
+number_after-zeros n (suc k) = number_after-zeros (n * 10 + 0) k ∙ ap (λ p. p * 10 ^ k) (by_ten n) ∙ mul_assoc n 10 (10 ^ k) ∙ ap (λ p. n * p) (sym (ten_times k))
+  where
+    by_ten : (m : ℕ) → m * 10 + 0 ≡ m * 10
+    by_ten m = omega arith
+
+    ten_times : (i : ℕ) → 10 ^ suc i ≡ 10 * 10 ^ i
+    ten_times i = pow-suc 10 i ∙ omega arith
+
+pub number_of-filled : (digits : List ℕ) (count : ℕ) → length digits ≤ count → number_of (filled count digits) ≡ number_of digits * 10 ^ (count - length digits)
+number_of-filled digits count few =
+    ap (λ l. number_of (l ++ replicate (count - length digits) 48)) (take_all count digits few)
+    ∙ number_after-append 0 digits (replicate (count - length digits) 48)
+    ∙ number_after-zeros (number_of digits) (count - length digits)
+
+-- digits with zeros behind them to so many write less than ten to that
+pub number_of-filled-small : (digits : List ℕ) (count : ℕ) → length digits ≤ count → all_ascii_digits digits ≡ true → number_of digits * 10 ^ (count - length digits) < 10 ^ count
+number_of-filled-small digits count few all =
+    let small : number_of digits + 1 ≤ 10 ^ length digits = omega (arith, number_after-small 0 digits all) in
+    let wide : (number_of digits + 1) * 10 ^ (count - length digits) ≤ 10 ^ length digits * 10 ^ (count - length digits) = mul-le-mul_right (10 ^ (count - length digits)) small in
+    let sum : 10 ^ length digits * 10 ^ (count - length digits) ≡ 10 ^ count = sym (pow-add 10 (length digits) (count - length digits)) ∙ ap (λ k. 10 ^ k) (omega arith) in
+    let some : 0 < 10 ^ (count - length digits) = omega (arith, pow-le-pow_right {n = 10} (lit< tt) {i = 0} {j = count - length digits} (omega arith)) in
+    omega (arith, wide, sum, some)
+
+-- what a reader of digits tells
+pub number_below-tells : (limit : ℕ) (xs : List ℕ) (n : ℕ) → Some n ≡ number_below limit xs → (is_digits xs ≡ true) × (n ≡ number_of xs)
+number_below-tells limit xs n e = by (is_digits xs) refl
+  where
+    by : (t : Bool) → is_digits xs ≡ t → (is_digits xs ≡ true) × (n ≡ number_of xs)
+    by true digits = (digits, grind (arith, digits, e, nat_tests))
+    by false digits = absurd (grind (arith, digits, e, nat_tests))
+
+pub all_ascii_digits-is : (xs : List ℕ) → is_digits xs ≡ true → all_ascii_digits xs ≡ true
+all_ascii_digits-is [] e = refl
+all_ascii_digits-is (x ∷ xs) e = e

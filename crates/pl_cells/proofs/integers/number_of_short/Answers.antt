@@ -1,7 +1,7 @@
 use Rattle.std.proofs.Common.{◌≡◌, ◌+◌, ◌*◌, ◌<◌, ◌^◌, false, true, get_or, arith, rules, lit<}
 use Rattle.std.specs.Char.{is_ascii_digit}
-use Rattle.pl_csv.proofs.IntegerLaws.{number_below-spoilt, all_ascii_digits_more, number_of_more, ten_more, nineteen, digit_small}
-use Rattle.pl_csv.proofs.integers.number_of_short.Goals as goal
+use Rattle.pl_cells.proofs.IntegerLaws.{number_below-spoilt, all_ascii_digits_more, number_of_more, ten_more, nineteen, digit_small}
+use Rattle.pl_cells.proofs.integers.number_of_short.Goals as goal
 
 pub returns-then-not-is_ascii_digit : goal.returns-then-not-is_ascii_digit
 returns-then-not-is_ascii_digit c =

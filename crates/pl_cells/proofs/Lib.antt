@@ -1,0 +1,4 @@
+pub mod DateLaws
+pub mod IntegerLaws
+pub mod QuotingLaws
+pub mod TimeLaws

@@ -1,9 +1,9 @@
 -- The nanoseconds of a fraction.
-use Rattle.std.proofs.Common.{◌≡◌, ℕ, ◌+◌, ◌-◌, ◌*◌, ◌^◌, ◌<◌, ◌≤◌, Bool, true, List, ◌∷◌, length, Some, refl, sym, ◌∙◌, ap, arith}
+use Rattle.std.proofs.Common.{◌≡◌, ℕ, ◌-◌, ◌*◌, ◌^◌, ◌<◌, ◌≤◌, true, List, ◌∷◌, length, Some, sym, ap, arith}
 use Rattle.std.proofs.lemmas.Bool.Decides.{nat_tests}
 use Rattle.std.specs.Prelude.{nat_le}
-use Rattle.pl_cells.specs.Integers.{is_digits, number_of, number_below}
-use Rattle.pl_cells.specs.Times.{filled, fraction_value}
+use Rattle.pl_cells.specs.Integers.{number_below}
+use Rattle.pl_cells.specs.Times.{fraction_value}
 use Rattle.pl_cells.proofs.IntegerLaws.{number_of-filled, number_of-filled-small, number_below-tells, all_ascii_digits-is}
 
 pub fraction_value-is : (digits : List ℕ) (n p : ℕ) → length digits ≤ 9 → Some n ≡ number_below (2 ^ 64) digits → p ≡ 10 ^ (9 - length digits) → Some (n * p) ≡ fraction_value (46 ∷ digits)

@@ -1,5 +1,5 @@
 -- The truth value of a text (docs/types.md, "Booleans").
-use Rattle.std.specs.Prelude.{ℕ, Bool, true, false, ◌||◌, if◌then◌else◌, List, [], ◌∷◌, Option, None, Some}
+use Rattle.std.specs.Prelude.{ℕ, Bool, true, false, if◌then◌else◌, List, [], ◌∷◌, Option, None, Some}
 use Rattle.std.specs.Str.{str_eq_ignore_ascii_case}
 
 -- `true`

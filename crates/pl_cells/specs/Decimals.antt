@@ -1,6 +1,5 @@
 -- The decimal number of a text (docs/types.md, "Decimals").
-use Rattle.std.specs.Prelude.{ℕ, ℤ, ◌-◌, Bool, true, false, ◌&&◌, ◌==◌, if◌then◌else◌, List, [], ◌∷◌, ◌++◌, length, take, drop, Option, None, Some}
-use Rattle.std.specs.Str.{all_ascii_digits}
+use Rattle.std.specs.Prelude.{ℕ, ℤ, Bool, true, false, ◌&&◌, ◌==◌, if◌then◌else◌, List, [], ◌∷◌, ◌++◌, drop, Option, None}
 use Rattle.pl_frame.specs.Types.{decimal_range}
 use Rattle.pl_cells.specs.Integers.{is_digits, number_of, is_negative, without_sign, signed, only_within}
 use Rattle.pl_cells.specs.Times.{filled}

@@ -1,7 +1,7 @@
 -- The number that a text writes in decimal digits (docs/types.md, "Whole numbers").
-use Rattle.std.specs.Prelude.{ℕ, ℤ, pos, neg_ℤ, ◌+◌, ◌-◌, ◌*◌, ◌^◌, Bool, true, false, not, ◌&&◌, ◌||◌, ◌==◌, nat_lt, if◌then◌else◌, List, [], ◌∷◌, Option, None, Some}
+use Rattle.std.specs.Prelude.{ℕ, ℤ, pos, neg_ℤ, ◌+◌, ◌-◌, ◌*◌, Bool, true, false, ◌&&◌, ◌||◌, ◌==◌, nat_lt, if◌then◌else◌, List, [], ◌∷◌, Option, None, Some}
 use Rattle.std.specs.Str.{all_ascii_digits}
-use Rattle.pl_frame.specs.Types.{Range, from_to, signed_range, unsigned_range, is_within}
+use Rattle.pl_frame.specs.Types.{Range, signed_range, is_within}
 
 -- one or more ASCII digits
 abbrev pub is_digits : List ℕ → Bool

@@ -1,5 +1,6 @@
 //! Days from text. No call takes memory.
-ghost use Rattle.std.specs.Prelude.{◌≡◌, ◌+◌, ◌≤◌, ◌<◌, length, pos, IfSome, Some};
+ghost use Rattle.std.specs.Prelude.{◌≡◌, ◌+◌, ◌≤◌, ◌<◌, length, pos, IfSome, Some, true};
+ghost use Rattle.pl_frame.specs.Types.{is_within, day_range};
 ghost use Rattle.pl_cells.specs.Integers.{digits_value};
 ghost use Rattle.pl_cells.specs.Dates.{part, date_value, day_number};
 
@@ -38,7 +39,8 @@ fn day_of(year: u16, month: u8, day: u8) -> Option<i64>
     requires year_in { year < 10000 }
     requires month_in { month < 100 }
     requires day_in { day < 100 }
-    ensures { result ≡ day_number (Some year) (Some month) (Some day) }
+    ensures value { result ≡ day_number (Some year) (Some month) (Some day) }
+    ensures within { IfSome result (λ n. is_within day_range n ≡ true) }
 {
     match Date::new(year as i16, month as i8, day as i8) {
         Ok(date) => Some(i64::from(date.to_unix_epoch_day())),
@@ -50,7 +52,8 @@ fn day_of(year: u16, month: u8, day: u8) -> Option<i64>
 /// 9999.
 #[inline]
 pub fn parse_date(text: &[u8]) -> Option<i64>
-    ensures { result ≡ date_value text.now }
+    ensures value { result ≡ date_value text.now }
+    ensures within { IfSome result (λ n. is_within day_range n ≡ true) }
 {
     if text.len() != 10 || text[4] != b'-' || text[7] != b'-' {
         return None;

@@ -1,8 +1,9 @@
 //! Times of the day, and dates with times, from text. No call takes memory.
-ghost use Rattle.std.specs.Prelude.{◌≡◌, ◌+◌, ◌*◌, ◌≤◌, ◌<◌, ◌^◌, length, pos, IfSome, Some, take, drop, ◌∷◌};
+ghost use Rattle.std.specs.Prelude.{◌≡◌, ◌+◌, ◌*◌, ◌≤◌, ◌<◌, ◌^◌, length, pos, IfSome, Some, take, drop, ◌∷◌, true};
 ghost use Rattle.std.specs.Option.{option_map};
-ghost use Rattle.pl_frame.specs.Types.{units_in_second};
-ghost use Rattle.pl_cells.specs.Integers.{number_of, digits_value, number_below};
+ghost use Rattle.pl_frame.specs.Types.{units_in_second, is_within, day_range, time_range, signed_range};
+ghost use Rattle.pl_cells.specs.Integers.{number_of, digits_value, number_below, only_within};
+ghost use Rattle.pl_cells.specs.Dates.{date_value};
 ghost use Rattle.pl_cells.specs.Times.{clock_value, second_of_day, filled, fraction_value, time_value, count_of_units, datetime_of, datetime_value};
 
 use crate::dates::{parse_date, two_digits};
@@ -84,11 +85,11 @@ fn parse_fraction(text: &[u8]) -> Option<u64>
     }
 }
 
-/// The nanoseconds of the day that a text writes as `HH:MM:SS`, and behind that nothing or a point and one to nine
-/// digits.
+// The nanoseconds of the day.
 #[inline]
-pub fn parse_time(text: &[u8]) -> Option<i64>
-    ensures { result ≡ option_map pos (time_value text.now) }
+fn nanosecond_of_day(text: &[u8]) -> Option<u64>
+    ensures value { result ≡ time_value text.now }
+    ensures small { IfSome result (λ n. n < 86400 * 10 ^ 9) }
 {
     if text.len() < 8 {
         return None;
@@ -96,5 +97,80 @@ pub fn parse_time(text: &[u8]) -> Option<i64>
     let (clock, fraction) = text.split_at(8);
     let seconds = parse_clock(clock)?;
     let nanoseconds = parse_fraction(fraction)?;
-    Some((seconds * NANOSECONDS + nanoseconds) as i64)
+    Some(seconds * NANOSECONDS + nanoseconds)
+}
+
+/// The nanoseconds of the day that a text writes as `HH:MM:SS`, and behind that nothing or a point and one to nine
+/// digits.
+#[inline]
+pub fn parse_time(text: &[u8]) -> Option<i64>
+    ensures value { result ≡ option_map pos (time_value text.now) }
+    ensures within { IfSome result (λ n. is_within time_range n ≡ true) }
+{
+    match nanosecond_of_day(text) {
+        Some(nanoseconds) => Some(nanoseconds as i64),
+        None => None,
+    }
+}
+
+// How many units make a second.
+#[inline]
+fn units_in(unit: TimeUnit) -> u64
+    ensures { result ≡ units_in_second unit }
+{
+    match unit {
+        TimeUnit::Milliseconds => 1_000,
+        TimeUnit::Microseconds => 1_000_000,
+        TimeUnit::Nanoseconds => NANOSECONDS,
+    }
+}
+
+// The number, where it fits 64 bits.
+#[inline]
+fn in_64_bits(number: i128) -> Option<i64>
+    ensures { result ≡ only_within (signed_range 64) number }
+{
+    if number < i128::from(i64::MIN) || number > i128::from(i64::MAX) {
+        None
+    } else {
+        Some(number as i64)
+    }
+}
+
+// The count of units of a day and of the nanoseconds of that day.
+#[inline]
+fn units_of(units: u64, day: i64, nanoseconds: u64) -> i128
+    requires units_in { units ≤ 10 ^ 9 }
+    requires some { 0 < units }
+    requires day_in { is_within day_range day ≡ true }
+    requires time_in { nanoseconds < 86400 * 10 ^ 9 }
+    ensures { result ≡ count_of_units units day nanoseconds }
+{
+    let whole = i128::from(day) * i128::from(86_400 * units);
+    whole + i128::from(nanoseconds / (NANOSECONDS / units))
+}
+
+// The count of units of a date and a time of day.
+#[inline]
+fn datetime_of_parts(date: &[u8], time: &[u8], unit: TimeUnit) -> Option<i64>
+    ensures { result ≡ datetime_of (units_in_second unit) (date_value date.now) (time_value time.now) }
+{
+    let day = parse_date(date)?;
+    let nanoseconds = nanosecond_of_day(time)?;
+    in_64_bits(units_of(units_in(unit), day, nanoseconds))
+}
+
+/// The count of units from 1970-01-01T00:00:00 that a text writes as a date, `T` or one space, and a time, where it fits
+/// 64 bits. Digits past the unit are cut.
+#[inline]
+pub fn parse_datetime(text: &[u8], unit: TimeUnit) -> Option<i64>
+    ensures { result ≡ datetime_value unit text.now }
+{
+    if text.len() < 11 {
+        return None;
+    }
+    match text[10] {
+        b'T' | b' ' => datetime_of_parts(&text[..10], &text[11..], unit),
+        _ => None,
+    }
 }

@@ -16,15 +16,21 @@ number_after-append n (x ∷ xs) ys = number_after-append (n * 10 + (x - 48)) xs
 pub number_of_more : (xs : List ℕ) (i : ℕ) → i < length xs → number_of (take (i + 1) xs) ≡ number_of (take i xs) * 10 + (get_or xs i 0 - 48)
 number_of_more xs i h = ap number_of (take_more xs i 0 h) ∙ number_after-append 0 (take i xs) (get_or xs i 0 ∷ [])
 
+pub number_after_more : (n : ℕ) (xs : List ℕ) (i : ℕ) → i < length xs → number_after n (take (i + 1) xs) ≡ number_after n (take i xs) * 10 + (get_or xs i 0 - 48)
+number_after_more n xs i h = ap (number_after n) (take_more xs i 0 h) ∙ number_after-append n (take i xs) (get_or xs i 0 ∷ [])
+
 pub number_after-ge : (n : ℕ) (xs : List ℕ) → n ≤ number_after n xs
 number_after-ge n [] = omega arith
 number_after-ge n (x ∷ xs) = omega (arith, number_after-ge (n * 10 + (x - 48)) xs)
 
 -- the number of the first digits is no greater than that of all
+pub number_after-take : (n : ℕ) (xs : List ℕ) (i : ℕ) → number_after n (take i xs) ≤ number_after n xs
+number_after-take n xs i =
+    subst (λ (ys : List ℕ). number_after n (take i xs) ≤ number_after n ys) (take-append-drop i xs)
+    (subst (λ (m : ℕ). number_after n (take i xs) ≤ m) (sym (number_after-append n (take i xs) (drop i xs))) (number_after-ge (number_after n (take i xs)) (drop i xs)))
+
 pub number_of-take : (xs : List ℕ) (i : ℕ) → number_of (take i xs) ≤ number_of xs
-number_of-take xs i =
-    subst (λ (ys : List ℕ). number_of (take i xs) ≤ number_of ys) (take-append-drop i xs)
-    (subst (λ (n : ℕ). number_of (take i xs) ≤ n) (sym (number_after-append 0 (take i xs) (drop i xs))) (number_after-ge (number_of (take i xs)) (drop i xs)))
+number_of-take xs i = number_after-take 0 xs i
 
 pub all_ascii_digits-append : (xs ys : List ℕ) → all_ascii_digits (xs ++ ys) ≡ (all_ascii_digits xs && all_ascii_digits ys)
 all_ascii_digits-append [] ys = refl
@@ -84,7 +90,7 @@ nineteen n i h few = omega (arith, pow-le-pow_right {n = 10} (lit< tt) {i = i} {
 pub digit_small : (x : ℕ) → is_ascii_digit x ≡ true → x - 48 < 10
 digit_small x h = grind (arith, nat_tests)
 
-and_true : (s t : Bool) → (s && t) ≡ true → (s ≡ true) × (t ≡ true)
+pub and_true : (s t : Bool) → (s && t) ≡ true → (s ≡ true) × (t ≡ true)
 and_true true t e = (refl, e)
 and_true false t e = cc
 

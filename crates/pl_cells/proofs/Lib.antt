@@ -1,4 +1,5 @@
 pub mod DateLaws
+pub mod DecimalLaws
 pub mod IntegerLaws
 pub mod QuotingLaws
 pub mod TimeLaws

@@ -75,9 +75,9 @@ pub fn number_of(digits: &[u8]) -> Option<u64>
     }
 }
 
-// Whether a minus stands in front, and what stands behind one sign.
+/// Whether a minus stands in front, and what stands behind one sign.
 #[inline]
-fn split_sign(text: &[u8]) -> (bool, &[u8])
+pub fn split_sign(text: &[u8]) -> (bool, &[u8])
     ensures negative { result.0 ≡ is_negative text.now }
     ensures digits { result.1.now ≡ without_sign text.now }
 {

@@ -3,6 +3,7 @@
 
 pub mod booleans;
 pub mod dates;
+pub mod decimals;
 pub mod integers;
 pub mod quoting;
 pub mod times;

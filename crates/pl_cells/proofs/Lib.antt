@@ -2,4 +2,5 @@ pub mod DateLaws
 pub mod DecimalLaws
 pub mod IntegerLaws
 pub mod QuotingLaws
+mod Rows
 pub mod TimeLaws

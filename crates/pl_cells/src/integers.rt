@@ -194,3 +194,101 @@ pub fn is_integer_text(text: &[u8]) -> bool
         _ => is_digits(text),
     }
 }
+
+#[cfg(test)]
+mod tests {
+    use super::*;
+
+    #[test]
+    fn reads_numbers_to_the_ends_of_each_type(rt: HostRuntime) {
+        for (text, low, high, want) in [
+            (b"-128".as_slice(), -128, 127, Some(-128)),
+            (b"-129", -128, 127, None),
+            (b"127", -128, 127, Some(127)),
+            (b"128", -128, 127, None),
+            (b"-32768", -32768, 32767, Some(-32768)),
+            (b"-32769", -32768, 32767, None),
+            (b"+32767", -32768, 32767, Some(32767)),
+            (b"32768", -32768, 32767, None),
+            (b"-2147483648", -2147483648, 2147483647, Some(-2147483648)),
+            (b"-2147483649", -2147483648, 2147483647, None),
+            (b"2147483647", -2147483648, 2147483647, Some(2147483647)),
+            (b"2147483648", -2147483648, 2147483647, None),
+            (b"0007", -128, 127, Some(7)),
+            (b"-0", -128, 127, Some(0)),
+            (b"--1", -128, 127, None),
+            (b"-", -128, 127, None),
+            (b"", -128, 127, None),
+            (b" 1", -128, 127, None),
+        ] {
+            assert_eq!(rt; parse_narrow(text, low, high), want, "of {text:?}");
+        }
+    }
+
+    #[test]
+    fn reads_numbers_without_a_minus(rt: HostRuntime) {
+        for (text, high, want) in [
+            (b"0".as_slice(), 255, Some(0)),
+            (b"-0", 255, None),
+            (b"-1", 255, None),
+            (b"255", 255, Some(255)),
+            (b"256", 255, None),
+            (b"+65535", 65535, Some(65535)),
+            (b"65536", 65535, None),
+            (b"004294967295", 4294967295, Some(4294967295)),
+            (b"4294967296", 4294967295, None),
+        ] {
+            assert_eq!(rt; parse_unsigned_narrow(text, high), want, "of {text:?}");
+        }
+        for (text, want) in [
+            (b"18446744073709551615".as_slice(), Some(u64::MAX)),
+            (b"18446744073709551616", None),
+            (b"+0000000000000000000000042", Some(42)),
+            (b"-0", None),
+        ] {
+            assert_eq!(rt; parse_uint64(text), want, "of {text:?}");
+        }
+    }
+
+    #[test]
+    fn reads_wide_numbers(rt: HostRuntime) {
+        for (text, want) in [
+            (b"-9223372036854775808".as_slice(), Some(i64::MIN)),
+            (b"-9223372036854775809", None),
+            (b"9223372036854775807", Some(i64::MAX)),
+            (b"9223372036854775808", None),
+            (
+                b"00000000000000000000000000000000000000000000000000012345678",
+                Some(12345678),
+            ),
+        ] {
+            assert_eq!(rt; parse_int64(text), want, "of {text:?}");
+        }
+        for (text, want) in [
+            (
+                b"-170141183460469231731687303715884105728".as_slice(),
+                Some(i128::MIN),
+            ),
+            (b"-170141183460469231731687303715884105729", None),
+            (b"170141183460469231731687303715884105727", Some(i128::MAX)),
+            (b"+170141183460469231731687303715884105728", None),
+            (b"1e3", None),
+        ] {
+            assert_eq!(rt; parse_int128(text), want, "of {text:?}");
+        }
+    }
+
+    #[test]
+    fn tells_integer_texts(rt: HostRuntime) {
+        for (text, want) in [
+            (b"-12".as_slice(), true),
+            (b"123456789012345678901234567890123456789012", true),
+            (b"+5", false),
+            (b"1.5", false),
+            (b"-", false),
+            (b"", false),
+        ] {
+            assert_eq!(rt; is_integer_text(text), want, "of {text:?}");
+        }
+    }
+}

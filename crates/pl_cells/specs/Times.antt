@@ -1,4 +1,4 @@
--- The time of day, and the date and time, of a text (docs/types.md, "Times" and "Datetimes").
+-- The time of day, and the date and time, of a text (docs/types.md, "Times", "Datetimes").
 use Rattle.std.specs.Prelude.{ℕ, ℤ, pos, ◌+◌, ◌-◌, ◌*◌, ◌/◌, ◌^◌, ◌+ℤ◌, ◌*ℤ◌, ◌&&◌, ◌||◌, ◌==◌, nat_lt, nat_le, if◌then◌else◌, List, [], ◌∷◌, ◌++◌, length, take, drop, replicate, Option, None, Some}
 use Rattle.pl_frame.specs.declared.data_type.TimeUnit.{TimeUnit}
 use Rattle.pl_frame.specs.Types.{signed_range, units_in_second}

@@ -100,3 +100,12 @@ field_cell reading q type is_quoted field = if is_quoted then quoted_field_cell 
 abbrev pub cell : Reading → Option ℕ → DataType → List ℕ → Cell
 cell reading None type field = plain_field_cell reading type (strip field)
 cell reading (Some q) type field = field_cell reading q type (begins_quoted (Some q) field) (strip field)
+
+-- the value of a cell without a fault
+abbrev pub value_of : Cell → Option Scalar
+value_of (Ok value) = value
+value_of (Err kind) = None
+
+abbrev pub fault_of : Cell → Option FaultKind
+fault_of (Ok value) = None
+fault_of (Err kind) = Some kind

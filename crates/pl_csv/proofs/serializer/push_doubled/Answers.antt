@@ -1,7 +1,7 @@
 use Rattle.std.proofs.Common.{[], ◌∷◌, take, drop, ◌++◌, sym, ◌∙◌, ap, eqb-true}
 use Rattle.std.proofs.lemmas.List.{take_rest}
 use Rattle.pl_frame.specs.Text.{doubled}
-use Rattle.pl_csv.proofs.QuotingLaws.{written_more}
+use Rattle.pl_cells.proofs.QuotingLaws.{written_more}
 use Rattle.pl_csv.proofs.WrittenLaws.{doubled-none, doubled-step}
 use Rattle.pl_csv.proofs.serializer.push_doubled.Goals as goal
 

@@ -1,5 +1,5 @@
 -- What counting rows answers, by what the bytes are.
-use Rattle.std.proofs.Common.{◌≡◌, ℕ, zero, suc, ◌+◌, ◌-◌, ◌<◌, ◌≤◌, Bool, true, false, not, cond, List, [], ◌∷◌, ◌++◌, length, take, refl, sym, ◌∙◌, ap, subst, inl, inr, arith, append-nil, append_assoc, length-append, rules}
+use Rattle.std.proofs.Common.{◌≡◌, ℕ, zero, suc, ◌+◌, ◌-◌, ◌≤◌, Bool, true, false, not, cond, List, [], ◌∷◌, ◌++◌, length, take, refl, sym, ◌∙◌, ap, subst, inl, inr, arith, append-nil, append_assoc, length-append}
 use Rattle.std.specs.Prelude.{Option, None, Some, Result, Ok, Err, IfOk, IfErr, IsErrOf, ◌⊎◌, min, count_by}
 use Rattle.std.specs.Borrow.{Bor}
 use Rattle.std.specs.Option.{is_some}
@@ -15,7 +15,7 @@ use Rattle.pl_scan.specs.Items.{items}
 use Rattle.pl_scan.specs.RowCount.{cut_line_ends, is_row, row_count}
 use Rattle.pl_scan.specs.RowPlaces.{Count, rows_with}
 use Rattle.pl_csv.specs.Reading.{is_compressed}
-use Rattle.pl_csv.specs.Counting.{CameWhole, IsHeld, HoldsSome, IsCountOf, no_dialect, compressed, counted, AnswersUnlessFailed, IsCountFault}
+use Rattle.pl_csv.specs.Counting.{CameWhole, IsHeld, HoldsSome, IsCountOf, no_dialect, compressed, counted, IsCountFault}
 
 pub counted-plain : (has_header : Bool) (m : Marks) (comment : Option (List ℕ)) (bytes : List ℕ) → is_compressed bytes ≡ false
     → counted has_header m comment bytes ≡ Ok (row_count has_header m comment bytes)

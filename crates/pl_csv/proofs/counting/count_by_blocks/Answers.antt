@@ -1,4 +1,4 @@
-use Rattle.std.proofs.Common.{◌∙◌, ap, sym, refl, arith, rules, ◌≡◌, ◌-◌, ◌<◌, ◌≤◌, length}
+use Rattle.std.proofs.Common.{◌∙◌, ap, arith, rules, ◌≡◌, ◌-◌, ◌<◌, ◌≤◌, length}
 use Rattle.std.proofs.lemmas.List.{length-take-le}
 use Rattle.std.specs.Prelude.{min}
 use Rattle.pl_frame.specs.Dialect.{marks}

@@ -1,6 +1,4 @@
 use Rattle.std.proofs.Common.{refl, sym, ◌∙◌, inr}
-use Rattle.pl_frame.specs.Dialect.{marks}
-use Rattle.pl_scan.specs.Comment.{prefix_of}
 use Rattle.pl_csv.proofs.CountingLaws.{counted-plain}
 use Rattle.pl_csv.proofs.counting.count_rows_of_bytes.Goals as goal
 

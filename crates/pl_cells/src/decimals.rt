@@ -1,6 +1,6 @@
 //! Decimal numbers from text. No call takes memory.
-ghost use Rattle.std.specs.Prelude.{◌≡◌, ◌+◌, ◌++◌, ◌^◌, ◌≤◌, ◌-◌, length, neg_ℤ, pos, true, unwrap_or, nat_lt, take, drop, Some};
-ghost use Rattle.pl_frame.specs.Types.{is_readable_decimal, from_to};
+ghost use Rattle.std.specs.Prelude.{◌≡◌, ◌+◌, ◌++◌, ◌^◌, ◌≤◌, ◌-◌, length, neg_ℤ, pos, true, IfSome, unwrap_or, nat_lt, take, drop, Some};
+ghost use Rattle.pl_frame.specs.Types.{is_readable_decimal, from_to, is_within, decimal_range};
 ghost use Rattle.pl_cells.specs.Integers.{is_negative, without_sign, signed, only_within};
 ghost use Rattle.pl_cells.specs.Decimals as spec;
 ghost use Rattle.pl_cells.specs.Decimals.{before_point, behind_point, scaled_below, decimal_value};
@@ -148,7 +148,8 @@ fn scaled(whole: &[u8], fraction: &[u8], scale: usize) -> Option<u128>
 fn with_sign(negative: bool, number: u128, limit: u128) -> Option<i128>
     requires some { 1 ≤ limit }
     requires small { limit ≤ 10 ^ 38 }
-    ensures { result ≡ only_within (from_to (neg_ℤ (pos (limit - 1))) (pos (limit - 1))) (signed negative number) }
+    ensures value { result ≡ only_within (from_to (neg_ℤ (pos (limit - 1))) (pos (limit - 1))) (signed negative number) }
+    ensures within { IfSome result (λ n. is_within (from_to (neg_ℤ (pos (limit - 1))) (pos (limit - 1))) n ≡ true) }
 {
     if number < limit {
         let number = number as i128;
@@ -176,7 +177,8 @@ fn limit_of(precision: Option<u32>, scale: u32) -> u128
 /// Decimals of this precision and scale must be readable.
 pub fn parse_decimal(text: &[u8], precision: Option<u32>, scale: u32) -> Option<i128>
     requires { is_readable_decimal precision (Some scale) ≡ true }
-    ensures { result ≡ decimal_value precision scale text.now }
+    ensures value { result ≡ decimal_value precision scale text.now }
+    ensures within { IfSome result (λ n. is_within (decimal_range precision) n ≡ true) }
 {
     let (negative, digits) = split_sign(text);
     let (whole, fraction) = split_point(digits);

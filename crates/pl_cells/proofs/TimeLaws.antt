@@ -7,7 +7,7 @@ use Rattle.pl_frame.specs.declared.data_type.TimeUnit.{TimeUnit}
 use Rattle.pl_frame.specs.declared.data_type.TimeUnit.TheVariants as unit
 use Rattle.pl_frame.specs.Types.{units_in_second, is_within, day_range, datetime_range}
 use Rattle.jiff_core.proofs.SignedLemmas.{signed_arith}
-use Rattle.pl_cells.specs.Times.{filled, fraction_value, count_of_units}
+use Rattle.pl_cells.specs.Times.{fraction_value, count_of_units}
 use Rattle.pl_cells.proofs.IntegerLaws.{number_of-filled, number_of-filled-small, number_below-tells, all_ascii_digits-is}
 
 pub fraction_value-is : (digits : List ℕ) (n p : ℕ) → length digits ≤ 9 → Some n ≡ number_below (2 ^ 64) digits → p ≡ 10 ^ (9 - length digits) → Some (n * p) ≡ fraction_value (46 ∷ digits)

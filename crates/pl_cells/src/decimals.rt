@@ -34,7 +34,21 @@ fn are_zeros(text: &[u8]) -> bool
     true
 }
 
-// The number of the digits that follow those of a number, where it fits 128 bits.
+// The number of the digits that follow those of a number, where it fits 64 bits.
+fn read_on_short(number: u64, digits: &[u8]) -> Option<u64>
+    ensures { result ≡ spec.read_on (2 ^ 64) number digits.now }
+{
+    let mut all = number;
+    for byte in digits {
+        if !byte.is_ascii_digit() {
+            return None;
+        }
+        all = all.checked_mul(10)?.checked_add(u64::from(*byte - b'0'))?;
+    }
+    Some(all)
+}
+
+// The same in 128 bits.
 fn read_on(number: u128, digits: &[u8]) -> Option<u128>
     ensures { result ≡ spec.read_on (2 ^ 128) number digits.now }
 {
@@ -48,12 +62,30 @@ fn read_on(number: u128, digits: &[u8]) -> Option<u128>
     Some(all)
 }
 
-// The number of the digits of one text and then another, where it fits 128 bits.
-fn read_both(whole: &[u8], fraction: &[u8]) -> Option<u128>
+// The number of the digits of one text and then another, where it fits 64 bits.
+fn read_both_short(whole: &[u8], fraction: &[u8]) -> Option<u64>
+    ensures { result ≡ spec.read_on (2 ^ 64) 0 (whole.now ++ fraction.now) }
+{
+    let number = read_on_short(0, whole)?;
+    read_on_short(number, fraction)
+}
+
+// The same in 128 bits.
+fn read_both_wide(whole: &[u8], fraction: &[u8]) -> Option<u128>
     ensures { result ≡ spec.read_on (2 ^ 128) 0 (whole.now ++ fraction.now) }
 {
     let number = read_on(0, whole)?;
     read_on(number, fraction)
+}
+
+// The same: most numbers fit 64 bits, where reading is faster.
+fn read_both(whole: &[u8], fraction: &[u8]) -> Option<u128>
+    ensures { result ≡ spec.read_on (2 ^ 128) 0 (whole.now ++ fraction.now) }
+{
+    match read_both_short(whole, fraction) {
+        Some(number) => Some(u128::from(number)),
+        None => read_both_wide(whole, fraction),
+    }
 }
 
 // Ten to a power of at most 38.

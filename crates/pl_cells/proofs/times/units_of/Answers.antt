@@ -1,4 +1,4 @@
-use Rattle.std.proofs.Common.{◌∙◌, ap, arith, rules, FitsSigned, w64}
+use Rattle.std.proofs.Common.{◌∙◌, ap, arith, FitsSigned, w64}
 use Rattle.std.specs.Int.{w128}
 use Rattle.jiff_core.proofs.SignedLemmas.{signed_arith}
 use Rattle.std.proofs.lemmas.Int.{to_z-of_z}

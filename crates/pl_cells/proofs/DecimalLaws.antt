@@ -59,6 +59,17 @@ read_on-first limit n xs ys e = by (all_ascii_digits xs) refl
         read_on-past limit n (xs ++ ys) (length xs) more
     by false digits = rw (all_ascii_digits-append xs ys, digits) refl
 
+-- what fits fewer bits fits more
+pub read_on-wider : (limit more n : ℕ) (xs : List ℕ) (m : ℕ) → limit ≤ more → Some m ≡ read_on limit n xs → Some m ≡ read_on more n xs
+read_on-wider limit more n xs m wide e = by (all_ascii_digits xs) refl
+  where
+    by : (t : Bool) → all_ascii_digits xs ≡ t → Some m ≡ read_on more n xs
+    by false digits = absurd (grind (arith, digits, e, nat_tests))
+    by true digits =
+        let is : m ≡ number_after n xs = (read_on-tells limit n xs m e).1 in
+        let fits : number_after n xs < limit = grind (arith, digits, e, nat_tests) in
+        read_on-some more n xs m digits is (omega (arith, is, fits, wide))
+
 -- ---- the point
 
 not_true : (t : Bool) → (t ≡ true → ⊥) → t ≡ false

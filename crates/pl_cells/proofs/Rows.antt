@@ -1,14 +1,12 @@
 -- Worked rows of the definitions, each by computing.
-use Rattle.std.proofs.Common.{◌≡◌, ℕ, ℤ, pos, neg_ℤ, Bool, true, false, List, [], ◌∷◌, Option, None, Some, Ok, Err, refl}
-use Rattle.std.specs.Prelude.{Result}
+use Rattle.std.proofs.Common.{◌≡◌, ℕ, pos, neg_ℤ, true, false, List, [], ◌∷◌, None, Some, Ok, Err, refl}
 use Rattle.std.specs.Prelude.{codes}
 use Rattle.std.specs.Str.{is_utf8, chars}
 use Rattle.std.specs.Char.{encode_utf8}
 use Rattle.pl_frame.specs.declared.data_type.DataType.{DataType}
 use Rattle.pl_frame.specs.declared.data_type.DataType.TheVariants as dtype
-use Rattle.pl_frame.specs.declared.data_type.TimeUnit.TheVariants as unit
 use Rattle.pl_frame.specs.declared.error.FaultKind.TheVariants as fault
-use Rattle.pl_frame.specs.Frame.{Scalar, Truth, Number, Letters}
+use Rattle.pl_frame.specs.Frame.{Truth, Number, Letters}
 use Rattle.pl_cells.specs.declared.utf8.CsvEncoding.TheVariants as encoding
 use Rattle.pl_cells.specs.Values.{value_of_text}
 use Rattle.pl_cells.specs.Cells.{Cell, Reading, cell}

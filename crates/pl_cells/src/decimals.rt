@@ -1,6 +1,6 @@
 //! Decimal numbers from text. No call takes memory.
-ghost use Rattle.std.specs.Prelude.{◌≡◌, ◌+◌, ◌++◌, ◌^◌, ◌≤◌, ◌-◌, length, neg_ℤ, pos, true, unwrap_or, nat_lt, take, drop, Some};
-ghost use Rattle.pl_frame.specs.Types.{is_readable_decimal, from_to};
+ghost use Rattle.std.specs.Prelude.{◌≡◌, ◌+◌, ◌++◌, ◌^◌, ◌≤◌, ◌-◌, length, neg_ℤ, pos, true, IfSome, unwrap_or, nat_lt, take, drop, Some};
+ghost use Rattle.pl_frame.specs.Types.{is_readable_decimal, from_to, is_within, decimal_range};
 ghost use Rattle.pl_cells.specs.Integers.{is_negative, without_sign, signed, only_within};
 ghost use Rattle.pl_cells.specs.Decimals as spec;
 ghost use Rattle.pl_cells.specs.Decimals.{before_point, behind_point, scaled_below, decimal_value};
@@ -34,7 +34,21 @@ fn are_zeros(text: &[u8]) -> bool
     true
 }
 
-// The number of the digits that follow those of a number, where it fits 128 bits.
+// The number of the digits that follow those of a number, where it fits 64 bits.
+fn read_on_short(number: u64, digits: &[u8]) -> Option<u64>
+    ensures { result ≡ spec.read_on (2 ^ 64) number digits.now }
+{
+    let mut all = number;
+    for byte in digits {
+        if !byte.is_ascii_digit() {
+            return None;
+        }
+        all = all.checked_mul(10)?.checked_add(u64::from(*byte - b'0'))?;
+    }
+    Some(all)
+}
+
+// The same in 128 bits.
 fn read_on(number: u128, digits: &[u8]) -> Option<u128>
     ensures { result ≡ spec.read_on (2 ^ 128) number digits.now }
 {
@@ -48,12 +62,30 @@ fn read_on(number: u128, digits: &[u8]) -> Option<u128>
     Some(all)
 }
 
-// The number of the digits of one text and then another, where it fits 128 bits.
-fn read_both(whole: &[u8], fraction: &[u8]) -> Option<u128>
+// The number of the digits of one text and then another, where it fits 64 bits.
+fn read_both_short(whole: &[u8], fraction: &[u8]) -> Option<u64>
+    ensures { result ≡ spec.read_on (2 ^ 64) 0 (whole.now ++ fraction.now) }
+{
+    let number = read_on_short(0, whole)?;
+    read_on_short(number, fraction)
+}
+
+// The same in 128 bits.
+fn read_both_wide(whole: &[u8], fraction: &[u8]) -> Option<u128>
     ensures { result ≡ spec.read_on (2 ^ 128) 0 (whole.now ++ fraction.now) }
 {
     let number = read_on(0, whole)?;
     read_on(number, fraction)
+}
+
+// The same: most numbers fit 64 bits, where reading is faster.
+fn read_both(whole: &[u8], fraction: &[u8]) -> Option<u128>
+    ensures { result ≡ spec.read_on (2 ^ 128) 0 (whole.now ++ fraction.now) }
+{
+    match read_both_short(whole, fraction) {
+        Some(number) => Some(u128::from(number)),
+        None => read_both_wide(whole, fraction),
+    }
 }
 
 // Ten to a power of at most 38.
@@ -148,7 +180,8 @@ fn scaled(whole: &[u8], fraction: &[u8], scale: usize) -> Option<u128>
 fn with_sign(negative: bool, number: u128, limit: u128) -> Option<i128>
     requires some { 1 ≤ limit }
     requires small { limit ≤ 10 ^ 38 }
-    ensures { result ≡ only_within (from_to (neg_ℤ (pos (limit - 1))) (pos (limit - 1))) (signed negative number) }
+    ensures value { result ≡ only_within (from_to (neg_ℤ (pos (limit - 1))) (pos (limit - 1))) (signed negative number) }
+    ensures within { IfSome result (λ n. is_within (from_to (neg_ℤ (pos (limit - 1))) (pos (limit - 1))) n ≡ true) }
 {
     if number < limit {
         let number = number as i128;
@@ -176,7 +209,8 @@ fn limit_of(precision: Option<u32>, scale: u32) -> u128
 /// Decimals of this precision and scale must be readable.
 pub fn parse_decimal(text: &[u8], precision: Option<u32>, scale: u32) -> Option<i128>
     requires { is_readable_decimal precision (Some scale) ≡ true }
-    ensures { result ≡ decimal_value precision scale text.now }
+    ensures value { result ≡ decimal_value precision scale text.now }
+    ensures within { IfSome result (λ n. is_within (decimal_range precision) n ≡ true) }
 {
     let (negative, digits) = split_sign(text);
     let (whole, fraction) = split_point(digits);

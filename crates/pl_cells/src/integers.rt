@@ -1,7 +1,7 @@
 //! Whole numbers from text. No call takes memory.
-ghost use Rattle.std.specs.Prelude.{◌≡◌, ◌^◌, ◌≤◌, length, pos, false};
+ghost use Rattle.std.specs.Prelude.{◌≡◌, ◌^◌, ◌≤◌, length, pos, true, false, IfSome};
 ghost use Rattle.std.specs.Option.{option_map};
-ghost use Rattle.pl_frame.specs.Types.{from_to, signed_range, unsigned_range};
+ghost use Rattle.pl_frame.specs.Types.{from_to, is_within, signed_range, unsigned_range};
 ghost use Rattle.pl_cells.specs.Integers as spec;
 ghost use Rattle.pl_cells.specs.Integers.{number_below, int64_value, signed, signed_value, unsigned_value, only_within, is_negative, without_sign};
 
@@ -129,7 +129,8 @@ pub fn parse_int64(text: &[u8]) -> Option<i64>
 
 /// The same where the number lies from `low` to `high`, both included.
 pub fn parse_narrow(text: &[u8], low: i64, high: i64) -> Option<i64>
-    ensures { result ≡ signed_value (from_to low high) text.now }
+    ensures value { result ≡ signed_value (from_to low high) text.now }
+    ensures within { IfSome result (λ n. is_within (from_to low high) n ≡ true) }
 {
     let number = parse_int64(text)?;
     if low <= number && number <= high {
@@ -150,7 +151,8 @@ pub fn parse_int128(text: &[u8]) -> Option<i128>
 
 /// The whole number from 0 to `high` that a text writes: an optional plus and one or more ASCII digits.
 pub fn parse_unsigned_narrow(text: &[u8], high: i64) -> Option<i64>
-    ensures { result ≡ unsigned_value (from_to (pos 0) high) text.now }
+    ensures value { result ≡ unsigned_value (from_to (pos 0) high) text.now }
+    ensures within { IfSome result (λ n. is_within (from_to (pos 0) high) n ≡ true) }
 {
     match text {
         [b'-', ..] => None,

@@ -1,7 +1,7 @@
 //! Times of the day, and dates with times, from text. No call takes memory.
 ghost use Rattle.std.specs.Prelude.{◌≡◌, ◌+◌, ◌*◌, ◌≤◌, ◌<◌, ◌^◌, length, pos, IfSome, Some, take, drop, ◌∷◌, true};
 ghost use Rattle.std.specs.Option.{option_map};
-ghost use Rattle.pl_frame.specs.Types.{units_in_second, is_within, day_range, time_range, signed_range};
+ghost use Rattle.pl_frame.specs.Types.{datetime_range, units_in_second, is_within, day_range, time_range, signed_range};
 ghost use Rattle.pl_cells.specs.Integers.{number_of, digits_value, number_below, only_within};
 ghost use Rattle.pl_cells.specs.Dates.{date_value};
 ghost use Rattle.pl_cells.specs.Times.{clock_value, second_of_day, filled, fraction_value, time_value, count_of_units, datetime_of, datetime_value};
@@ -116,7 +116,9 @@ pub fn parse_time(text: &[u8]) -> Option<i64>
 // How many units make a second.
 #[inline]
 fn units_in(unit: TimeUnit) -> u64
-    ensures { result ≡ units_in_second unit }
+    ensures value { result ≡ units_in_second unit }
+    ensures some { 0 < result }
+    ensures bound { result ≤ 10 ^ 9 }
 {
     match unit {
         TimeUnit::Milliseconds => 1_000,
@@ -137,9 +139,9 @@ fn in_64_bits(number: i128) -> Option<i64>
     }
 }
 
-// The count of units of a day and of the nanoseconds of that day.
+// The count of units, of which so many make a second, of a day and of the nanoseconds of that day.
 #[inline]
-fn units_of(units: u64, day: i64, nanoseconds: u64) -> i128
+fn count_of(units: u64, day: i64, nanoseconds: u64) -> i128
     requires units_in { units ≤ 10 ^ 9 }
     requires some { 0 < units }
     requires day_in { is_within day_range day ≡ true }
@@ -150,21 +152,34 @@ fn units_of(units: u64, day: i64, nanoseconds: u64) -> i128
     whole + i128::from(nanoseconds / (NANOSECONDS / units))
 }
 
+// The same for a unit.
+#[inline]
+fn units_of(unit: TimeUnit, day: i64, nanoseconds: u64) -> i128
+    requires day_in { is_within day_range day ≡ true }
+    requires time_in { nanoseconds < 86400 * 10 ^ 9 }
+    ensures value { result ≡ count_of_units (units_in_second unit) day nanoseconds }
+    ensures within { is_within (datetime_range (units_in_second unit)) result ≡ true }
+{
+    count_of(units_in(unit), day, nanoseconds)
+}
+
 // The count of units of a date and a time of day.
 #[inline]
 fn datetime_of_parts(date: &[u8], time: &[u8], unit: TimeUnit) -> Option<i64>
-    ensures { result ≡ datetime_of (units_in_second unit) (date_value date.now) (time_value time.now) }
+    ensures value { result ≡ datetime_of (units_in_second unit) (date_value date.now) (time_value time.now) }
+    ensures within { IfSome result (λ n. is_within (datetime_range (units_in_second unit)) n ≡ true) }
 {
     let day = parse_date(date)?;
     let nanoseconds = nanosecond_of_day(time)?;
-    in_64_bits(units_of(units_in(unit), day, nanoseconds))
+    in_64_bits(units_of(unit, day, nanoseconds))
 }
 
 /// The count of units from 1970-01-01T00:00:00 that a text writes as a date, `T` or one space, and a time, where it fits
 /// 64 bits. Digits past the unit are cut.
 #[inline]
 pub fn parse_datetime(text: &[u8], unit: TimeUnit) -> Option<i64>
-    ensures { result ≡ datetime_value unit text.now }
+    ensures value { result ≡ datetime_value unit text.now }
+    ensures within { IfSome result (λ n. is_within (datetime_range (units_in_second unit)) n ≡ true) }
 {
     if text.len() < 11 {
         return None;

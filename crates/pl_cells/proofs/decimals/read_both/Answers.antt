@@ -1,9 +1,7 @@
-use Rattle.std.proofs.Common.{◌^◌, ◌∙◌}
-use Rattle.pl_cells.proofs.DecimalLaws.{read_on-first, read_on-both}
+use Rattle.std.proofs.Common.{◌++◌, ◌^◌, ◌∙◌, ap, Some, arith}
+use Rattle.pl_cells.proofs.DecimalLaws.{read_on-wider}
 use Rattle.pl_cells.proofs.decimals.read_both.Goals as goal
 
-pub returns-in_err-number : goal.returns-in_err-number
-returns-in_err-number c = c.from_residual.ensures ∙ read_on-first (2 ^ 128) 0 c.args.whole.now c.args.fraction.now c.in_err-number.ensures
-
-pub returns : goal.returns
-returns c = c.read_on-2.ensures ∙ read_on-both (2 ^ 128) 0 c.in_ok-number.number c.args.whole.now c.args.fraction.now c.in_ok-number.ensures
+pub returns-in-Some : goal.returns-in-Some
+returns-in-Some c =
+    ap Some c.from.ensures ∙ read_on-wider (2 ^ 64) (2 ^ 128) 0 (c.args.whole.now ++ c.args.fraction.now) c.in-Some.number (omega arith) c.in-Some.ensures

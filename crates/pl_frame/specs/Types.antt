@@ -1,5 +1,5 @@
 -- The types of columns: which can be read, and which numbers they hold (docs/types.md, "Ranges").
-use Rattle.std.specs.Prelude.{ℕ, ◌+◌, ◌-◌, ◌*◌, ◌^◌, Bool, true, false, ◌&&◌, nat_le, ℤ, pos, neg_ℤ, int_le, List, Option, None, Some, is_none, unwrap_or}
+use Rattle.std.specs.Prelude.{ℕ, ◌-◌, ◌*◌, ◌^◌, Bool, true, false, ◌&&◌, nat_le, ℤ, pos, neg_ℤ, int_le, List, Option, None, Some, is_none, unwrap_or}
 use Rattle.pl_frame.specs.declared.data_type.DataType.{DataType}
 use Rattle.pl_frame.specs.declared.data_type.DataType.TheVariants as dtype
 use Rattle.pl_frame.specs.declared.data_type.TimeUnit.{TimeUnit}

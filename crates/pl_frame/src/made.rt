@@ -343,7 +343,10 @@ mod tests {
             assert_eq!(rt; column.code(row), *code);
         }
         for (place, text) in ["q", "p", "r"].iter().enumerate() {
-            assert_eq!(rt; column.categories()[place].as_str(), *text);
+            match column.categories().get(place) {
+                Some(found) => assert_eq!(rt; found.as_str(), *text),
+                None => panic!(rt; "no category at {place}"),
+            }
         }
         assert_eq!(rt;
             (column.len(), column.null_count(), column.categories().len()),

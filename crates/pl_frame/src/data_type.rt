@@ -1,8 +1,14 @@
 //! The types of columns.
-ghost use Rattle.std.specs.Prelude.{◌≡◌};
+ghost use Rattle.std.specs.Prelude.{◌≡◌, IfOk, IsOkUnless};
+ghost use Rattle.pl_frame.specs.declared.error.PolarsError.TheVariants as error;
+ghost use Rattle.std.specs.Cmp.{partial_equiv_from_equiv};
+ghost use Rattle.std.specs.Cmp.Lexicographic.{lists_equiv, lists_per, nat_list_eq_equiv, pointwise};
+ghost use Rattle.std.specs.Str.{bytes_eq};
 ghost use Rattle.pl_frame.specs.Types.{is_readable, is_readable_decimal, is_readable_enum};
 
+use crate::error::{PolarsError, PolarsResult};
 use crate::name::{PlSmallStr, find_repeat};
+use std::alloc::Global;
 use std::marker::Model;
 
 /// The unit in which a datetime counts from 1970-01-01T00:00:00.
@@ -14,7 +20,7 @@ pub enum TimeUnit {
 }
 
 /// The type of a column.
-#[derive(Debug, Drop)]
+#[derive(Debug, Drop, PartialEq, Eq)]
 pub enum DataType {
     Boolean,
     Int8,
@@ -60,6 +66,15 @@ impl Categories {
         Categories { texts }
     }
 
+    /// Equal categories. Refuses only want of memory.
+    pub fn try_clone(&self) -> PolarsResult<Categories>
+        ensures equal { IfOk result (λ categories. categories ≡ self.now) }
+        ensures refused { IsOkUnless result error.OutOfMemory }
+    {
+        let texts = copy_texts(*self.texts.allocator(), &self.texts)?;
+        Ok(Categories { texts })
+    }
+
     /// The texts in order, without taking memory.
     pub fn texts(&self) -> &[PlSmallStr]
         ensures { result.now ≡ self.now }
@@ -68,7 +83,65 @@ impl Categories {
     }
 }
 
+// Equal texts.
+fn copy_texts(alloc: Global, texts: &[PlSmallStr]) -> PolarsResult<Vec<PlSmallStr>>
+    ensures equal { IfOk result (λ copies. copies.items ≡ texts.now) }
+    ensures refused { IsOkUnless result error.OutOfMemory }
+{
+    let mut copies = Vec::new(alloc);
+    for text in texts {
+        let copy = text.try_clone()?;
+        if copies.push(copy).is_err() {
+            return Err(PolarsError::OutOfMemory);
+        }
+    }
+    Ok(copies)
+}
+
+// By its texts in order.
+impl PartialEq for Categories {
+    ghost eq = { pointwise bytes_eq };
+
+    ghost laws = { lists_per (partial_equiv_from_equiv nat_list_eq_equiv) };
+
+    fn eq(&self, other: &Categories) -> bool {
+        self.texts == other.texts
+    }
+}
+
+impl Eq for Categories {
+    ghost laws = { lists_equiv nat_list_eq_equiv };
+}
+
 impl DataType {
+    /// An equal type. Refuses only want of memory.
+    pub fn try_clone(&self) -> PolarsResult<DataType>
+        ensures equal { IfOk result (λ dtype. dtype ≡ self.now) }
+        ensures refused { IsOkUnless result error.OutOfMemory }
+    {
+        Ok(match self {
+            DataType::Boolean => DataType::Boolean,
+            DataType::Int8 => DataType::Int8,
+            DataType::Int16 => DataType::Int16,
+            DataType::Int32 => DataType::Int32,
+            DataType::Int64 => DataType::Int64,
+            DataType::Int128 => DataType::Int128,
+            DataType::UInt8 => DataType::UInt8,
+            DataType::UInt16 => DataType::UInt16,
+            DataType::UInt32 => DataType::UInt32,
+            DataType::UInt64 => DataType::UInt64,
+            DataType::String => DataType::String,
+            DataType::Categorical => DataType::Categorical,
+            DataType::Enum(None) => DataType::Enum(None),
+            DataType::Enum(Some(categories)) => DataType::Enum(Some(categories.try_clone()?)),
+            DataType::Date => DataType::Date,
+            DataType::Time => DataType::Time,
+            DataType::Datetime(unit) => DataType::Datetime(*unit),
+            DataType::Decimal(precision, scale) => DataType::Decimal(*precision, *scale),
+            DataType::Null => DataType::Null,
+        })
+    }
+
     /// Whether cells of the type can be read from text, without taking memory: not for `Null`, a decimal whose scale is
     /// not set or does not go with its precision, and an enum whose texts are not set or repeat one.
     pub fn readable(&self) -> bool
@@ -110,7 +183,6 @@ fn is_readable_enum(categories: &Option<Categories>) -> bool
 #[cfg(test)]
 mod tests {
     use super::*;
-    use std::alloc::Global;
     use std::test::Fail;
 
     fn enumeration(alloc: Global, texts: &[&str]) -> Result<DataType, Fail> {

@@ -1,5 +1,7 @@
 //! Names of columns.
 ghost use Rattle.std.specs.Prelude.{◌≡◌, ◌<◌, ℕ, List, length, map, IfOk, IfSome, IsOkUnless};
+ghost use Rattle.std.specs.Cmp.{partial_equiv_from_equiv};
+ghost use Rattle.std.specs.Cmp.Lexicographic.{nat_list_eq_equiv};
 ghost use Rattle.std.specs.List.{list_any};
 ghost use Rattle.std.specs.Str.{bytes_eq};
 ghost use Rattle.pl_frame.specs.Names.{first_repeat};
@@ -36,12 +38,35 @@ impl PlSmallStr {
         }
     }
 
+    /// An equal text. Refuses only want of memory.
+    pub fn try_clone(&self) -> PolarsResult<PlSmallStr>
+        ensures equal { IfOk result (λ name. name ≡ self.now) }
+        ensures refused { IsOkUnless result error.OutOfMemory }
+    {
+        PlSmallStr::from_str(*self.text.allocator(), self.as_str())
+    }
+
     /// The text, without taking memory.
     pub fn as_str(&self) -> &str
         ensures { result.now ≡ self.now }
     {
         self.text.as_str()
     }
+}
+
+// By its bytes.
+impl PartialEq for PlSmallStr {
+    ghost eq = { bytes_eq };
+
+    ghost laws = { partial_equiv_from_equiv nat_list_eq_equiv };
+
+    fn eq(&self, other: &PlSmallStr) -> bool {
+        self.as_str() == other.as_str()
+    }
+}
+
+impl Eq for PlSmallStr {
+    ghost laws = { nat_list_eq_equiv };
 }
 
 /// What has a name.

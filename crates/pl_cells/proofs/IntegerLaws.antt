@@ -144,3 +144,14 @@ number_below-tells limit xs n e = by (is_digits xs) refl
 pub all_ascii_digits-is : (xs : List ℕ) → is_digits xs ≡ true → all_ascii_digits xs ≡ true
 all_ascii_digits-is [] e = refl
 all_ascii_digits-is (x ∷ xs) e = e
+
+-- what fits fewer bits fits more
+pub number_below-wider : (limit more : ℕ) (xs : List ℕ) (n : ℕ) → limit ≤ more → Some n ≡ number_below limit xs → Some n ≡ number_below more xs
+number_below-wider limit more xs n wide e = by (is_digits xs) refl
+  where
+    by : (t : Bool) → is_digits xs ≡ t → Some n ≡ number_below more xs
+    by false digits = absurd (grind (arith, digits, e, nat_tests))
+    by true digits =
+        let is : n ≡ number_of xs = (number_below-tells limit xs n e).1 in
+        let fits : number_of xs < limit = grind (arith, digits, e, nat_tests) in
+        rw (digits, ← is) (grind (arith, nat_tests, is, fits, wide))

@@ -46,7 +46,7 @@ fn number_of_long(digits: &[u8]) -> Option<u64>
 }
 
 // The same in 128 bits.
-fn number_of_wide(digits: &[u8]) -> Option<u128>
+fn number_of_longest(digits: &[u8]) -> Option<u128>
     ensures { result ≡ number_below (2 ^ 128) digits.now }
 {
     if digits.is_empty() {
@@ -75,7 +75,17 @@ pub fn number_of(digits: &[u8]) -> Option<u64>
     }
 }
 
-/// Whether a minus stands in front, and what stands behind one sign.
+/// The same in 128 bits: most numbers fit 64, where reading is faster.
+fn number_of_wide(digits: &[u8]) -> Option<u128>
+    ensures { result ≡ number_below (2 ^ 128) digits.now }
+{
+    match number_of(digits) {
+        Some(number) => Some(u128::from(number)),
+        None => number_of_longest(digits),
+    }
+}
+
+// Whether a minus stands in front, and what stands behind one sign.
 #[inline]
 pub fn split_sign(text: &[u8]) -> (bool, &[u8])
     ensures negative { result.0 ≡ is_negative text.now }

@@ -1,7 +1,7 @@
 use Rattle.std.proofs.Common.{◌≡◌, ◌<◌, ◌^◌, take, true}
 use Rattle.std.specs.Str.{all_ascii_digits}
 use Rattle.pl_cells.specs.Integers.{number_of}
-use Rattle.pl_cells.proofs.integers.number_of_wide.Given as goal
+use Rattle.pl_cells.proofs.integers.number_of_longest.Given as goal
 
 abbrev pub invariant-loop-byte : goal.invariant-loop-byte
 invariant-loop-byte l = record {

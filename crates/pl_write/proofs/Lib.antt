@@ -1,0 +1,2 @@
+mod DateLaws
+mod PaddedLaws

@@ -1,0 +1,57 @@
+-- Numbers in a fixed number of digits.
+use Rattle.std.proofs.Common.{◌≡◌, ℕ, zero, suc, ◌+◌, ◌-◌, ◌/◌, ◌%◌, ◌^◌, ◌<◌, ◌≤◌, nat_le, Bool, true, false, List, [], ◌∷◌, ◌++◌, length, replicate, refl, sym, ◌∙◌, ap, arith, append_assoc, length-append}
+use Rattle.std.specs.Prelude.{decimal}
+use Rattle.std.proofs.lemmas.Fmt.{decimal_digit, decimal_step}
+use Rattle.std.proofs.lemmas.Bool.Decides.{nat_tests}
+use Rattle.pl_frame.specs.Printed.{padded}
+
+-- one more in front is one more behind
+replicate-behind : (x n : ℕ) → replicate n x ++ x ∷ [] ≡ x ∷ replicate n x
+replicate-behind x zero = refl
+replicate-behind x (suc n) = ap (λ l. x ∷ l) (replicate-behind x n)
+
+-- a number of one digit
+padded-one : (w n : ℕ) → n < 10 → padded (suc w) n ≡ replicate w 48 ++ (48 + n) ∷ []
+padded-one w n small = ap (λ d. replicate (suc w - length d) 48 ++ d) (decimal_digit n small) ∙ ap (λ k. replicate k 48 ++ (48 + n) ∷ []) less
+  where
+    less : suc w - 1 ≡ w
+    less = omega (arith)
+
+-- a number in one digit more: the number without its last digit, and that digit
+pub padded-step : (w n : ℕ) → n < 2 ^ 64 → padded (suc (suc w)) n ≡ padded (suc w) (n / 10) ++ (48 + n % 10) ∷ []
+padded-step w n bound = by_size (nat_le 10 n) refl
+  where
+    by_size : (t : Bool) → nat_le 10 n ≡ t → padded (suc (suc w)) n ≡ padded (suc w) (n / 10) ++ (48 + n % 10) ∷ []
+    by_size false h =
+        let small : n < 10 = grind (arith, nat_tests, h) in
+        let none : n / 10 ≡ 0 = omega (arith, small) in
+        let all : n % 10 ≡ n = omega (arith, small) in
+        let front : padded (suc w) (n / 10) ≡ replicate (suc w) 48 = ap (padded (suc w)) none ∙ (padded-one w 0 (omega (arith)) ∙ replicate-behind 48 w) in
+        padded-one (suc w) n small ∙ (ap (λ l. l ++ (48 + n) ∷ []) (sym front) ∙ ap (λ k. padded (suc w) (n / 10) ++ (48 + k) ∷ []) (sym all))
+    by_size true h =
+        let large : 10 ≤ n = grind (arith, nat_tests, h) in
+        let step = decimal_step n large bound in
+        let d = decimal (n / 10) in
+        let last = 48 + n % 10 in
+        let longer : length (d ++ last ∷ []) ≡ length d + 1 = length-append d (last ∷ []) in
+        let room : suc (suc w) - length (d ++ last ∷ []) ≡ suc w - length d = omega (arith, longer) in
+        ap (λ l. replicate (suc (suc w) - length l) 48 ++ l) step
+            ∙ (ap (λ k. replicate k 48 ++ (d ++ last ∷ [])) room ∙ sym (append_assoc (replicate (suc w - length d) 48) d (last ∷ [])))
+
+-- two, three and four digits
+pub padded-two : (n : ℕ) → n < 100 → padded 2 n ≡ (48 + n / 10) ∷ (48 + n % 10) ∷ []
+padded-two n small = padded-step 0 n (omega (arith, small)) ∙ ap (λ l. l ++ (48 + n % 10) ∷ []) (padded-one 0 (n / 10) (omega (arith, small)))
+
+pub padded-three : (n : ℕ) → n < 1000 → padded 3 n ≡ (48 + n / 100) ∷ (48 + n / 10 % 10) ∷ (48 + n % 10) ∷ []
+padded-three n small =
+    let hundreds : n / 10 / 10 ≡ n / 100 = omega (arith) in
+    padded-step 1 n (omega (arith, small)) ∙ (ap (λ l. l ++ (48 + n % 10) ∷ []) (padded-two (n / 10) (omega (arith, small)))
+        ∙ ap (λ h. (48 + h) ∷ (48 + n / 10 % 10) ∷ (48 + n % 10) ∷ []) hundreds)
+
+pub padded-four : (n : ℕ) → n < 10000 → padded 4 n ≡ (48 + n / 1000) ∷ (48 + n / 100 % 10) ∷ (48 + n / 10 % 10) ∷ (48 + n % 10) ∷ []
+padded-four n small =
+    let thousands : n / 10 / 100 ≡ n / 1000 = omega (arith) in
+    let hundreds : n / 10 / 10 ≡ n / 100 = omega (arith) in
+    padded-step 2 n (omega (arith, small)) ∙ (ap (λ l. l ++ (48 + n % 10) ∷ []) (padded-three (n / 10) (omega (arith, small)))
+        ∙ (ap (λ t. (48 + t) ∷ (48 + n / 10 / 10 % 10) ∷ (48 + n / 10 % 10) ∷ (48 + n % 10) ∷ []) thousands
+        ∙ ap (λ h. (48 + n / 1000) ∷ (48 + h % 10) ∷ (48 + n / 10 % 10) ∷ (48 + n % 10) ∷ []) hundreds))

@@ -1,0 +1,5 @@
+//! Frames written as CSV: the text of each cell, and of a whole frame.
+#![tactic(auto)]
+
+pub mod dates;
+pub mod digits;

@@ -1,2 +1,4 @@
+mod BlockLaws
 mod DateLaws
 mod PaddedLaws
+mod TimeLaws

@@ -55,3 +55,32 @@ padded-four n small =
     padded-step 2 n (omega (arith, small)) ∙ (ap (λ l. l ++ (48 + n % 10) ∷ []) (padded-three (n / 10) (omega (arith, small)))
         ∙ (ap (λ t. (48 + t) ∷ (48 + n / 10 / 10 % 10) ∷ (48 + n / 10 % 10) ∷ (48 + n % 10) ∷ []) thousands
         ∙ ap (λ h. (48 + n / 1000) ∷ (48 + h % 10) ∷ (48 + n / 10 % 10) ∷ (48 + n % 10) ∷ []) hundreds))
+
+-- three digits more
+pub padded-onto : (v n : ℕ) → n < 2 ^ 64 → padded (suc (suc (suc (suc v)))) n ≡ padded (suc v) (n / 1000) ++ padded 3 (n % 1000)
+padded-onto v n bound =
+    let one = padded-step (suc (suc v)) n bound in
+    let two = padded-step (suc v) (n / 10) (omega (arith, bound)) in
+    let three = padded-step v (n / 10 / 10) (omega (arith, bound)) in
+    let front = padded (suc v) (n / 1000) in
+    let thousands : n / 10 / 10 / 10 ≡ n / 1000 = omega (arith) in
+    let a : n / 10 / 10 % 10 ≡ n % 1000 / 100 = omega (arith) in
+    let b : n / 10 % 10 ≡ n % 1000 / 10 % 10 = omega (arith) in
+    let c : n % 10 ≡ n % 1000 % 10 = omega (arith) in
+    let digits : List ℕ = (48 + n / 10 / 10 % 10) ∷ (48 + n / 10 % 10) ∷ (48 + n % 10) ∷ [] in
+    let glued : ((padded (suc v) (n / 10 / 10 / 10) ++ (48 + n / 10 / 10 % 10) ∷ []) ++ (48 + n / 10 % 10) ∷ []) ++ (48 + n % 10) ∷ [] ≡ padded (suc v) (n / 10 / 10 / 10) ++ digits =
+        append_assoc (padded (suc v) (n / 10 / 10 / 10) ++ (48 + n / 10 / 10 % 10) ∷ []) ((48 + n / 10 % 10) ∷ []) ((48 + n % 10) ∷ [])
+        ∙ append_assoc (padded (suc v) (n / 10 / 10 / 10)) ((48 + n / 10 / 10 % 10) ∷ []) ((48 + n / 10 % 10) ∷ (48 + n % 10) ∷ []) in
+    let last : padded 3 (n % 1000) ≡ digits = padded-three (n % 1000) (omega (arith)) ∙ sym (rw (a, b, c) refl) in
+    one ∙ (ap (λ l. l ++ (48 + n % 10) ∷ []) (two ∙ ap (λ l. l ++ (48 + n / 10 % 10) ∷ []) three)
+        ∙ (glued ∙ (ap (λ k. padded (suc v) k ++ digits) thousands ∙ ap (λ l. front ++ l) (sym last))))
+
+-- six and nine digits
+pub padded-six : (n : ℕ) → n < 1000000 → padded 6 n ≡ padded 3 (n / 1000) ++ padded 3 (n % 1000)
+padded-six n small = padded-onto 2 n (omega (arith, small))
+
+pub padded-nine : (n : ℕ) → n < 1000000000 → padded 9 n ≡ padded 3 (n / 1000000) ++ (padded 3 (n / 1000 % 1000) ++ padded 3 (n % 1000))
+padded-nine n small =
+    let millions : n / 1000 / 1000 ≡ n / 1000000 = omega (arith) in
+    padded-onto 5 n (omega (arith, small)) ∙ (ap (λ l. l ++ padded 3 (n % 1000)) (padded-six (n / 1000) (omega (arith, small)))
+        ∙ (append_assoc (padded 3 (n / 1000 / 1000)) (padded 3 (n / 1000 % 1000)) (padded 3 (n % 1000)) ∙ ap (λ k. padded 3 k ++ (padded 3 (n / 1000 % 1000) ++ padded 3 (n % 1000))) millions))

@@ -21,9 +21,9 @@ fn civil_digits(year: u32, month: u32, day: u32) -> [u8; 10]
     [a, b, c, d, b'-', e, f, b'-', g, h]
 }
 
-// The date of a day number.
+/// The date of a day number as `YYYY-MM-DD`.
 #[inline]
-fn date_digits(day: i64) -> [u8; 10]
+pub fn date_digits(day: i64) -> [u8; 10]
     requires { is_within day_range day ≡ true }
     ensures { result ≡ date_text day }
 {

@@ -42,3 +42,26 @@ pub fn four_digits(n: u32) -> [u8; 4]
         digit(n % 10),
     ]
 }
+
+/// A number below a million in six digits.
+#[inline]
+pub fn six_digits(n: u32) -> [u8; 6]
+    requires { n < 1000000 }
+    ensures { result ≡ padded 6 n }
+{
+    let [a, b, c] = three_digits(n / 1000);
+    let [d, e, f] = three_digits(n % 1000);
+    [a, b, c, d, e, f]
+}
+
+/// A number below a thousand million in nine digits.
+#[inline]
+pub fn nine_digits(n: u32) -> [u8; 9]
+    requires { n < 1000000000 }
+    ensures { result ≡ padded 9 n }
+{
+    let [a, b, c] = three_digits(n / 1_000_000);
+    let [d, e, f] = three_digits(n / 1000 % 1000);
+    let [g, h, i] = three_digits(n % 1000);
+    [a, b, c, d, e, f, g, h, i]
+}

@@ -3,3 +3,4 @@
 
 pub mod dates;
 pub mod digits;
+pub mod times;

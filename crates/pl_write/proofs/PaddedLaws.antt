@@ -1,7 +1,7 @@
 -- Numbers in a fixed number of digits.
 use Rattle.std.proofs.Common.{◌≡◌, ℕ, zero, suc, ◌+◌, ◌-◌, ◌/◌, ◌%◌, ◌^◌, ◌<◌, ◌≤◌, nat_le, Bool, true, false, List, [], ◌∷◌, ◌++◌, length, replicate, refl, sym, ◌∙◌, ap, arith, append_assoc, length-append}
 use Rattle.std.specs.Prelude.{decimal}
-use Rattle.std.proofs.lemmas.Fmt.{decimal_digit, decimal_step}
+use Rattle.std.proofs.lemmas.Fmt.{decimal_digit, decimal_step, decimal_by_steps_wide}
 use Rattle.std.proofs.lemmas.Bool.Decides.{nat_tests}
 use Rattle.pl_frame.specs.Printed.{padded}
 
@@ -84,3 +84,7 @@ padded-nine n small =
     let millions : n / 1000 / 1000 ≡ n / 1000000 = omega (arith) in
     padded-onto 5 n (omega (arith, small)) ∙ (ap (λ l. l ++ padded 3 (n % 1000)) (padded-six (n / 1000) (omega (arith, small)))
         ∙ (append_assoc (padded 3 (n / 1000 / 1000)) (padded 3 (n / 1000 % 1000)) (padded 3 (n % 1000)) ∙ ap (λ k. padded 3 k ++ (padded 3 (n / 1000 % 1000) ++ padded 3 (n % 1000))) millions))
+
+-- a number has a digit
+pub decimal_some : (n : ℕ) → n < 10 ^ 64 → 0 < length (decimal n)
+decimal_some n bound = decimal_by_steps_wide (λ k ds. 0 < length ds) (λ k small. omega (arith)) (λ k ds large some. omega (arith, some, length-append ds ((48 + k % 10) ∷ []))) n bound

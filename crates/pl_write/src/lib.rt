@@ -2,5 +2,6 @@
 #![tactic(auto)]
 
 pub mod dates;
+pub mod decimals;
 pub mod digits;
 pub mod times;

@@ -1,5 +1,5 @@
 //! Decimal numbers as text.
-ghost use Rattle.std.specs.Prelude.{◌≡◌, ◌++◌, ◌∷◌, [], ◌<◌, ◌≤◌, ◌+◌, ◌-◌, length, replicate, OnOk, if◌then◌else◌};
+ghost use Rattle.std.specs.Prelude.{◌≡◌, ◌++◌, ◌∷◌, [], ◌<◌, ◌≤◌, ◌+◌, ◌-◌, ◌^◌, length, replicate, OnOk, if◌then◌else◌};
 ghost use Rattle.std.specs.Int.{is_negative};
 ghost use Rattle.pl_frame.specs.Printed.{point_text, decimal_text};
 
@@ -19,7 +19,7 @@ fn push_sign(block: &mut Vec<u8>, number: i128) -> Result<(), AllocError>
 // Appends so many zeros.
 #[inline]
 fn push_zeros(block: &mut Vec<u8>, count: usize) -> Result<(), AllocError>
-    requires { count ≤ 38 }
+    requires { count < 2 ^ 32 }
     ensures { OnOk result (block.new.items ≡ block.old.items ++ replicate count 48) }
 {
     block.resize(block.len() + count, b'0')
@@ -44,7 +44,7 @@ fn push_point(block: &mut Vec<u8>, digits: &[u8], scale: usize) -> Result<(), Al
 #[inline]
 fn push_fraction(block: &mut Vec<u8>, digits: &[u8], scale: usize) -> Result<(), AllocError>
     requires few { length digits.now ≤ scale }
-    requires small { scale ≤ 38 }
+    requires small { scale < 2 ^ 32 }
     ensures { OnOk result (block.new.items ≡ block.old.items ++ 48 ∷ (46 ∷ (replicate (scale - length digits.now) 48 ++ digits.now))) }
 {
     block.extend_from_slice(b"0.")?;
@@ -56,7 +56,7 @@ fn push_fraction(block: &mut Vec<u8>, digits: &[u8], scale: usize) -> Result<(),
 #[inline]
 fn push_filled(block: &mut Vec<u8>, digits: &[u8], scale: usize) -> Result<(), AllocError>
     requires some { 0 < length digits.now }
-    requires small { scale ≤ 38 }
+    requires small { scale < 2 ^ 32 }
     ensures { OnOk result (block.new.items ≡ block.old.items ++ point_text scale (replicate (scale + 1 - length digits.now) 48 ++ digits.now)) }
 {
     if digits.len() > scale {
@@ -70,7 +70,6 @@ fn push_filled(block: &mut Vec<u8>, digits: &[u8], scale: usize) -> Result<(), A
 /// `scale` of them.
 #[inline]
 pub fn push_decimal(block: &mut Vec<u8>, number: i128, scale: u32) -> Result<(), AllocError>
-    requires { scale ≤ 38 }
     ensures { OnOk result (block.new.items ≡ block.old.items ++ decimal_text scale number) }
 {
     push_sign(block, number)?;

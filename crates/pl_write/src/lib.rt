@@ -4,4 +4,7 @@
 pub mod dates;
 pub mod decimals;
 pub mod digits;
+pub mod options;
+pub mod texts;
 pub mod times;
+mod values;

@@ -1,9 +1,9 @@
 use Rattle.std.proofs.Common.{[], ◌∷◌, take, drop, ◌++◌, sym, ◌∙◌, ap, eqb-true}
 use Rattle.std.proofs.lemmas.List.{take_rest}
 use Rattle.pl_frame.specs.Text.{doubled}
-use Rattle.pl_csv.proofs.QuotingLaws.{written_more}
-use Rattle.pl_csv.proofs.WrittenLaws.{doubled-none, doubled-step}
-use Rattle.pl_csv.proofs.serializer.push_doubled.Goals as goal
+use Rattle.pl_write.proofs.BlockLaws.{written_more}
+use Rattle.pl_write.proofs.DoubledLaws.{doubled-none, doubled-step}
+use Rattle.pl_write.proofs.texts.push_doubled.Goals as goal
 
 pub loop-at-preserved : goal.loop-at-preserved
 loop-at-preserved c =

@@ -3,7 +3,7 @@ use Rattle.std.proofs.Common.{◌≡◌, ℕ, zero, suc, ◌+◌, ◌<◌, List,
 use Rattle.std.specs.List.{join_with_byte}
 use Rattle.std.proofs.lemmas.List.{take_more, map-append, length-map, length-take-le}
 use Rattle.pl_frame.specs.Frame.{ColumnValue, names_of}
-use Rattle.pl_csv.specs.Writing.{separator_before, HasRow}
+use Rattle.pl_write.specs.Writing.{separator_before, HasRow}
 
 join-push : (x y : List ℕ) (xs : List (List ℕ)) → join_with_byte 44 ((x ∷ xs) ++ y ∷ []) ≡ join_with_byte 44 (x ∷ xs) ++ (44 ∷ y)
 join-push x y [] = refl

@@ -6,7 +6,7 @@ use Rattle.std.proofs.lemmas.List.{take_at, take-append-drop}
 use Rattle.pl_frame.specs.Frame.{ColumnValue, HaveHeight}
 use Rattle.pl_frame.specs.Text.{WriteOptions, row_line, row_lines}
 use Rattle.pl_frame.proofs.Known.{Appends-more}
-use Rattle.pl_csv.specs.Writing.{AppendsPrefix, HasRow}
+use Rattle.pl_write.specs.Writing.{AppendsPrefix, HasRow}
 
 pub Appends-nil : (a : Option (List ℕ)) → Appends a a []
 Appends-nil None = tt

@@ -132,13 +132,53 @@ fn rest_of(unit: TimeUnit, count: i64) -> u32
     count.rem_euclid(units_of(unit)) as u32
 }
 
-/// Appends a date and a time of the day, given in units from 1970-01-01T00:00:00, as `YYYY-MM-DDTHH:MM:SS.` and three, six
-/// or nine digits.
+// Appends a datetime whose count fits 64 bits.
 #[inline]
-pub fn push_datetime(block: &mut Vec<u8>, unit: TimeUnit, count: i64) -> Result<(), AllocError>
+fn push_narrow_datetime(block: &mut Vec<u8>, unit: TimeUnit, count: i64) -> Result<(), AllocError>
     requires { is_within (datetime_range (units_in_second unit)) count ≡ true }
     ensures { OnOk result (block.new.items ≡ block.old.items ++ datetime_text unit count) }
 {
     push_second(block, second_of(unit, count))?;
     push_places(block, unit, rest_of(unit, count))
+}
+
+// The second at or below a count of units of any size.
+#[inline]
+fn wide_second_of(unit: TimeUnit, count: i128) -> i64
+    requires { is_within (datetime_range (units_in_second unit)) count ≡ true }
+    ensures { result ≡ int_div_euclid count (pos (units_in_second unit)) }
+{
+    count.div_euclid(i128::from(units_of(unit))) as i64
+}
+
+// The units of a count of any size behind that second.
+#[inline]
+fn wide_rest_of(unit: TimeUnit, count: i128) -> u32
+    ensures value { result ≡ unsigned_abs (int_rem_euclid count (pos (units_in_second unit))) }
+    ensures bound { result < units_in_second unit }
+{
+    count.rem_euclid(i128::from(units_of(unit))) as u32
+}
+
+// Appends a datetime of any count.
+#[cold]
+fn push_wide_datetime(block: &mut Vec<u8>, unit: TimeUnit, count: i128) -> Result<(), AllocError>
+    requires { is_within (datetime_range (units_in_second unit)) count ≡ true }
+    ensures { OnOk result (block.new.items ≡ block.old.items ++ datetime_text unit count) }
+{
+    push_second(block, wide_second_of(unit, count))?;
+    push_places(block, unit, wide_rest_of(unit, count))
+}
+
+/// Appends a date and a time of the day, given in units from 1970-01-01T00:00:00, as `YYYY-MM-DDTHH:MM:SS.` and three, six
+/// or nine digits.
+#[inline]
+pub fn push_datetime(block: &mut Vec<u8>, unit: TimeUnit, count: i128) -> Result<(), AllocError>
+    requires { is_within (datetime_range (units_in_second unit)) count ≡ true }
+    ensures { OnOk result (block.new.items ≡ block.old.items ++ datetime_text unit count) }
+{
+    match i64::try_from(count) {
+        Ok(count) => push_narrow_datetime(block, unit, count),
+        Err(_) => push_wide_datetime(block, unit, count),
+    }
 }

@@ -26,3 +26,15 @@ fn push_whole(block: &mut Vec<u8>, number: i128) -> Result<(), AllocError>
         Err(_) => block.extend_from_slice(digits.format(number).as_bytes()),
     }
 }
+
+// Appends a truth value.
+#[inline]
+fn push_truth(block: &mut Vec<u8>, dtype: &DataType, truth: bool) -> Result<(), AllocError>
+    ensures { OnOk result (block.new.items ≡ block.old.items ++ printed dtype.now (Truth truth)) }
+{
+    if truth {
+        block.extend_from_slice(b"true")
+    } else {
+        block.extend_from_slice(b"false")
+    }
+}

@@ -33,6 +33,12 @@ cell_options o = with_head o false false
 abbrev pub frame_options : CsvWriterOptions → WriteOptions
 frame_options o = with_head o.serialize_options o.include_bom o.include_header
 
--- a value of a kind other than a text stands without quotes
+-- whole numbers and decimals
+abbrev pub is_number_kind : TypeKind → Bool
+is_number_kind TextKind = false
+is_number_kind NumberKind = true
+is_number_kind OtherKind = false
+
+-- a value that is no text stands without quotes
 abbrev pub is_bare : ℕ → TypeKind → Bool
-is_bare style kind = if style == 1 then false else (if style == 2 then (elim kind [ TextKind ↦ false | NumberKind ↦ true | OtherKind ↦ false ]) else true)
+is_bare style kind = if style == 1 then false else (if style == 2 then is_number_kind kind else true)

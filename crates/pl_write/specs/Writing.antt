@@ -4,10 +4,10 @@ use Rattle.std.specs.Io.KnownBytes.{Appends}
 use Rattle.std.specs.List.{AllByRecursion}
 use Rattle.pl_frame.specs.Frame.{ColumnValue}
 
--- a comma, but before the first text of a line
-abbrev pub separator_before : ℕ → List ℕ
-separator_before zero = []
-separator_before (suc place) = 44 ∷ []
+-- a separator, but before the first text of a line
+abbrev pub separator_before : ℕ → ℕ → List ℕ
+separator_before separator zero = []
+separator_before separator (suc place) = separator ∷ []
 
 -- every column has the row
 abbrev pub HasRow : ℕ → List ColumnValue → Type 0

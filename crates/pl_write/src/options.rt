@@ -1,6 +1,7 @@
 //! How a frame is written.
-ghost use Rattle.std.specs.Prelude.{◌≡◌, ◌≢◌, true, false, [], ◌∷◌, IfOk, IsOkUnless};
+ghost use Rattle.std.specs.Prelude.{◌≡◌, IfOk, IsOkUnless};
 ghost use Rattle.pl_frame.specs.declared.error.PolarsError.TheVariants as error;
+ghost use Rattle.pl_write.specs.Options.{default_cells, default_options};
 
 use pl_frame::error::PolarsResult;
 use pl_frame::name::PlSmallStr;
@@ -37,7 +38,7 @@ pub struct SerializeOptions {
 impl SerializeOptions {
     /// A comma, `"`, an empty null text, a line feed, and quotes where necessary. Refuses only want of memory.
     pub fn new(alloc: Global) -> PolarsResult<SerializeOptions>
-        ensures made { IfOk result (λ o. o ≡ record { separator = 44; quote_char = 34; null = []; line_terminator = 10 ∷ []; quote_style = QuoteStyle.Necessary }) }
+        ensures made { IfOk result (λ o. o ≡ default_cells) }
         ensures refused { IsOkUnless result error.OutOfMemory }
     {
         Ok(SerializeOptions {
@@ -62,4 +63,20 @@ pub struct CsvWriterOptions {
     /// Has no effect.
     pub maintain_order: bool,
     pub serialize_options: SerializeOptions,
+}
+
+impl CsvWriterOptions {
+    /// No byte order mark, a header, 1024 rows at a time, and the default options of cells. Refuses only want of memory.
+    pub fn new(alloc: Global) -> PolarsResult<CsvWriterOptions>
+        ensures made { IfOk result (λ o. o ≡ default_options) }
+        ensures refused { IsOkUnless result error.OutOfMemory }
+    {
+        Ok(CsvWriterOptions {
+            include_bom: false,
+            include_header: true,
+            batch_size: 1024,
+            maintain_order: false,
+            serialize_options: SerializeOptions::new(alloc)?,
+        })
+    }
 }

@@ -1,12 +1,11 @@
 //! Values that are no texts, as they are written.
 ghost use Rattle.std.specs.Prelude.{◌≡◌, ◌++◌, true, not, unwrap_or, unsigned_abs, OnOk, if◌then◌else◌};
 ghost use Rattle.std.specs.Fmt.{signed_decimal};
-ghost use Rattle.pl_frame.specs.Frame.{Truth, Number};
-ghost use Rattle.pl_frame.specs.Columns.{is_value_of};
+ghost use Rattle.pl_frame.specs.Frame.{Truth};
 ghost use Rattle.pl_frame.specs.Types.{is_within, datetime_range, range_of, units_in_second};
 ghost use Rattle.pl_frame.specs.Printed.{datetime_text, number_text, printed};
 ghost use Rattle.pl_frame.specs.Text.{kind_of, written_value};
-ghost use Rattle.pl_write.specs.Options.{cell_options, style_number, is_number_kind, is_bare};
+ghost use Rattle.pl_write.specs.Options.{cell_options, in_range, style_number, is_number_kind, is_bare};
 
 use crate::dates::push_date;
 use crate::decimals::push_decimal;
@@ -31,7 +30,7 @@ fn push_whole(block: &mut Vec<u8>, number: i128) -> Result<(), AllocError>
 // Appends a day or a time of the day, which fits 64 bits.
 #[inline]
 fn push_number(block: &mut Vec<u8>, dtype: &DataType, number: i128) -> Result<(), AllocError>
-    requires { is_value_of dtype.now (Number number) ≡ true }
+    requires { in_range dtype.now number ≡ true }
     ensures { OnOk result (block.new.items ≡ block.old.items ++ number_text dtype.now number) }
 {
     match dtype {
@@ -89,7 +88,7 @@ pub fn push_number_cell(
     number: i128,
     options: &SerializeOptions,
 ) -> Result<(), AllocError>
-    requires { is_value_of dtype.now (Number number) ≡ true }
+    requires { in_range dtype.now number ≡ true }
     ensures { OnOk result (block.new.items ≡ block.old.items ++ written_value (cell_options options.now) (kind_of dtype.now) (number_text dtype.now number)) }
 {
     if is_quoted(dtype, options.quote_style) {

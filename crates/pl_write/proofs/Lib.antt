@@ -1,6 +1,7 @@
 mod BlockLaws
 mod DateLaws
 mod DoubledLaws
+mod HeldLaws
 mod LineLaws
 mod PaddedLaws
 mod TimeLaws

@@ -1,6 +1,7 @@
 //! Frames written as CSV: the text of each cell, and of a whole frame.
 #![tactic(auto)]
 
+pub mod csv_writer;
 pub mod dates;
 pub mod decimals;
 pub mod digits;
@@ -8,3 +9,4 @@ pub mod options;
 pub mod texts;
 pub mod times;
 mod values;
+mod writer;

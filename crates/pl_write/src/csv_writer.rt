@@ -1,0 +1,168 @@
+//! The writer of frames.
+ghost use Rattle.std.specs.Prelude.{◌≡◌, ◌≤◌, IfOk, IfErr, OnOk, IsOkUnless};
+ghost use Rattle.std.specs.Io.KnownBytes.{Appends};
+ghost use Rattle.pl_frame.specs.declared.error.PolarsError.TheVariants as error;
+ghost use Rattle.pl_frame.specs.Text.{text_of_frame};
+ghost use Rattle.pl_write.specs.Options.{default_options, frame_options, with_separator, with_quote_char, with_null, with_line_terminator, with_quote_style, with_include_bom, with_include_header, with_batch_size, with_cells};
+ghost use Rattle.pl_write.specs.Writing.{AppendsPrefix, CanWrite, IsEarlyFault, IsWriteFault, Writer, with_change, with_threads};
+
+use crate::options::{CsvWriterOptions, QuoteStyle};
+use crate::writer::write_frame;
+use pl_frame::error::{ComputeFault, OpFault, PolarsError, PolarsResult};
+use pl_frame::frame::DataFrame;
+use pl_frame::name::PlSmallStr;
+use pl_frame::sink::{Sink, SinkFault};
+use std::alloc::Global;
+use std::marker::Model;
+
+/// What writes frames to a sink.
+pub trait SerWriter<S: Sink> {
+    /// The sink, how frames are written, and on how many threads.
+    ghost writer: { Self → Writer S };
+
+    /// A writer to a sink, with default options, on four threads. Refuses only want of memory.
+    fn new(alloc: Global, sink: S) -> PolarsResult<Self>
+        ensures made { IfOk result (λ made. writer made ≡ record { sink = sink; options = default_options; n_threads = 4 }) }
+        ensures refused { IsOkUnless result error.OutOfMemory };
+
+    /// Appends the text of a frame to the sink.
+    ///
+    /// Refuses `Option` where no thread is to write, and then a quote that is not ASCII, both before any byte; a fault of
+    /// the sink; and want of memory. A prefix of the text was then appended.
+    fn finish(&mut self, df: &DataFrame) -> PolarsResult<()>
+        ensures written { OnOk result (Appends (S.received (writer self.old).sink) (S.received (writer self.new).sink) (text_of_frame (frame_options (writer self.old).options) df.now)) }
+        ensures can { OnOk result (CanWrite (writer self.old).n_threads (writer self.old).options.serialize_options.quote_char) }
+        ensures prefix { AppendsPrefix (S.received (writer self.old).sink) (S.received (writer self.new).sink) (text_of_frame (frame_options (writer self.old).options) df.now) }
+        ensures refused { IfErr result (IsWriteFault (writer self.old).n_threads (writer self.old).options.serialize_options.quote_char
+            (S.received (writer self.old).sink) (S.received (writer self.new).sink) (S.faults (writer self.old).sink) (S.faults (writer self.new).sink)) }
+        ensures later { S.faults (writer self.old).sink ≤ S.faults (writer self.new).sink }
+        ensures options { (writer self.new).options ≡ (writer self.old).options }
+        ensures threads { (writer self.new).n_threads ≡ (writer self.old).n_threads };
+}
+
+/// A writer of frames to a sink, which it owns.
+#[derive(Drop)]
+pub struct CsvWriter<S: Sink> {
+    alloc: Global,
+    sink: S,
+    options: CsvWriterOptions,
+    n_threads: usize,
+}
+
+impl<S: Sink> Model for CsvWriter<S> {
+    ghost use Rattle.pl_write.specs.Writing.{Writer};
+
+    ghost Value = { Writer S };
+
+    ghost view = { λ w. record { sink = w.sink; options = w.options; n_threads = w.n_threads } };
+}
+
+impl<S: Sink> CsvWriter<S> {
+    /// Sets whether the text begins with a byte order mark.
+    pub fn include_bom(mut self, include_bom: bool) -> Self
+        ensures { result ≡ with_change (with_include_bom include_bom) self }
+    {
+        self.options.include_bom = include_bom;
+        self
+    }
+
+    /// Sets whether the line of the names stands before the rows.
+    pub fn include_header(mut self, include_header: bool) -> Self
+        ensures { result ≡ with_change (with_include_header include_header) self }
+    {
+        self.options.include_header = include_header;
+        self
+    }
+
+    /// Sets what stands between two cells.
+    pub fn with_separator(mut self, separator: u8) -> Self
+        ensures { result ≡ with_change (with_cells (with_separator separator)) self }
+    {
+        self.options.serialize_options.separator = separator;
+        self
+    }
+
+    /// Sets how many rows are written at a time; the text does not depend on it.
+    pub fn with_batch_size(mut self, batch_size: usize) -> Self
+        ensures { result ≡ with_change (with_batch_size batch_size) self }
+    {
+        self.options.batch_size = batch_size;
+        self
+    }
+
+    /// Sets the quote, which must be ASCII where a frame is written.
+    pub fn with_quote_char(mut self, quote_char: u8) -> Self
+        ensures { result ≡ with_change (with_cells (with_quote_char quote_char)) self }
+    {
+        self.options.serialize_options.quote_char = quote_char;
+        self
+    }
+
+    /// Sets the text of a null.
+    pub fn with_null_value(mut self, null_value: PlSmallStr) -> Self
+        ensures { result ≡ with_change (with_cells (with_null null_value)) self }
+    {
+        self.options.serialize_options.null = null_value;
+        self
+    }
+
+    /// Sets what ends a line.
+    pub fn with_line_terminator(mut self, line_terminator: PlSmallStr) -> Self
+        ensures { result ≡ with_change (with_cells (with_line_terminator line_terminator)) self }
+    {
+        self.options.serialize_options.line_terminator = line_terminator;
+        self
+    }
+
+    /// Sets when a cell is quoted.
+    pub fn with_quote_style(mut self, quote_style: QuoteStyle) -> Self
+        ensures { result ≡ with_change (with_cells (with_quote_style quote_style)) self }
+    {
+        self.options.serialize_options.quote_style = quote_style;
+        self
+    }
+
+    /// Sets on how many threads a frame is written; the text does not depend on it.
+    pub fn n_threads(mut self, n_threads: usize) -> Self
+        ensures { result ≡ with_threads n_threads self }
+    {
+        self.n_threads = n_threads;
+        self
+    }
+}
+
+// Refuses no threads, and then a quote that is not ASCII.
+fn can_write(n_threads: usize, quote: u8) -> PolarsResult<()>
+    ensures can { OnOk result (CanWrite n_threads quote) }
+    ensures refused { IfErr result (IsEarlyFault n_threads quote) }
+{
+    if n_threads == 0 {
+        return Err(PolarsError::InvalidOperation(OpFault::Option));
+    }
+    if !quote.is_ascii() {
+        return Err(PolarsError::ComputeError(ComputeFault::Quote));
+    }
+    Ok(())
+}
+
+impl<S: Sink + Drop> SerWriter<S> for CsvWriter<S> {
+    ghost writer = { λ w. w };
+
+    fn new(alloc: Global, sink: S) -> PolarsResult<Self> {
+        Ok(CsvWriter {
+            alloc,
+            sink,
+            options: CsvWriterOptions::new(alloc)?,
+            n_threads: 4,
+        })
+    }
+
+    fn finish(&mut self, df: &DataFrame) -> PolarsResult<()> {
+        can_write(self.n_threads, self.options.serialize_options.quote_char)?;
+        match write_frame(self.alloc, df.columns(), &self.options, &mut self.sink) {
+            Ok(()) => Ok(()),
+            Err(SinkFault::Device) => Err(PolarsError::IO),
+            Err(SinkFault::OutOfMemory) => Err(PolarsError::OutOfMemory),
+        }
+    }
+}

@@ -19,7 +19,8 @@ use Rattle.pl_csv.specs.declared.rows.RowFault.TheVariants as row_fault
 use Rattle.pl_csv.specs.declared.buffer.CellFault.{CellFault}
 use Rattle.pl_csv.specs.declared.buffer.CellFault.TheVariants as cell_fault
 use Rattle.pl_csv.specs.Buffers.{IsCellFault}
-use Rattle.pl_csv.specs.Cells.{Cell, cell, fault_of}
+use Rattle.pl_cells.specs.Cells.{Cell, fault_of}
+use Rattle.pl_csv.specs.Cells.{cell}
 use Rattle.pl_csv.specs.Reading.{Row, field_at, column_fault, first_or, is_forgiven, excess_fault, first_fault, row_at}
 use Rattle.pl_csv.specs.Rows.{fields_left, behind_row, IsDone, HasMore, IsRowFault, row_fault_of}
 use Rattle.pl_csv.proofs.RowLaws.{cells_fault}

@@ -6,7 +6,8 @@ use Rattle.std.proofs.lemmas.List.{drop-drop, drop_more, drop-set-lt, length-map
 use Rattle.pl_frame.specs.declared.data_type.DataType.{DataType}
 use Rattle.pl_frame.specs.Frame.{ColumnValue, HaveHeight, IsFrame, names_of}
 use Rattle.pl_frame.specs.Schema.{names_in, HaveDistinctNames}
-use Rattle.pl_csv.specs.Cells.{cell, value_of}
+use Rattle.pl_cells.specs.Cells.{value_of}
+use Rattle.pl_csv.specs.Cells.{cell}
 use Rattle.pl_csv.specs.Buffers.{State, is_carried}
 use Rattle.pl_csv.specs.Settings.{SchemaValue}
 use Rattle.pl_csv.specs.Reading.{Row, types_of, field_at, read_column, frame_of_rows}

@@ -15,7 +15,8 @@ use Rattle.pl_scan.proofs.ItemLaws.{IsRecordAt-extent}
 use Rattle.pl_scan.proofs.RecordLaws.{fields-text}
 use Rattle.pl_csv.specs.declared.rows.RowFault.{RowFault}
 use Rattle.pl_csv.specs.declared.rows.RowFault.TheVariants as row_fault
-use Rattle.pl_csv.specs.Cells.{cell, value_of}
+use Rattle.pl_cells.specs.Cells.{value_of}
+use Rattle.pl_csv.specs.Cells.{cell}
 use Rattle.pl_csv.specs.Reading.{Row, items_behind_within, items_behind, row_of, row_at, rows, first_fault, has_fault, field_at}
 use Rattle.pl_csv.specs.Buffers.{State}
 use Rattle.pl_csv.specs.Rows.{state_types, with_row, with_rows, IsRowFault}

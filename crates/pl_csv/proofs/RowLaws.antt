@@ -11,7 +11,8 @@ use Rattle.pl_csv.specs.declared.rows.RowRest.{RowRest}
 use Rattle.pl_csv.specs.declared.rows.RowRest.TheVariants as rest
 use Rattle.pl_frame.specs.declared.data_type.DataType.{DataType}
 use Rattle.pl_frame.specs.declared.error.FaultKind.{FaultKind}
-use Rattle.pl_csv.specs.Cells.{Cell, cell, value_of, fault_of}
+use Rattle.pl_cells.specs.Cells.{Cell, value_of, fault_of}
+use Rattle.pl_csv.specs.Cells.{cell}
 use Rattle.pl_frame.specs.Frame.{Scalar}
 use Rattle.pl_csv.specs.Reading.{field_at}
 use Rattle.pl_csv.specs.Buffers.{State}

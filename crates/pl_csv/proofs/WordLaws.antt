@@ -20,8 +20,8 @@ use Rattle.pl_csv.specs.Settings.{SchemaValue}
 use Rattle.std.proofs.Math.Nat.{pow-le-pow_right, pow-suc, mul-le-mul_right, mul_assoc}
 use Rattle.std.proofs.lemmas.Bool.Decides.{nat_tests}
 use Rattle.std.specs.Char.{is_ascii_digit}
-use Rattle.pl_csv.specs.Integers.{number_after, number_of, number_below}
-use Rattle.pl_csv.proofs.IntegerLaws.{digit_small}
+use Rattle.pl_cells.specs.Integers.{number_after, number_of, number_below}
+use Rattle.pl_cells.proofs.IntegerLaws.{digit_small}
 use Rattle.pl_csv.specs.Reading.{types_of}
 use Rattle.pl_csv.specs.Words.{named_type, entry_of, all_of, are_distinct, schema_of, is_comma, is_colon, is_equals_sign, at_equals_sign, Part, parts_of, count_of, with_value, with_part, with_parts, settings_of_given}
 use Rattle.pl_csv.specs.declared.settings.Settings.{Settings}

@@ -10,7 +10,7 @@ use Rattle.pl_csv.specs.declared.buffer.Buffer.{Buffer}
 use Rattle.pl_csv.specs.declared.buffer.Buffer.TheVariants as buffer
 use Rattle.pl_csv.specs.declared.buffer.CellFault.{CellFault}
 use Rattle.pl_csv.specs.declared.buffer.CellFault.TheVariants as cell_fault
-use Rattle.pl_csv.specs.Cells.{Cell}
+use Rattle.pl_cells.specs.Cells.{Cell}
 
 abbrev pub buffer_type : Buffer → DataType
 buffer_type (buffer.Int64 numbers) = dtype.Int64

@@ -1,7 +1,8 @@
 -- What counting the rows at a path answers (docs/grammar.md, "Counting rows").
 use Rattle.std.specs.Prelude.{◌≡◌, ℕ, ◌⊎◌, Bool, if◌then◌else◌, List, Option, None, Some, Result, Ok, Err}
+use Rattle.std.specs.Io.KnownBytes.{Consumes, IsAtEnd}
 use Rattle.pl_frame.specs.Causes.{Rose}
-use Rattle.pl_frame.specs.Dialect.{Marks}
+use Rattle.pl_frame.specs.Dialect.{Marks, IsDialect}
 use Rattle.pl_frame.specs.declared.error.PolarsError.{PolarsError}
 use Rattle.pl_frame.specs.declared.error.PolarsError.TheVariants as error
 use Rattle.pl_frame.specs.declared.error.OpFault.TheVariants as op_fault
@@ -18,6 +19,10 @@ IsHeld (Some held) bytes = held ≡ bytes
 abbrev pub HoldsSome : Option (List ℕ) → (List ℕ → Type 0) → Type 0
 HoldsSome held P = (bytes : List ℕ) × IsHeld held bytes × P bytes
 
+-- all that was left of a source came, and this holds of it
+abbrev pub CameWhole : Option (List ℕ) → Option (List ℕ) → (List ℕ → Type 0) → Type 0
+CameWhole before now P = (bytes : List ℕ) × Consumes before now bytes × IsAtEnd now × P bytes
+
 abbrev pub no_dialect : PolarsError
 no_dialect = error.InvalidOperation op_fault.Dialect
 
@@ -27,6 +32,11 @@ compressed = error.ComputeError compute_fault.Compressed
 -- what bytes have under a dialect: the refusal of a compressed stream, or else the number of rows
 abbrev pub counted : Bool → Marks → Option (List ℕ) → List ℕ → Result ℕ PolarsError
 counted has_header m comment bytes = if is_compressed bytes then Err compressed else Ok (row_count has_header m comment bytes)
+
+-- what a count of the rows of bytes answers: that there is no dialect, or else what they have under the dialect
+abbrev pub IsCountOf : Bool → Marks → Option (List ℕ) → List ℕ → Result ℕ PolarsError → Type 0
+IsCountOf has_header m comment bytes answer =
+    ((¬ IsDialect m comment) × (answer ≡ Err no_dialect)) ⊎ (IsDialect m comment × (answer ≡ counted has_header m comment bytes))
 
 -- this answer, or want of memory, or a fault of the opener whose count rose
 abbrev pub AnswersUnlessFailed : Result ℕ PolarsError → Result ℕ PolarsError → ℕ → ℕ → Type 0

@@ -1,13 +1,10 @@
 pub mod Buffers
 pub mod Came
 pub mod Cells
-pub mod Integers
-pub mod Quoting
 pub mod Reading
 pub mod Rows
 pub mod Settings
 pub mod Frames
 pub mod Words
-pub mod Writing
 pub mod Run
 pub mod Counting

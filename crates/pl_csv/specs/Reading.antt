@@ -13,7 +13,8 @@ use Rattle.pl_csv.specs.declared.reading.ReadFault.{ReadFault}
 use Rattle.pl_csv.specs.declared.reading.ReadFault.TheVariants as read_fault
 use Rattle.pl_csv.specs.declared.settings.Settings.{Settings}
 use Rattle.pl_csv.specs.Settings.{SchemaValue, marks_of, comment_of, skips_of, keeps_ends}
-use Rattle.pl_csv.specs.Cells.{cell, value_of, fault_of}
+use Rattle.pl_cells.specs.Cells.{value_of, fault_of}
+use Rattle.pl_csv.specs.Cells.{cell}
 
 abbrev pub types_of : SchemaValue → List DataType
 types_of schema = map (λ column. column.1) schema

@@ -12,7 +12,8 @@ use Rattle.pl_csv.specs.declared.rows.RowFault.TheVariants as row_fault
 use Rattle.pl_csv.specs.declared.buffer.CellFault.{CellFault}
 use Rattle.pl_csv.specs.declared.buffer.CellFault.TheVariants as cell_fault
 use Rattle.pl_frame.specs.declared.error.FaultKind.TheVariants as fault
-use Rattle.pl_csv.specs.Cells.{cell, value_of}
+use Rattle.pl_cells.specs.Cells.{value_of}
+use Rattle.pl_csv.specs.Cells.{cell}
 use Rattle.pl_csv.specs.Reading.{Row, field_at}
 use Rattle.pl_csv.specs.Buffers.{State, state_of}
 

@@ -10,7 +10,7 @@ use Rattle.pl_scan.specs.Comment.{prefix_from}
 use Rattle.pl_csv.specs.declared.settings.Settings.{Settings}
 use Rattle.pl_csv.specs.declared.options.Given.{Given}
 use Rattle.pl_csv.specs.Buffers.{is_carried}
-use Rattle.pl_csv.specs.Integers.{is_digits, number_of}
+use Rattle.pl_cells.specs.Integers.{is_digits, number_of}
 use Rattle.pl_csv.specs.Reading.{types_of}
 use Rattle.pl_csv.specs.Settings.{SchemaValue, default_settings}
 

@@ -4,14 +4,16 @@ ghost use Rattle.std.specs.Str.{is_utf8};
 ghost use Rattle.std.specs.Option.{option_map};
 ghost use Rattle.pl_frame.specs.Frame.{Number, Letters};
 ghost use Rattle.pl_scan.specs.Fields.{begins_quoted};
-ghost use Rattle.pl_csv.specs.Integers.{without_blanks};
-ghost use Rattle.pl_csv.specs.Quoting.{undouble};
-ghost use Rattle.pl_csv.specs.Cells.{cell, number_cell, text_cell, text_or_null, quoted_cell, plain_cell, quoted_field_cell};
+ghost use Rattle.pl_cells.specs.Integers.{without_blanks};
+ghost use Rattle.pl_cells.specs.Quoting.{undouble};
+ghost use Rattle.pl_frame.specs.declared.data_type.DataType.TheVariants as dtype;
+ghost use Rattle.pl_cells.specs.Cells.{text_cell, quoted_cell, plain_cell, quoted_field_cell};
+ghost use Rattle.pl_csv.specs.Cells.{cell, plain_reading};
 ghost use Rattle.pl_csv.specs.Buffers.{AddsNumber, AddsText, AddsCell, IsCellFault, buffer_type, buffer_values, state_of, is_carried};
 
-use crate::integers::parse_int64;
-use crate::quoting::{between_quotes, undouble_into, without_return};
 use memchr::memchr;
+use pl_cells::integers::parse_int64;
+use pl_cells::quoting::{between_quotes, undouble_into, without_return};
 use pl_frame::column::{Column, Series};
 use pl_frame::data_type::DataType;
 use pl_frame::name::PlSmallStr;
@@ -55,7 +57,7 @@ fn skip_blanks(text: &[u8]) -> &[u8]
 
 #[inline]
 fn add_number(numbers: &mut Numbers<i64>, text: &[u8]) -> Result<(), CellFault>
-    ensures { MatchResult result (λ _. AddsNumber numbers.old numbers.new (number_cell text.now)) (λ fault. IsCellFault fault (number_cell text.now)) }
+    ensures { MatchResult result (λ _. AddsNumber numbers.old numbers.new (text_cell plain_reading dtype.Int64 text.now)) (λ fault. IsCellFault fault (text_cell plain_reading dtype.Int64 text.now)) }
 {
     let text = skip_blanks(text);
     if text.is_empty() {
@@ -80,7 +82,7 @@ fn as_text(bytes: &[u8]) -> Option<&str>
 
 #[inline]
 fn add_text(texts: &mut Texts, text: &[u8]) -> Result<(), CellFault>
-    ensures { MatchResult result (λ _. AddsText texts.old texts.new (text_cell text.now)) (λ fault. IsCellFault fault (text_cell text.now)) }
+    ensures { MatchResult result (λ _. AddsText texts.old texts.new (text_cell plain_reading dtype.String text.now)) (λ fault. IsCellFault fault (text_cell plain_reading dtype.String text.now)) }
 {
     match as_text(text) {
         Some(text) => texts.push(text).map_err(|_| CellFault::OutOfMemory),
@@ -90,7 +92,7 @@ fn add_text(texts: &mut Texts, text: &[u8]) -> Result<(), CellFault>
 
 #[inline]
 fn add_plain_text(texts: &mut Texts, text: &[u8]) -> Result<(), CellFault>
-    ensures { MatchResult result (λ _. AddsText texts.old texts.new (text_or_null text.now)) (λ fault. IsCellFault fault (text_or_null text.now)) }
+    ensures { MatchResult result (λ _. AddsText texts.old texts.new (plain_cell plain_reading dtype.String text.now)) (λ fault. IsCellFault fault (plain_cell plain_reading dtype.String text.now)) }
 {
     if text.is_empty() {
         texts.push_null().map_err(|_| CellFault::OutOfMemory)
@@ -117,7 +119,7 @@ fn add_quoted_text(
     quote: u8,
     scratch: &mut Vec<u8>,
 ) -> Result<(), CellFault>
-    ensures { MatchResult result (λ _. AddsText texts.old texts.new (text_cell (undouble quote text.now))) (λ fault. IsCellFault fault (text_cell (undouble quote text.now))) }
+    ensures { MatchResult result (λ _. AddsText texts.old texts.new (quoted_cell plain_reading quote dtype.String text.now)) (λ fault. IsCellFault fault (quoted_cell plain_reading quote dtype.String text.now)) }
 {
     if holds_no_quote(text, quote) {
         return add_text(texts, text);
@@ -151,7 +153,7 @@ impl Buffer {
     }
 
     fn add_quoted(&mut self, text: &[u8], quote: u8, scratch: &mut Vec<u8>) -> Result<(), CellFault>
-        ensures { MatchResult result (λ _. AddsCell self.old self.new (quoted_cell quote (buffer_type self.old) text.now)) (λ fault. IsCellFault fault (quoted_cell quote (buffer_type self.old) text.now)) }
+        ensures { MatchResult result (λ _. AddsCell self.old self.new (quoted_cell plain_reading quote (buffer_type self.old) text.now)) (λ fault. IsCellFault fault (quoted_cell plain_reading quote (buffer_type self.old) text.now)) }
     {
         match self {
             Buffer::Int64(numbers) => add_number(numbers, text),
@@ -160,7 +162,7 @@ impl Buffer {
     }
 
     fn add_plain(&mut self, text: &[u8]) -> Result<(), CellFault>
-        ensures { MatchResult result (λ _. AddsCell self.old self.new (plain_cell (buffer_type self.old) text.now)) (λ fault. IsCellFault fault (plain_cell (buffer_type self.old) text.now)) }
+        ensures { MatchResult result (λ _. AddsCell self.old self.new (plain_cell plain_reading (buffer_type self.old) text.now)) (λ fault. IsCellFault fault (plain_cell plain_reading (buffer_type self.old) text.now)) }
     {
         match self {
             Buffer::Int64(numbers) => add_number(numbers, text),
@@ -174,7 +176,7 @@ impl Buffer {
         quote: u8,
         scratch: &mut Vec<u8>,
     ) -> Result<(), CellFault>
-        ensures { MatchResult result (λ _. AddsCell self.old self.new (quoted_field_cell quote (buffer_type self.old) field.now)) (λ fault. IsCellFault fault (quoted_field_cell quote (buffer_type self.old) field.now)) }
+        ensures { MatchResult result (λ _. AddsCell self.old self.new (quoted_field_cell plain_reading quote (buffer_type self.old) field.now)) (λ fault. IsCellFault fault (quoted_field_cell plain_reading quote (buffer_type self.old) field.now)) }
     {
         match between_quotes(field, quote) {
             Some(text) => self.add_quoted(text, quote, scratch),

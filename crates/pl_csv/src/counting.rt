@@ -1,42 +1,79 @@
 //! How many rows the text at a path has.
-ghost use Rattle.std.specs.Prelude.{◌≡◌, ◌↔◌, ◌≤◌, ◌⊎◌, ℕ, List, true, false, Some, Err, IfOk, IfErr, IsErrOf};
+ghost use Rattle.std.specs.Prelude.{◌≡◌, ◌↔◌, ◌≤◌, ℕ, List, true, false, None, Some, Ok, Err, if◌then◌else◌, IfOk, IfErr, IsErrOf};
 ghost use Rattle.pl_frame.specs.Causes.{Rose};
 ghost use Rattle.pl_frame.specs.Dialect.{marks, IsDialect};
 ghost use Rattle.pl_frame.specs.declared.error.PolarsError.TheVariants as error;
 ghost use Rattle.pl_scan.specs.Comment.{prefix_of};
 ghost use Rattle.pl_scan.specs.RowCount.{row_count};
 ghost use Rattle.pl_csv.specs.Reading.{is_compressed};
-ghost use Rattle.pl_csv.specs.Counting.{IsHeld, HoldsSome, no_dialect, compressed, counted, AnswersUnlessFailed, IsCountFault};
+ghost use Rattle.pl_csv.specs.Counting.{CameWhole, HoldsSome, IsCountOf, no_dialect, compressed, counted, AnswersUnlessFailed, IsCountFault};
 
 use crate::compression::has_compression_mark;
-use crate::read_all::{ReadAllFault, read_all};
+use crate::read_all::{BLOCK_SIZE, LIMIT, ReadAllFault, read_all};
 use pl_frame::error::{ComputeFault, OpFault, PolarsError, PolarsResult};
 use pl_frame::opener::Opener;
+use pl_frame::source::Source;
 use pl_scan::comment::CommentPrefix;
 use pl_scan::dialect::dialect_ok;
+use pl_scan::row_counter::RowCounter;
 use pl_scan::rows::count_rows_from_slice;
 use std::alloc::Global;
 
-// The most bytes that are read of a path.
-const LIMIT: usize = 1 << 36;
+// The most bytes that a mark of a compressed stream has.
+const MARK_SIZE: usize = 4;
 
-// All bytes at a path. The source is closed before the answer.
-fn read_path<O: Opener>(alloc: Global, opener: &mut O, path: &str) -> Result<Vec<u8>, ReadAllFault>
-    ensures read { IfOk result (λ bytes. IsHeld (O.holds opener.old path.now) bytes.items) }
-    ensures failed { IsErrOf result ReadAllFault.Source → Rose (O.faults opener.old) (O.faults opener.new) }
-    ensures later { O.faults opener.old ≤ O.faults opener.new }
-    ensures stays { (other : List ℕ) → O.holds opener.new other ≡ O.holds opener.old other }
+// What a count answers, where this many rows were counted.
+fn unless_compressed(has_mark: bool, rows: usize) -> PolarsResult<usize>
+    ensures { result ≡ if has_mark then Err compressed else Ok rows }
 {
-    let mut source = match opener.open_path(path) {
-        Ok(source) => source,
-        Err(_) => return Err(ReadAllFault::Source),
-    };
-    let read = read_all(alloc, &mut source, LIMIT);
-    opener.close(source);
-    read
+    if has_mark {
+        Err(PolarsError::ComputeError(ComputeFault::Compressed))
+    } else {
+        Ok(rows)
+    }
 }
 
-// The number of rows of bytes that are not compressed.
+// What a count of the rows of all that is left of a source answers, under a dialect without comments. What came is not kept.
+fn count_by_blocks<So: Source>(
+    alloc: Global,
+    source: &mut So,
+    separator: u8,
+    quote_char: Option<u8>,
+    eol_char: u8,
+    has_header: bool,
+) -> Result<PolarsResult<usize>, ReadAllFault>
+    requires { IsDialect (marks separator quote_char eol_char) None }
+    ensures read { IfOk result (λ answer. CameWhole (So.left source.old) (So.left source.new) (λ bytes.
+        answer ≡ counted has_header (marks separator quote_char eol_char) None bytes)) }
+    ensures failed { IsErrOf result ReadAllFault.Source → Rose (So.faults source.old) (So.faults source.new) }
+    ensures later { So.faults source.old ≤ So.faults source.new }
+{
+    let mut counter = RowCounter::new(separator, quote_char, eol_char);
+    let mut front = Vec::new(alloc);
+    let mut length = 0;
+    let mut block = [0u8; BLOCK_SIZE];
+    loop {
+        let count = match source.read(&mut block) {
+            Ok(count) => count,
+            Err(_) => return Err(ReadAllFault::Source),
+        };
+        if count == 0 {
+            let rows = counter.rows(has_header);
+            return Ok(unless_compressed(has_compression_mark(&front), rows));
+        }
+        if count > LIMIT - length {
+            return Err(ReadAllFault::TooLong);
+        }
+        let wanting = count.min(MARK_SIZE - front.len());
+        if front.extend_from_slice(&block[..wanting]).is_err() {
+            return Err(ReadAllFault::OutOfMemory);
+        }
+        counter.add(&block[..count]);
+        length += count;
+    }
+}
+
+// What a count of the rows of bytes answers.
 fn count_rows_of_bytes(
     bytes: &[u8],
     separator: u8,
@@ -45,13 +82,7 @@ fn count_rows_of_bytes(
     eol_char: u8,
     has_header: bool,
 ) -> PolarsResult<usize>
-    ensures dialect { (result ≡ Err no_dialect) ↔ (¬ IsDialect (marks separator quote_char eol_char) (prefix_of comment_prefix.entry)) }
-    ensures answer { IsDialect (marks separator quote_char eol_char) (prefix_of comment_prefix.entry)
-        → result ≡ counted has_header (marks separator quote_char eol_char) (prefix_of comment_prefix.entry) bytes.now }
-    ensures rows { IfOk result (λ n. IsDialect (marks separator quote_char eol_char) (prefix_of comment_prefix.entry) × (is_compressed bytes.now ≡ false)
-        × (row_count has_header (marks separator quote_char eol_char) (prefix_of comment_prefix.entry) bytes.now ≡ n)) }
-    ensures compressed { IsErrOf result compressed → IsDialect (marks separator quote_char eol_char) (prefix_of comment_prefix.entry) × (is_compressed bytes.now ≡ true) }
-    ensures known { IfErr result (λ fault. (fault ≡ no_dialect) ⊎ (fault ≡ compressed)) }
+    ensures { IsCountOf has_header (marks separator quote_char eol_char) (prefix_of comment_prefix.entry) bytes.now result }
 {
     if !dialect_ok(separator, quote_char, eol_char, comment_prefix) {
         return Err(PolarsError::InvalidOperation(OpFault::Dialect));
@@ -67,6 +98,71 @@ fn count_rows_of_bytes(
         eol_char,
         has_header,
     )
+}
+
+// What a count of the rows of all that is left of a source answers. Only under a dialect with comments what came is kept.
+fn count_source<So: Source>(
+    alloc: Global,
+    source: &mut So,
+    separator: u8,
+    quote_char: Option<u8>,
+    comment_prefix: Option<&CommentPrefix>,
+    eol_char: u8,
+    has_header: bool,
+) -> Result<PolarsResult<usize>, ReadAllFault>
+    ensures read { IfOk result (λ answer. CameWhole (So.left source.old) (So.left source.new) (λ bytes.
+        IsCountOf has_header (marks separator quote_char eol_char) (prefix_of comment_prefix.entry) bytes answer)) }
+    ensures failed { IsErrOf result ReadAllFault.Source → Rose (So.faults source.old) (So.faults source.new) }
+    ensures later { So.faults source.old ≤ So.faults source.new }
+{
+    if comment_prefix.is_none() && dialect_ok(separator, quote_char, eol_char, None) {
+        return count_by_blocks(alloc, source, separator, quote_char, eol_char, has_header);
+    }
+    match read_all(alloc, source, LIMIT) {
+        Ok(bytes) => Ok(count_rows_of_bytes(
+            &bytes,
+            separator,
+            quote_char,
+            comment_prefix,
+            eol_char,
+            has_header,
+        )),
+        Err(fault) => Err(fault),
+    }
+}
+
+// What a count of the rows at a path answers. The source is closed before the answer.
+fn count_path<O: Opener>(
+    alloc: Global,
+    opener: &mut O,
+    path: &str,
+    separator: u8,
+    quote_char: Option<u8>,
+    comment_prefix: Option<&CommentPrefix>,
+    eol_char: u8,
+    has_header: bool,
+) -> Result<PolarsResult<usize>, ReadAllFault>
+    ensures read { IfOk result (λ answer. HoldsSome (O.holds opener.old path.now) (λ bytes.
+        IsCountOf has_header (marks separator quote_char eol_char) (prefix_of comment_prefix.entry) bytes answer)) }
+    ensures failed { IsErrOf result ReadAllFault.Source → Rose (O.faults opener.old) (O.faults opener.new) }
+    ensures later { O.faults opener.old ≤ O.faults opener.new }
+    ensures stays { (other : List ℕ) → O.holds opener.new other ≡ O.holds opener.old other }
+{
+    let mut source = match opener.open_path(path) {
+        Ok(source) => source,
+        Err(_) => return Err(ReadAllFault::Source),
+    };
+    let answer = count_source(
+        alloc,
+        &mut source,
+        separator,
+        quote_char,
+        comment_prefix,
+        eol_char,
+        has_header,
+    );
+    opener.close(source);
+    answer
 }
 
 /// The number of rows of the text at a path, as `count_rows_from_slice` counts them. The source that is opened is read
@@ -103,20 +199,22 @@ pub fn count_rows<O: Opener>(
     ensures later { O.faults opener.old ≤ O.faults opener.new }
     ensures stays { (other : List ℕ) → O.holds opener.new other ≡ O.holds opener.old other }
 {
-    let bytes = match read_path(alloc, opener, path) {
-        Ok(bytes) => bytes,
-        Err(ReadAllFault::Source) => return Err(PolarsError::IO),
-        Err(ReadAllFault::TooLong) => return Err(PolarsError::OutOfMemory),
-        Err(ReadAllFault::OutOfMemory) => return Err(PolarsError::OutOfMemory),
-    };
-    count_rows_of_bytes(
-        &bytes,
+    let answer = count_path(
+        alloc,
+        opener,
+        path,
         separator,
         quote_char,
         comment_prefix,
         eol_char,
         has_header,
-    )
+    );
+    match answer {
+        Ok(answer) => answer,
+        Err(ReadAllFault::Source) => Err(PolarsError::IO),
+        Err(ReadAllFault::TooLong) => Err(PolarsError::OutOfMemory),
+        Err(ReadAllFault::OutOfMemory) => Err(PolarsError::OutOfMemory),
+    }
 }
 
 #[cfg(test)]
@@ -177,5 +275,60 @@ mod tests {
         }
         let mut opener = PipeOpener::new(&entries, 1, &[5]);
         assert_eq!(rt; count(alloc, &mut opener, "f").ok(), Some(1));
+    }
+
+    #[test]
+    fn blocks_may_end_anywhere(rt: HostRuntime) {
+        let alloc = rt.alloc();
+        let entries: [(&str, &[u8]); 6] = [
+            ("plain", b"\n\na,b\n1,2\n\n3,4"),
+            ("quoted", b"a\n\"1\n\"\"2\"\nx\"y\n"),
+            ("open", b"a\n\"1\n2\n"),
+            ("ends", b"\n\n\n\n\n"),
+            ("zstd", &[0x28, 0xB5, 0x2F, 0xFD, b'\n', b'a']),
+            ("short", &[0x28, 0xB5, 0x2F]),
+        ];
+        for step in 1..8 {
+            let mut opener = PipeOpener::new(&entries, step, &[]);
+            for (path, rows) in [
+                ("plain", 3),
+                ("quoted", 2),
+                ("open", 1),
+                ("ends", 0),
+                ("short", 0),
+            ] {
+                let counted = count(alloc, &mut opener, path);
+                assert_eq!(rt; counted.ok(), Some(rows), "{path} by {step}");
+            }
+            let packed = count(alloc, &mut opener, "zstd");
+            assert!(rt;
+                matches!(
+                    packed,
+                    Err(PolarsError::ComputeError(ComputeFault::Compressed))
+                ),
+                "by {step}"
+            );
+        }
+    }
+
+    #[test]
+    fn comments_are_no_rows(rt: HostRuntime) {
+        let alloc = rt.alloc();
+        let prefix = CommentPrefix::new_single(b'#');
+        let entries: [(&str, &[u8]); 1] = [("f", b"#c\na\n\n#d\n1\n")];
+        let mut opener = PipeOpener::new(&entries, 2, &[]);
+        let commented = count_rows(
+            alloc,
+            &mut opener,
+            "f",
+            b',',
+            None,
+            Some(&prefix),
+            b'\n',
+            true,
+        );
+        assert_eq!(rt; commented.ok(), Some(1));
+        let plain = count_rows(alloc, &mut opener, "f", b',', None, None, b'\n', true);
+        assert_eq!(rt; plain.ok(), Some(4));
     }
 }

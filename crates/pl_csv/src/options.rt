@@ -4,9 +4,9 @@ ghost use Rattle.std.specs.Option.{option_map};
 ghost use Rattle.pl_scan.specs.Comment.{prefix_from};
 ghost use Rattle.pl_csv.specs.Words.{schema_of, IsCarriedSchema, hexadecimal_digit, hexadecimal_pair, byte_of, quote_of, count_of, once, with_value, with_part, nothing_given, settings_of_given};
 
-use crate::integers::number_of;
 use crate::settings::Settings;
 use crate::words::{WordsFault, parse_schema};
+use pl_cells::integers::number_of;
 use pl_frame::schema::Schema;
 use pl_scan::comment::CommentPrefix;
 use std::alloc::Global;

@@ -18,8 +18,11 @@ pub enum ReadAllFault {
     OutOfMemory,
 }
 
-// How many bytes a read asks for.
-const BLOCK_SIZE: usize = 65536;
+/// The most bytes that are read of an input.
+pub const LIMIT: usize = 1 << 36;
+
+/// How many bytes a read asks for.
+pub(crate) const BLOCK_SIZE: usize = 65536;
 
 /// All the bytes that are left of a source, if there are no more than `limit`.
 ///

@@ -6,19 +6,18 @@ use Rattle.std.proofs.lemmas.List.{take-map, get_or-map, get_or-take, get_or_def
 use Rattle.std.proofs.lemmas.List.Folds.{list_any_at}
 use Rattle.std.proofs.lemmas.Option.{none-some}
 use Rattle.std.proofs.lemmas.Slice.Eq.{bytes_eq-Decides}
-use Rattle.pl_frame.specs.Frame.{ColumnValue, names_of}
 use Rattle.pl_frame.specs.Names.{is_repeat, first_repeat}
 
 list_any-map : {X Y : Type 0} (p : Y → Bool) (f : X → Y) (xs : List X) → list_any p (map f xs) ≡ list_any (λ x. p (f x)) xs
 list_any-map p f [] = refl
 list_any-map p f (x ∷ xs) = ap (λ b. p (f x) || b) (list_any-map p f xs)
 
--- a test among columns is one among their names
-pub is_repeat-columns : (columns : List ColumnValue) (place : ℕ) (name : List ℕ) → name ≡ get_or (names_of columns) place [] →
-    is_repeat (names_of columns) place ≡ list_any (λ column. bytes_eq column.name name) (take place columns)
-is_repeat-columns columns place name e =
-    rw (← e) (ap (λ names. list_any (λ earlier. bytes_eq earlier name) names) (take-map (λ (column : ColumnValue). column.name) place columns)
-    ∙ list_any-map (λ earlier. bytes_eq earlier name) (λ (column : ColumnValue). column.name) (take place columns))
+-- a test among items is one among their names
+is_repeat-items : {X : Type 0} (f : X → List ℕ) (items : List X) (place : ℕ) (name : List ℕ) → name ≡ get_or (map f items) place [] →
+    is_repeat (map f items) place ≡ list_any (λ item. bytes_eq (f item) name) (take place items)
+is_repeat-items f items place name e =
+    rw (← e) (ap (λ names. list_any (λ earlier. bytes_eq earlier name) names) (take-map f place items)
+    ∙ list_any-map (λ earlier. bytes_eq earlier name) f (take place items))
 
 find_in_range : (p : ℕ → Bool) (from n i : ℕ) → i < n → ((k : ℕ) → k < i → p (from + k) ≡ false) → p (from + i) ≡ true →
     find p (range_with_len from n) ≡ Some (from + i)
@@ -57,14 +56,13 @@ first_repeat-nowhere names nowhere =
     nowhere_in_range (is_repeat names) 0 (length names)
     (λ k h. subst (λ m. is_repeat names m ≡ false) (let e : k ≡ 0 + k = omega arith in e) (nowhere k h))
 
--- what a test of the columns before a place says
-pub is_repeat-tested : (columns : List ColumnValue) (place : ℕ) (column : ColumnValue) (name : List ℕ) (b : Bool) → place < length columns →
-    column ≡ get_or columns place column → name ≡ column.name →
-    b ≡ list_any (λ (other : ColumnValue). bytes_eq other.name name) (take place columns) → is_repeat (names_of columns) place ≡ b
-is_repeat-tested columns place column name b l c n t =
-    let here : name ≡ get_or (names_of columns) place [] =
-    n ∙ (ap (λ (x : ColumnValue). x.name) c ∙ sym (get_or-map (λ (x : ColumnValue). x.name) columns place column [] l)) in
-    is_repeat-columns columns place name here ∙ sym t
+-- what a test of the items before a place says
+pub is_repeat-tested : {X : Type 0} (f : X → List ℕ) (items : List X) (place : ℕ) (item : X) (name : List ℕ) (b : Bool) → place < length items →
+    item ≡ get_or items place item → name ≡ f item →
+    b ≡ list_any (λ other. bytes_eq (f other) name) (take place items) → is_repeat (map f items) place ≡ b
+is_repeat-tested f items place item name b l c n t =
+    let here : name ≡ get_or (map f items) place [] = n ∙ (ap f c ∙ sym (get_or-map f items place item [] l)) in
+    is_repeat-items f items place name here ∙ sym t
 
 none_step : (b : Bool) (x : ℕ) (rest : Option ℕ) → cond b (Some x) rest ≡ None → (b ≡ false) × (rest ≡ None)
 none_step true x rest e = absurd (none-some x (sym e))

@@ -1,24 +1,40 @@
 -- How the values of a column are kept.
-use Rattle.std.specs.Prelude.{◌≡◌, Bool, true, false, List, Option}
+use Rattle.std.specs.Prelude.{◌≡◌, Bool, true, false, List, Option, None, replicate}
 use Rattle.pl_frame.specs.declared.column.Data.{Data}
-use Rattle.pl_frame.specs.declared.column.Data.TheVariants as data_kind
+use Rattle.pl_frame.specs.declared.column.Data.TheVariants as kept
 use Rattle.pl_frame.specs.declared.data_type.DataType.{DataType}
-use Rattle.pl_frame.specs.Columns.{number_cells, text_cells, is_int64, is_string}
+use Rattle.pl_frame.specs.Categories.{AreCodes, decoded}
+use Rattle.pl_frame.specs.Columns.{truth_cells, number_cells, text_cells, is_coded, is_enum, categories_of, HoldsType}
 use Rattle.pl_frame.specs.Frame.{Scalar}
 
-abbrev pub cells : Data → List (Option Scalar)
-cells (data_kind.Int64 numbers) = number_cells numbers
-cells (data_kind.String texts) = text_cells texts
+abbrev pub cells : DataType → Data → List (Option Scalar)
+cells type (kept.Boolean truths) = truth_cells truths
+cells type (kept.Narrow numbers) = number_cells numbers
+cells type (kept.Wide numbers) = number_cells numbers
+cells type (kept.String texts) = text_cells texts
+cells type (kept.Categories texts) = text_cells texts
+cells type (kept.Enum codes) = text_cells (decoded (categories_of type) codes)
+cells type (kept.Null len) = replicate len None
 
-abbrev pub holds_int64 : Data → Bool
-holds_int64 (data_kind.Int64 numbers) = true
-holds_int64 (data_kind.String texts) = false
+-- kept as codes
+abbrev pub has_codes : Data → Bool
+has_codes (kept.Categories texts) = true
+has_codes (kept.Enum codes) = true
+has_codes _ = false
 
-abbrev pub holds_string : Data → Bool
-holds_string (data_kind.Int64 numbers) = false
-holds_string (data_kind.String texts) = true
+-- kept as places among the categories of the type
+abbrev pub has_places : Data → Bool
+has_places (kept.Enum codes) = true
+has_places _ = false
 
--- the values are kept as their type asks
-pub record FitsType (type : DataType) (kept : Data) : Type 0 where
-  pub int64 : is_int64 type ≡ holds_int64 kept
-  pub string : is_string type ≡ holds_string kept
+-- codes that are kept beside no dictionary are those of the type's categories
+abbrev pub HavePlaces : DataType → Data → Type 0
+HavePlaces type (kept.Enum codes) = AreCodes (categories_of type) codes
+HavePlaces type _ = Unit {0}
+
+-- the values are kept as their type asks, and are values of the type
+pub record FitsType (type : DataType) (values : Data) : Type 0 where
+  pub coded : is_coded type ≡ has_codes values
+  pub enumerated : is_enum type ≡ has_places values
+  pub places : HavePlaces type values
+  pub held : HoldsType type (cells type values)

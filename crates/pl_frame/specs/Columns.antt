@@ -1,13 +1,19 @@
 -- What a column holds, and when one can be made of given values (docs/types.md).
-use Rattle.std.specs.Prelude.{◌≡◌, ℕ, ◌-◌, ◌^◌, ℤ, pos, negsuc, int_le, Bool, true, false, not, ◌&&◌, List, Option, None, Some, map, position}
-use Rattle.std.specs.Option.{option_map}
+use Rattle.std.specs.Prelude.{◌≡◌, ℕ, ℤ, Bool, true, false, not, ◌&&◌, if◌then◌else◌, List, [], Option, None, Some, is_some, map, position}
+use Rattle.std.specs.List.{list_any}
+use Rattle.std.specs.Option.{option_map, option_map_or}
+use Rattle.std.specs.Str.{bytes_eq, is_utf8}
 use Rattle.pl_frame.specs.declared.column.ColumnFault.{ColumnFault}
 use Rattle.pl_frame.specs.declared.column.ColumnFault.TheVariants.{OutOfRange, OutOfMemory}
 use Rattle.pl_frame.specs.declared.column.Value.{Value}
 use Rattle.pl_frame.specs.declared.column.Value.TheVariants as value
 use Rattle.pl_frame.specs.declared.data_type.DataType.{DataType}
 use Rattle.pl_frame.specs.declared.data_type.DataType.TheVariants as dtype
-use Rattle.pl_frame.specs.Frame.{Scalar, Truth, Number, Letters}
+use Rattle.pl_frame.specs.Categories.{code_of, dictionary_of}
+use Rattle.pl_frame.specs.Frame.{Scalar, Truth, Number, Letters, ColumnValue, cell_at}
+use Rattle.pl_frame.specs.Types.{range_of, is_within}
+
+-- ---- values
 
 -- a value that was read from a cell
 abbrev pub scalar_of : Value → Option Scalar
@@ -16,37 +22,84 @@ scalar_of (value.Boolean b) = Some (Truth b)
 scalar_of (value.Whole n) = Some (Number n)
 scalar_of (value.Text text) = Some (Letters text.now)
 
--- the cells of a column of whole numbers, and of one of texts
+-- the cells of a column of truth values, of one of numbers, and of one of texts
+abbrev pub truth_cells : List (Option Bool) → List (Option Scalar)
+truth_cells truths = map (option_map Truth) truths
+
 abbrev pub number_cells : List (Option ℤ) → List (Option Scalar)
 number_cells numbers = map (option_map Number) numbers
 
 abbrev pub text_cells : List (Option (List ℕ)) → List (Option Scalar)
 text_cells texts = map (option_map Letters) texts
 
--- a type whose values are kept as numbers of 64 bits
-abbrev pub is_int64 : DataType → Bool
-is_int64 dtype.Int64 = true
-is_int64 _ = false
+-- ---- which values a type holds
 
--- a type whose values are kept as texts
-abbrev pub is_string : DataType → Bool
-is_string dtype.String = true
-is_string _ = false
+abbrev pub is_boolean : DataType → Bool
+is_boolean dtype.Boolean = true
+is_boolean _ = false
 
--- a number from -2 ^ 63 to 2 ^ 63 - 1
-abbrev pub in_64_bits : ℤ → Bool
-in_64_bits n = int_le (negsuc (2 ^ 63 - 1)) n && int_le n (pos (2 ^ 63 - 1))
+-- whole numbers, dates, times, datetimes and decimals
+abbrev pub is_number : DataType → Bool
+is_number type = is_some (range_of type)
 
--- a number outside the range of its type; a null is in every range
-abbrev pub is_outside : Option ℤ → Bool
-is_outside None = false
-is_outside (Some n) = not (in_64_bits n)
+-- an enum
+abbrev pub is_enum : DataType → Bool
+is_enum (dtype.Enum categories) = true
+is_enum _ = false
 
--- the first row whose number is outside the range
-abbrev pub first_outside : List (Option ℤ) → Option ℕ
-first_outside values = position is_outside values
+-- texts that are kept as codes
+abbrev pub is_coded : DataType → Bool
+is_coded dtype.Categorical = true
+is_coded (dtype.Enum categories) = true
+is_coded _ = false
 
--- a value that is out of range is at this row; want of memory may come at any time
+-- the categories of an enum
+abbrev pub categories_of : DataType → List (List ℕ)
+categories_of (dtype.Enum (Some categories)) = categories
+categories_of _ = []
+
+-- a text of the type: any of `String` and `Categorical`, and of an enum one of its categories
+abbrev pub is_text_of : DataType → List ℕ → Bool
+is_text_of dtype.String text = true
+is_text_of dtype.Categorical text = true
+is_text_of (dtype.Enum (Some categories)) text = list_any (bytes_eq text) categories
+is_text_of _ text = false
+
+-- a value of the type: a truth value, a number in its range, or a text of it, which is UTF-8
+abbrev pub is_value_of : DataType → Scalar → Bool
+is_value_of type (Truth b) = is_boolean type
+is_value_of type (Number n) = option_map_or (λ range. is_within range n) (range_of type) false
+is_value_of type (Letters text) = is_utf8 text && is_text_of type text
+
+-- a value that is none of the type; a null is of each type
+abbrev pub misfits : DataType → Option Scalar → Bool
+misfits type None = false
+misfits type (Some v) = not (is_value_of type v)
+
+-- the first row whose value is none of the type
+abbrev pub first_misfit : DataType → List (Option Scalar) → Option ℕ
+first_misfit type values = position (misfits type) values
+
+-- each value is one of the type, or a null
+abbrev pub HoldsType : DataType → List (Option Scalar) → Type 0
+HoldsType type values = first_misfit type values ≡ None
+
+-- a value that is none of the type is at this row; want of memory may come at any time
 abbrev pub IsFirstFault : Option ℕ → ColumnFault → Type 0
 IsFirstFault first (OutOfRange row) = first ≡ Some row
 IsFirstFault first OutOfMemory = Unit {0}
+
+-- ---- dictionaries
+
+-- the text of a cell
+abbrev pub text_in : Option Scalar → Option (List ℕ)
+text_in (Some (Letters text)) = Some text
+text_in _ = None
+
+-- the dictionary of a column: of an enum its categories, else its texts, each once, in order of first appearance
+abbrev pub dictionary : DataType → List (Option Scalar) → List (List ℕ)
+dictionary type values = if is_enum type then categories_of type else dictionary_of (map text_in values)
+
+-- the code of a row: the place of its text in the dictionary
+abbrev pub code_at : ColumnValue → ℕ → Option ℕ
+code_at column row = code_of (dictionary column.dtype column.values) (text_in (cell_at column row))

@@ -1,5 +1,6 @@
 -- Values with flags beside them, and texts in one buffer with their ends, seen as lists of optional values.
-use Rattle.std.specs.Prelude.{◌≡◌, ℕ, ◌-◌, ◌≤◌, Bool, if◌then◌else◌, List, [], ◌∷◌, length, take, drop, Option, None, Some, IsUtf8}
+use Rattle.std.specs.Prelude.{◌≡◌, ℕ, ◌-◌, ◌≤◌, Bool, if◌then◌else◌, List, [], ◌∷◌, length, take, drop, Option, None, Some, IfSome, IsUtf8}
+use Rattle.std.specs.List.{AllByRecursion}
 
 -- each value where its flag is set, and no value elsewhere
 abbrev pub flagged : {X : Type 0} → List X → List Bool → List (Option X)
@@ -27,3 +28,7 @@ pub record AreTexts (bytes ends : List ℕ) (flags : List Bool) : Type 0 where
   pub one_length : length ends ≡ length flags
   pub rising : RiseTo 0 ends (length bytes)
   pub utf8 : AllUtf8 (parts_between 0 ends bytes)
+
+-- every text among values of which some are missing is UTF-8
+abbrev pub AreAllUtf8 : List (Option (List ℕ)) → Type 0
+AreAllUtf8 values = AllByRecursion (λ value. IfSome value IsUtf8) values

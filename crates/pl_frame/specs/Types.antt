@@ -1,5 +1,5 @@
 -- The types of columns: which can be read, and which numbers they hold (docs/types.md, "Ranges").
-use Rattle.std.specs.Prelude.{ℕ, ◌+◌, ◌-◌, ◌*◌, ◌^◌, Bool, true, false, ◌&&◌, nat_le, ℤ, pos, neg_ℤ, int_le, List, Option, None, Some, is_none, unwrap_or}
+use Rattle.std.specs.Prelude.{ℕ, ◌-◌, ◌*◌, ◌^◌, ◌≤◌, Bool, true, false, not, ◌&&◌, nat_le, ℤ, pos, neg_ℤ, int_le, List, Option, None, Some, is_none, unwrap_or}
 use Rattle.pl_frame.specs.declared.data_type.DataType.{DataType}
 use Rattle.pl_frame.specs.declared.data_type.DataType.TheVariants as dtype
 use Rattle.pl_frame.specs.declared.data_type.TimeUnit.{TimeUnit}
@@ -111,3 +111,16 @@ range_of _ = None
 -- the number lies in the range
 abbrev pub is_within : Range → ℤ → Bool
 is_within range n = int_le range.low n && int_le n range.high
+
+-- there is a number, and it lies outside the range
+abbrev pub is_outside : Range → Option ℤ → Bool
+is_outside range None = false
+is_outside range (Some n) = not (is_within range n)
+
+-- each number of the range fits 64 bits with a sign
+abbrev pub is_narrow : Range → Bool
+is_narrow range = int_le (neg_ℤ (pos (2 ^ 63))) range.low && int_le range.high (pos (2 ^ 63 - 1))
+
+-- at most 38 digits, where they are set
+abbrev pub HasFewDigits : Option ℕ → Type 0
+HasFewDigits digits = unwrap_or digits 38 ≤ 38

@@ -1,13 +1,16 @@
 //! Columns: a name, a type and values of that type.
-ghost use Rattle.std.specs.Prelude.{◌≡◌, ◌<◌, [], ◌∷◌, ◌++◌, length, IfOk, OnOk, OnErr, IfErr, IfSome, IsOkUnless, count_by, is_none, is_some, not, true, if◌then◌else◌};
-ghost use Rattle.pl_frame.specs.Columns.{scalar_of, number_cells, text_cells, is_int64, is_string, in_64_bits, is_outside, first_outside, IsFirstFault};
-ghost use Rattle.pl_frame.specs.Frame.{cell_at};
+ghost use Rattle.std.specs.Prelude.{◌≡◌, ◌<◌, true, length, IfOk, IsOk, count_by, is_none, replicate, slice_get, slice_index_or, unwrap_or, [], None};
+ghost use Rattle.std.specs.Option.{option_map};
+ghost use Rattle.pl_frame.specs.Categories.{AreCodes, decoded};
+ghost use Rattle.pl_frame.specs.Columns.{scalar_of, truth_cells, number_cells, text_cells, is_number, is_coded, is_enum, categories_of, HoldsType, dictionary, code_at};
+ghost use Rattle.pl_frame.specs.Frame.{Truth, Number, Letters, cell_at};
 
+use crate::codes::Codes;
 use crate::data_type::DataType;
 use crate::name::PlSmallStr;
 use crate::numbers::Numbers;
 use crate::texts::Texts;
-use std::alloc::{AllocError, Global};
+use std::alloc::AllocError;
 use std::marker::Model;
 
 /// What a cell holds.
@@ -41,8 +44,14 @@ impl From<AllocError> for ColumnFault {
 // The kinds in which values are kept.
 #[derive(Debug, Drop)]
 enum Data {
-    Int64(Numbers<i64>),
+    Boolean(Numbers<bool>),
+    Narrow(Numbers<i64>),
+    Wide(Numbers<i128>),
     String(Texts),
+    Categories(Codes),
+    /// Places among the categories of the type.
+    Enum(Numbers<u64>),
+    Null(usize),
 }
 
 /// A name, a type and values of that type, some of which may be null.
@@ -63,75 +72,109 @@ impl Model for Column {
 
     ghost use Rattle.pl_frame.specs.ColumnData.{cells, FitsType};
 
-    ghost view = { λ c. record { name = c.name; dtype = c.dtype; values = cells c.kept } };
+    ghost view = { λ c. record { name = c.name; dtype = c.dtype; values = cells c.dtype c.kept } };
 
     ghost invariant = { λ c. FitsType c.dtype c.kept };
 }
 
 impl Column {
-    /// A column of whole numbers. Refuses a number outside the range of the type, with its row, and want of memory.
-    pub fn whole(
-        alloc: Global,
-        name: PlSmallStr,
-        dtype: DataType,
-        values: Vec<Option<i128>>,
-    ) -> Result<Column, ColumnFault>
-        requires { dtype ≡ DataType.Int64 }
-        ensures column { IfOk result (λ c. c ≡ record { name = name; dtype = dtype; values = number_cells values.items }) }
-        ensures in_range { OnOk result (first_outside values.items ≡ None) }
-        ensures refused { IfErr result (IsFirstFault (first_outside values.items)) }
+    /// A column of type `Boolean` that takes these values over, without taking memory.
+    pub fn from_booleans(name: PlSmallStr, truths: Numbers<bool>) -> Column
+        ensures { result ≡ record { name = name; dtype = DataType.Boolean; values = truth_cells truths } }
     {
-        let mut numbers = Numbers::new(alloc);
-        numbers.reserve(values.len())?;
-        fill_numbers(&mut numbers, &values)?;
-        Ok(Column {
+        Column {
             name,
-            dtype,
-            kept: Data::Int64(numbers),
-        })
+            dtype: DataType::Boolean,
+            kept: Data::Boolean(truths),
+        }
     }
 
-    /// A column of texts. Refuses only want of memory.
-    pub fn text(
-        alloc: Global,
-        name: PlSmallStr,
-        dtype: DataType,
-        values: Vec<Option<PlSmallStr>>,
-    ) -> Result<Column, ColumnFault>
-        requires { dtype ≡ DataType.String }
-        ensures column { IfOk result (λ c. c ≡ record { name = name; dtype = dtype; values = text_cells values.items }) }
-        ensures refused { IsOkUnless result ColumnFault.OutOfMemory }
+    /// A column of a type of numbers that takes these over, without taking memory. They are in the range of the type.
+    pub fn from_narrow(name: PlSmallStr, dtype: DataType, numbers: Numbers<i64>) -> Column
+        requires kind { is_number dtype ≡ true }
+        requires held { HoldsType dtype (number_cells numbers) }
+        ensures { result ≡ record { name = name; dtype = dtype; values = number_cells numbers } }
     {
-        let mut texts = Texts::new(alloc);
-        texts.reserve(values.len(), 0)?;
-        fill_texts(&mut texts, &values)?;
-        Ok(Column {
+        Column {
             name,
             dtype,
-            kept: Data::String(texts),
-        })
+            kept: Data::Narrow(numbers),
+        }
+    }
+
+    /// A column of a type of numbers that takes these over, without taking memory. They are in the range of the type.
+    pub fn from_wide(name: PlSmallStr, dtype: DataType, numbers: Numbers<i128>) -> Column
+        requires kind { is_number dtype ≡ true }
+        requires held { HoldsType dtype (number_cells numbers) }
+        ensures { result ≡ record { name = name; dtype = dtype; values = number_cells numbers } }
+    {
+        Column {
+            name,
+            dtype,
+            kept: Data::Wide(numbers),
+        }
     }
 
     /// A column of type `Int64` that takes these numbers over, without taking memory.
     pub fn from_int64(name: PlSmallStr, numbers: Numbers<i64>) -> Column
         ensures { result ≡ record { name = name; dtype = DataType.Int64; values = number_cells numbers } }
     {
-        Column {
-            name,
-            dtype: DataType::Int64,
-            kept: Data::Int64(numbers),
-        }
+        read_all(&numbers);
+        Column::from_narrow(name, DataType::Int64, numbers)
     }
 
     /// A column of type `String` that takes these texts over, without taking memory.
     pub fn from_string(name: PlSmallStr, texts: Texts) -> Column
-        ensures { result ≡ record { name = name; dtype = DataType.String; values = text_cells texts } }
+        ensures column { result ≡ record { name = name; dtype = DataType.String; values = text_cells texts } }
+        ensures held { HoldsType DataType.String (text_cells texts) }
     {
+        // `len` is called for its clause that the texts are UTF-8.
+        let _len = texts.len();
         Column {
             name,
             dtype: DataType::String,
             kept: Data::String(texts),
         }
+    }
+
+    /// A column of type `Categorical` that takes these texts over, without taking memory.
+    pub fn from_categories(name: PlSmallStr, texts: Codes) -> Column
+        ensures column { result ≡ record { name = name; dtype = DataType.Categorical; values = text_cells texts } }
+        ensures held { HoldsType DataType.Categorical (text_cells texts) }
+    {
+        // `len` is called for its clause that the texts are UTF-8.
+        let _len = texts.len();
+        Column {
+            name,
+            dtype: DataType::Categorical,
+            kept: Data::Categories(texts),
+        }
+    }
+
+    /// A column of an enum that takes over the places of the texts among its categories, without taking memory. Each is
+    /// the first place of its text.
+    pub fn from_enum(name: PlSmallStr, dtype: DataType, places: Numbers<u64>) -> Column
+        requires kind { is_enum dtype ≡ true }
+        requires places { AreCodes (categories_of dtype) places }
+        requires held { HoldsType dtype (text_cells (decoded (categories_of dtype) places)) }
+        ensures { result ≡ record { name = name; dtype = dtype; values = text_cells (decoded (categories_of dtype) places) } }
+    {
+        Column {
+            name,
+            dtype,
+            kept: Data::Enum(places),
+        }
+    }
+
+    /// A column of type `Null` with so many rows, without taking memory.
+    pub fn nulls(name: PlSmallStr, len: usize) -> Result<Column, ColumnFault>
+        ensures { IfOk result (λ c. c ≡ record { name = name; dtype = DataType.Null; values = replicate len None }) × IsOk result }
+    {
+        Ok(Column {
+            name,
+            dtype: DataType::Null,
+            kept: Data::Null(len),
+        })
     }
 
     /// The name, without taking memory.
@@ -141,9 +184,10 @@ impl Column {
         self.name.as_str()
     }
 
-    /// The type, without taking memory.
+    /// The type, without taking memory. Each value is one of it, or a null.
     pub fn dtype(&self) -> &DataType
-        ensures { result.now ≡ self.now.dtype }
+        ensures dtype { result.now ≡ self.now.dtype }
+        ensures held { HoldsType self.now.dtype self.now.values }
     {
         &self.dtype
     }
@@ -153,8 +197,13 @@ impl Column {
         ensures { result ≡ length self.now.values }
     {
         match &self.kept {
-            Data::Int64(numbers) => numbers.len(),
+            Data::Boolean(truths) => truths.len(),
+            Data::Narrow(numbers) => numbers.len(),
+            Data::Wide(numbers) => numbers.len(),
             Data::String(texts) => texts.len(),
+            Data::Categories(texts) => texts.len(),
+            Data::Enum(places) => places.len(),
+            Data::Null(len) => *len,
         }
     }
 
@@ -163,158 +212,141 @@ impl Column {
         ensures { result ≡ count_by is_none self.now.values }
     {
         match &self.kept {
-            Data::Int64(numbers) => numbers.null_count(),
+            Data::Boolean(truths) => truths.null_count(),
+            Data::Narrow(numbers) => numbers.null_count(),
+            Data::Wide(numbers) => numbers.null_count(),
             Data::String(texts) => texts.null_count(),
+            Data::Categories(texts) => texts.null_count(),
+            Data::Enum(places) => places.null_count(),
+            Data::Null(len) => *len,
         }
     }
 
     /// What a row holds, without taking memory.
+    #[inline]
     pub fn get(&self, row: usize) -> Value<'_>
         requires { row < length self.now.values }
         ensures { scalar_of result ≡ cell_at self.now row }
     {
         match &self.kept {
-            Data::Int64(numbers) => match numbers.get(row) {
-                Some(number) => Value::Whole(i128::from(number)),
-                None => Value::Null,
-            },
-            Data::String(texts) => match texts.get(row) {
-                Some(text) => Value::Text(text),
-                None => Value::Null,
-            },
+            Data::Boolean(truths) => truth_value(truths, row),
+            Data::Narrow(numbers) => narrow_value(numbers, row),
+            Data::Wide(numbers) => wide_value(numbers, row),
+            Data::String(texts) => text_value(texts.get(row)),
+            Data::Categories(texts) => text_value(texts.get(row)),
+            Data::Enum(places) => text_value(category_at(&self.dtype, places, row)),
+            Data::Null(_) => Value::Null,
         }
     }
 
-    /// The numbers of a column that keeps numbers of 64 bits, without taking memory.
-    pub fn int64(&self) -> Option<&Numbers<i64>>
-        ensures kind { is_some result ≡ is_int64 self.now.dtype }
-        ensures numbers { IfSome result (λ numbers. self.now.values ≡ number_cells numbers.now) }
+    /// The dictionary, without taking memory: of an enum its categories, and of a `Categorical` column its texts, each
+    /// once, in order of first appearance.
+    pub fn categories(&self) -> &[PlSmallStr]
+        requires { is_coded self.now.dtype ≡ true }
+        ensures { result.now ≡ dictionary self.now.dtype self.now.values }
     {
         match &self.kept {
-            Data::Int64(numbers) => Some(numbers),
-            Data::String(_) => None,
+            Data::Categories(texts) => texts.dictionary(),
+            _ => enum_texts(&self.dtype),
         }
     }
 
-    /// The texts of a column that keeps texts, without taking memory.
-    pub fn string(&self) -> Option<&Texts>
-        ensures kind { is_some result ≡ is_string self.now.dtype }
-        ensures texts { IfSome result (λ texts. self.now.values ≡ text_cells texts.now) }
+    /// The place of a row's text in the dictionary, and none exactly at a null. Takes no memory.
+    #[inline]
+    pub fn code(&self, row: usize) -> Option<u64>
+        requires kind { is_coded self.now.dtype ≡ true }
+        requires row { row < length self.now.values }
+        ensures code { result ≡ code_at self.now row }
+        ensures null { is_none result ≡ is_none (cell_at self.now row) }
     {
         match &self.kept {
-            Data::Int64(_) => None,
-            Data::String(texts) => Some(texts),
+            Data::Categories(texts) => texts.code(row),
+            Data::Enum(places) => places.get(row),
+            _ => None,
         }
     }
 }
 
-// Puts numbers behind none, up to the first that is outside the range.
-fn fill_numbers(numbers: &mut Numbers<i64>, values: &[Option<i128>]) -> Result<(), ColumnFault>
-    requires { numbers.old ≡ [] }
-    ensures numbers { OnOk result (numbers.new ≡ values.now) }
-    ensures in_range { OnOk result (first_outside values.now ≡ None) }
-    ensures refused { IfErr result (IsFirstFault (first_outside values.now)) }
-{
-    for (row, value) in values.iter().enumerate() {
-        if !push_number(numbers, *value)? {
-            return Err(ColumnFault::OutOfRange { row });
-        }
-    }
-    Ok(())
-}
-
-// Puts a number at the end, and says whether it is in range.
 #[inline]
-fn push_number(numbers: &mut Numbers<i64>, value: Option<i128>) -> Result<bool, AllocError>
-    ensures tested { IfOk result (λ fits. fits ≡ not (is_outside value)) }
-    ensures pushed { IfOk result (λ fits. fits ≡ true → numbers.new ≡ numbers.old ++ value ∷ []) }
+fn truth_value(truths: &Numbers<bool>, row: usize) -> Value<'_>
+    requires { row < length truths.now }
+    ensures { scalar_of result ≡ option_map Truth (unwrap_or (slice_get truths.now row) None) }
 {
-    match value {
-        None => numbers.push_null()?,
-        Some(number) => match narrow(number) {
-            Some(number) => numbers.push(number)?,
-            None => return Ok(false),
-        },
+    match truths.get(row) {
+        Some(truth) => Value::Boolean(truth),
+        None => Value::Null,
     }
-    Ok(true)
 }
 
-// The number in 64 bits, if it is in their range.
 #[inline]
-fn narrow(number: i128) -> Option<i64>
-    ensures { result ≡ (if in_64_bits number then Some number else None) }
+fn narrow_value(numbers: &Numbers<i64>, row: usize) -> Value<'_>
+    requires { row < length numbers.now }
+    ensures { scalar_of result ≡ option_map Number (unwrap_or (slice_get numbers.now row) None) }
 {
-    if i128::from(i64::MIN) <= number && number <= i128::from(i64::MAX) {
-        Some(number as i64)
-    } else {
-        None
+    match numbers.get(row) {
+        Some(number) => Value::Whole(i128::from(number)),
+        None => Value::Null,
     }
 }
 
-// Puts texts behind none.
-fn fill_texts(texts: &mut Texts, values: &[Option<PlSmallStr>]) -> Result<(), AllocError>
-    requires { texts.old ≡ [] }
-    ensures { OnOk result (texts.new ≡ values.now) }
+#[inline]
+fn wide_value(numbers: &Numbers<i128>, row: usize) -> Value<'_>
+    requires { row < length numbers.now }
+    ensures { scalar_of result ≡ option_map Number (unwrap_or (slice_get numbers.now row) None) }
 {
-    for value in values {
-        match value {
-            None => texts.push_null()?,
-            Some(text) => texts.push(text.as_str())?,
-        }
+    match numbers.get(row) {
+        Some(number) => Value::Whole(number),
+        None => Value::Null,
     }
-    Ok(())
 }
 
-#[cfg(test)]
-mod tests {
-    use super::*;
-    use std::test::Fail;
-
-    #[test]
-    fn keeps_whole_numbers(rt: HostRuntime) -> Result<(), Fail> {
-        let name = PlSmallStr::from_str(rt.alloc(), "n")?;
-        let given = vec![in rt.alloc(); Some(-7), None]?;
-        let column = Column::whole(rt.alloc(), name, DataType::Int64, given)?;
-        assert_eq!(rt; column.name(), "n");
-        assert_eq!(rt; (column.len(), column.null_count()), (2, 1));
-        assert!(rt; matches!(column.get(0), Value::Whole(-7)));
-        assert!(rt; column.int64().is_some());
-        Ok(())
+#[inline]
+fn text_value(text: Option<&str>) -> Value<'_>
+    ensures { scalar_of result ≡ option_map (λ t. Letters t.now) text.entry }
+{
+    match text {
+        Some(text) => Value::Text(text),
+        None => Value::Null,
     }
+}
 
-    #[test]
-    fn names_the_first_row_out_of_range(rt: HostRuntime) -> Result<(), Fail> {
-        let name = PlSmallStr::from_str(rt.alloc(), "n")?;
-        let past = i128::from(i64::MAX) + 1;
-        let given = vec![in rt.alloc(); None, Some(past - 1), Some(past), Some(past)]?;
-        let refused = Column::whole(rt.alloc(), name, DataType::Int64, given).err();
-        assert_eq!(rt; refused, Some(ColumnFault::OutOfRange { row: 2 }));
-        Ok(())
+// The text of a row of an enum.
+#[inline]
+fn category_at<'a>(dtype: &'a DataType, places: &Numbers<u64>, row: usize) -> Option<&'a str>
+    requires row { row < length places.now }
+    requires places { AreCodes (categories_of dtype.now) places.now }
+    ensures { option_map (λ text. text.now) result ≡ unwrap_or (slice_get (decoded (categories_of dtype.now) places.now) row) None }
+{
+    match places.get(row) {
+        Some(place) => Some(text_at(enum_texts(dtype), place)),
+        None => None,
     }
+}
 
-    #[test]
-    fn keeps_texts(rt: HostRuntime) -> Result<(), Fail> {
-        let name = PlSmallStr::from_str(rt.alloc(), "t")?;
-        let given = vec![in rt.alloc(); Some(PlSmallStr::from_str(rt.alloc(), "é")?)]?;
-        let column = Column::text(rt.alloc(), name, DataType::String, given)?;
-        assert!(rt; matches!(column.dtype(), DataType::String));
-        assert_eq!(rt; column.len(), 1);
-        assert!(rt; matches!(column.get(0), Value::Text("é")));
-        assert!(rt; column.string().is_some());
-        Ok(())
+#[inline]
+fn text_at(texts: &[PlSmallStr], place: u64) -> &str
+    requires { place < length texts.now }
+    ensures { result.now ≡ slice_index_or texts.now place [] }
+{
+    texts[place as usize].as_str()
+}
+
+// The categories of an enum, and none of any other type.
+#[inline]
+fn enum_texts(dtype: &DataType) -> &[PlSmallStr]
+    ensures { result.now ≡ categories_of dtype.now }
+{
+    match dtype {
+        DataType::Enum(Some(categories)) => categories.texts(),
+        _ => &[],
     }
+}
 
-    #[test]
-    fn takes_kept_values_over(rt: HostRuntime) -> Result<(), Fail> {
-        let numbers = Column::from_int64(
-            PlSmallStr::from_str(rt.alloc(), "n")?,
-            Numbers::new(rt.alloc()),
-        );
-        let texts = Column::from_string(
-            PlSmallStr::from_str(rt.alloc(), "t")?,
-            Texts::new(rt.alloc()),
-        );
-        assert_eq!(rt; (numbers.len(), texts.len()), (0, 0));
-        Ok(())
+// Reads each number, from which the proof learns that it is one of 64 bits. The compiled loop is empty.
+fn read_all(numbers: &Numbers<i64>)
+    ensures { HoldsType DataType.Int64 (number_cells numbers.now) }
+{
+    for row in 0..numbers.len() {
+        let _number = numbers.get(row);
     }
 }

@@ -1,13 +1,11 @@
 //! Frames: columns of one height with distinct names.
 ghost use Rattle.std.specs.Prelude.{◌≡◌, ◌<◌, length, IfSome, IfOk, OnOk, IfErr, None, Some, slice_index_or, []};
-ghost use Rattle.std.specs.List.{list_any};
-ghost use Rattle.std.specs.Str.{bytes_eq};
 ghost use Rattle.pl_frame.specs.Frame.{HaveHeight, IsFrame, height_of, names_of};
 ghost use Rattle.pl_frame.specs.Names.{IsRepeatFault, first_repeat, repeated_name};
 
 use crate::column::Column;
 use crate::error::{NamePlace, PolarsError, PolarsResult};
-use crate::name::PlSmallStr;
+use crate::name::{Named, PlSmallStr, find_repeat};
 use std::alloc::Global;
 use std::marker::Model;
 
@@ -26,6 +24,15 @@ impl Model for DataFrame {
     ghost view = { λ frame. frame.columns.items };
 
     ghost invariant = { λ frame. IsFrame frame.columns.items };
+}
+
+impl Named for Column {
+    ghost name = { λ column. column.name };
+
+    #[inline]
+    fn name_text(&self) -> &str {
+        self.name()
+    }
 }
 
 impl DataFrame {
@@ -75,26 +82,6 @@ impl DataFrame {
     {
         &self.columns
     }
-}
-
-// The first column whose name an earlier one has.
-fn find_repeat(columns: &[Column]) -> Option<usize>
-    ensures first { result ≡ first_repeat (names_of columns.now) }
-    ensures within { IfSome result (λ place. place < length columns.now) }
-{
-    for (place, column) in columns.iter().enumerate() {
-        if has_name(&columns[..place], column.name()) {
-            return Some(place);
-        }
-    }
-    None
-}
-
-// Whether a column has this name.
-fn has_name(columns: &[Column], name: &str) -> bool
-    ensures { result ≡ list_any (λ column. bytes_eq column.name name.now) columns.now }
-{
-    columns.iter().any(|column| column.name() == name)
 }
 
 // The refusal of a name that stands twice.

@@ -2,13 +2,16 @@
 //! sources and sinks of bytes.
 #![tactic(auto)]
 
+pub mod codes;
 pub mod column;
 pub mod data_type;
 pub mod error;
 pub mod frame;
+pub mod made;
 pub mod name;
 pub mod numbers;
 pub mod opener;
+pub mod range;
 pub mod schema;
 pub mod sink;
 pub mod source;

@@ -1,5 +1,8 @@
 //! Names of columns.
-ghost use Rattle.std.specs.Prelude.{◌≡◌, IfOk, IsOkUnless};
+ghost use Rattle.std.specs.Prelude.{◌≡◌, ◌<◌, ℕ, List, length, map, IfOk, IfSome, IsOkUnless};
+ghost use Rattle.std.specs.List.{list_any};
+ghost use Rattle.std.specs.Str.{bytes_eq};
+ghost use Rattle.pl_frame.specs.Names.{first_repeat};
 ghost use Rattle.pl_frame.specs.declared.error.PolarsError.TheVariants as error;
 
 use crate::error::{PolarsError, PolarsResult};
@@ -39,6 +42,45 @@ impl PlSmallStr {
     {
         self.text.as_str()
     }
+}
+
+/// What has a name.
+pub trait Named {
+    /// The bytes of the name.
+    ghost name: { Self → List ℕ };
+
+    /// The name, without taking memory.
+    fn name_text(&self) -> &str
+        ensures { result.now ≡ name self.now };
+}
+
+impl Named for PlSmallStr {
+    ghost name = { λ text. text };
+
+    #[inline]
+    fn name_text(&self) -> &str {
+        self.as_str()
+    }
+}
+
+/// The first place whose name an earlier one has, without taking memory.
+pub fn find_repeat<T: Named>(items: &[T]) -> Option<usize>
+    ensures first { result ≡ first_repeat (map T.name items.now) }
+    ensures within { IfSome result (λ place. place < length items.now) }
+{
+    for (place, item) in items.iter().enumerate() {
+        if has_name(&items[..place], item.name_text()) {
+            return Some(place);
+        }
+    }
+    None
+}
+
+// Whether one of them has this name.
+fn has_name<T: Named>(items: &[T], name: &str) -> bool
+    ensures { result ≡ list_any (λ item. bytes_eq (T.name item) name.now) items.now }
+{
+    items.iter().any(|item| item.name_text() == name)
 }
 
 impl fmt::Display for PlSmallStr {

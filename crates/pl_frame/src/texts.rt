@@ -1,5 +1,6 @@
 //! Texts, some of which are missing.
 ghost use Rattle.std.specs.Prelude.{◌≡◌, ◌<◌, [], ◌∷◌, ◌++◌, length, ◌==◌, OnOk, OnErr, IfSome, IfNone, ◌≤◌, IsUtf8, slice_range, slice_index, slice_get, count_by, is_none};
+ghost use Rattle.pl_frame.specs.Optional.{AreAllUtf8};
 
 use std::alloc::{AllocError, Global};
 use std::marker::Model;
@@ -39,7 +40,8 @@ impl Texts {
     /// How many there are, nulls among them, without taking memory.
     #[inline]
     pub fn len(&self) -> usize
-        ensures { result ≡ length self.now }
+        ensures len { result ≡ length self.now }
+        ensures utf8 { AreAllUtf8 self.now }
     {
         self.present.len()
     }

@@ -8,5 +8,6 @@ pub mod items;
 pub mod laws;
 pub mod line_ends;
 pub mod lines;
+pub mod row_counter;
 pub mod rows;
 pub mod start;

@@ -1,5 +1,5 @@
 //! How many rows a text has.
-ghost use Rattle.std.specs.Prelude.{◌≡◌, ◌↔◌, ℕ, Ok, Err, count_by};
+ghost use Rattle.std.specs.Prelude.{◌≡◌, ◌↔◌, ℕ, None, Ok, Err, count_by};
 ghost use Rattle.pl_frame.specs.Dialect.{marks, IsDialect};
 ghost use Rattle.pl_frame.specs.declared.error.PolarsError.TheVariants as error;
 ghost use Rattle.pl_frame.specs.declared.error.OpFault.TheVariants as op_fault;
@@ -10,6 +10,7 @@ ghost use Rattle.pl_scan.specs.RowCount.{cut_line_ends, is_row, row_count};
 use crate::comment::CommentPrefix;
 use crate::dialect::dialect_ok;
 use crate::items::{Item, Items};
+use crate::row_counter::RowCounter;
 use pl_frame::error::{OpFault, PolarsError, PolarsResult};
 
 // What stands behind the line ends at the front.
@@ -55,6 +56,67 @@ fn count_rows_of(
     number
 }
 
+// The number of rows under a dialect without comments.
+fn count_plain_rows(
+    bytes: &[u8],
+    separator: u8,
+    quote_char: Option<u8>,
+    eol_char: u8,
+    has_header: bool,
+) -> usize
+    requires { IsDialect (marks separator quote_char eol_char) None }
+    ensures { result ≡ row_count has_header (marks separator quote_char eol_char) None bytes.now }
+{
+    let mut counter = RowCounter::new(separator, quote_char, eol_char);
+    counter.add(bytes);
+    counter.rows(has_header)
+}
+
+// The number of rows, item by item.
+fn count_rows_by_items(
+    bytes: &[u8],
+    separator: u8,
+    quote_char: Option<u8>,
+    comment_prefix: Option<&CommentPrefix>,
+    eol_char: u8,
+    has_header: bool,
+) -> usize
+    ensures { result ≡ row_count has_header (marks separator quote_char eol_char) (prefix_of comment_prefix.entry) bytes.now }
+{
+    let rest = behind_line_ends(bytes, eol_char);
+    let rows = count_rows_of(rest, separator, quote_char, comment_prefix, eol_char);
+    if has_header {
+        rows.saturating_sub(1)
+    } else {
+        rows
+    }
+}
+
+// The number of rows under a dialect, less one for a header.
+fn count_rows_behind_header(
+    bytes: &[u8],
+    separator: u8,
+    quote_char: Option<u8>,
+    comment_prefix: Option<&CommentPrefix>,
+    eol_char: u8,
+    has_header: bool,
+) -> usize
+    requires { IsDialect (marks separator quote_char eol_char) (prefix_of comment_prefix) }
+    ensures { result ≡ row_count has_header (marks separator quote_char eol_char) (prefix_of comment_prefix.entry) bytes.now }
+{
+    match comment_prefix {
+        None => count_plain_rows(bytes, separator, quote_char, eol_char, has_header),
+        Some(_) => count_rows_by_items(
+            bytes,
+            separator,
+            quote_char,
+            comment_prefix,
+            eol_char,
+            has_header,
+        ),
+    }
+}
+
 /// The number of rows of a text: its records behind leading line ends, where there is a comment prefix only those that
 /// have bytes, less one for a header, never below zero. Refuses what is no dialect. Takes no memory.
 pub fn count_rows_from_slice(
@@ -74,13 +136,14 @@ pub fn count_rows_from_slice(
     if !dialect_ok(separator, quote_char, eol_char, comment_prefix) {
         return Err(PolarsError::InvalidOperation(OpFault::Dialect));
     }
-    let rest = behind_line_ends(bytes, eol_char);
-    let rows = count_rows_of(rest, separator, quote_char, comment_prefix, eol_char);
-    Ok(if has_header {
-        rows.saturating_sub(1)
-    } else {
-        rows
-    })
+    Ok(count_rows_behind_header(
+        bytes,
+        separator,
+        quote_char,
+        comment_prefix,
+        eol_char,
+        has_header,
+    ))
 }
 
 #[cfg(test)]
@@ -106,6 +169,33 @@ mod tests {
                 true,
             );
             assert_eq!(rt; commented.ok(), Some(with_prefix), "of {text:?}");
+        }
+    }
+
+    #[test]
+    fn counts_lines_and_what_quotes_join(rt: HostRuntime) {
+        let quote = Some(b'"');
+        for (text, quote_char, eol_char, rows) in [
+            (b"".as_slice(), quote, b'\n', 0),
+            (b"\n\n\n", None, b'\n', 0),
+            (b"\n\na\nb\n", None, b'\n', 2),
+            (b"a\n\n\nb\n", None, b'\n', 4),
+            (b"a\n\n\n", None, b'\n', 3),
+            (b"a\nb", None, b'\n', 2),
+            (b"a\nb,", quote, b'\n', 2),
+            (b"a\rb\n\r", quote, b'\r', 2),
+            (b"a\n\"1\n2\"\n3\n", None, b'\n', 4),
+            (b"a\n\"1\n2\"\n3\n", quote, b'\n', 3),
+            (b"a,\"\"\"\n\"\"\"\n,\n", quote, b'\n', 2),
+            (b"x\"y\nz\n", quote, b'\n', 2),
+            (b"\"a\"b\nc\n", quote, b'\n', 2),
+            (b"\n\"a\nb\n", quote, b'\n', 1),
+        ] {
+            let all = count_rows_from_slice(text, b',', quote_char, None, eol_char, false);
+            assert_eq!(rt; all.ok(), Some(rows), "of {text:?}");
+            let data = count_rows_from_slice(text, b',', quote_char, None, eol_char, true);
+            let below = if rows == 0 { 0 } else { rows - 1 };
+            assert_eq!(rt; data.ok(), Some(below), "behind the header of {text:?}");
         }
     }
 }

@@ -9,4 +9,4 @@ pub mod options;
 pub mod texts;
 pub mod times;
 mod values;
-mod writer;
+pub mod writer;

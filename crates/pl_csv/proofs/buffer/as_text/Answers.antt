@@ -1,5 +1,5 @@
 use Rattle.std.proofs.lemmas.Str.{is_utf8-from_IsUtf8}
-use Rattle.pl_csv.proofs.QuotingLaws.{is_utf8-not}
+use Rattle.pl_cells.proofs.QuotingLaws.{is_utf8-not}
 use Rattle.pl_csv.proofs.buffer.as_text.Goals as goal
 
 pub returns-in-Ok : goal.returns-in-Ok

@@ -1,4 +1,4 @@
-use Rattle.pl_csv.proofs.QuotingLaws.{undouble-none}
+use Rattle.pl_cells.proofs.QuotingLaws.{undouble-none}
 use Rattle.pl_csv.proofs.buffer.holds_no_quote.Goals as goal
 
 pub returns-in-None : goal.returns-in-None

@@ -1,5 +1,5 @@
 use Rattle.std.proofs.Common.{◌≡◌, length}
-use Rattle.pl_csv.specs.Integers.{without_blanks}
+use Rattle.pl_cells.specs.Integers.{without_blanks}
 use Rattle.pl_csv.proofs.buffer.skip_blanks.Given as goal
 
 abbrev pub invariant-loop-rest : goal.invariant-loop-rest

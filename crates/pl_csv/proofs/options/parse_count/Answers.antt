@@ -1,5 +1,5 @@
 use Rattle.std.proofs.Common.{◌^◌, ◌∙◌, ap, sym, arith}
-use Rattle.pl_csv.specs.Integers.{number_below}
+use Rattle.pl_cells.specs.Integers.{number_below}
 use Rattle.pl_csv.proofs.WordLaws.{count_of-is}
 use Rattle.pl_csv.proofs.options.parse_count.Goals as goal
 

@@ -2,7 +2,7 @@ use Rattle.std.proofs.Common.{refl, ap, subst, inr}
 use Rattle.std.specs.Prelude.{Err}
 use Rattle.std.specs.Io.KnownBytes.{Appends}
 use Rattle.pl_frame.specs.Text.{default_write_options, text_of_frame}
-use Rattle.pl_csv.specs.Writing.{AppendsPrefix}
+use Rattle.pl_write.specs.Writing.{AppendsPrefix}
 use Rattle.pl_csv.proofs.run.convert.Goals as goal
 
 pub returns-in-Ok-write_frame-clause-converted : goal.returns-in-Ok-write_frame-clause-converted

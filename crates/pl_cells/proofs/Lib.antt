@@ -1,0 +1,6 @@
+pub mod DateLaws
+pub mod DecimalLaws
+pub mod IntegerLaws
+pub mod QuotingLaws
+mod Rows
+pub mod TimeLaws

@@ -1,0 +1,10 @@
+use Rattle.std.proofs.Common.{sym}
+use Rattle.std.proofs.lemmas.Str.{is_utf8-from_IsUtf8}
+use Rattle.pl_cells.proofs.QuotingLaws.{is_utf8-not}
+use Rattle.pl_cells.proofs.utf8.validate_utf8.Goals as goal
+
+pub returns-in-Ok : goal.returns-in-Ok
+returns-in-Ok c = sym (is_utf8-from_IsUtf8 c.args.bytes.now c.in-Ok.ensures.1)
+
+pub returns-in-Err : goal.returns-in-Err
+returns-in-Err c = sym (is_utf8-not c.args.bytes.now c.in-Err.ensures)

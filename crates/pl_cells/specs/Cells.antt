@@ -1,0 +1,111 @@
+-- The cell of a field, for each type: a value, a null or a fault (docs/types.md, "Cells").
+use Rattle.std.specs.Prelude.{ℕ, Bool, true, if◌then◌else◌, List, [], ◌∷◌, Option, None, Some, Result, Ok, Err}
+use Rattle.std.specs.Str.{is_utf8}
+use Rattle.std.specs.Str.Lossy.{utf8_lossy}
+use Rattle.pl_frame.specs.declared.data_type.DataType.{DataType}
+use Rattle.pl_frame.specs.declared.data_type.DataType.TheVariants as dtype
+use Rattle.pl_frame.specs.declared.error.FaultKind.{FaultKind}
+use Rattle.pl_frame.specs.declared.error.FaultKind.TheVariants as fault
+use Rattle.pl_frame.specs.Frame.{Scalar, Letters}
+use Rattle.pl_frame.specs.Types.{is_text, is_whole_number}
+use Rattle.pl_scan.specs.Fields.{begins_quoted}
+use Rattle.pl_cells.specs.declared.utf8.CsvEncoding.{CsvEncoding}
+use Rattle.pl_cells.specs.declared.utf8.CsvEncoding.TheVariants as encoding
+use Rattle.pl_cells.specs.Integers.{without_blanks}
+use Rattle.pl_cells.specs.Quoting.{strip, is_well_quoted, inside, undouble}
+use Rattle.pl_cells.specs.Values.{is_among, value_of_text}
+
+-- a value or a null, or what is wrong
+abbrev pub Cell : Type 0
+Cell = Result (Option Scalar) FaultKind
+
+-- how cells are read: what is done with bytes that are not UTF-8, whether a missing text is null, and whether a cell without a value is
+pub record Reading : Type 0 where
+  pub encoding : CsvEncoding
+  pub missing_is_null : Bool
+  pub ignore_errors : Bool
+
+-- ---- the cell of a text
+
+-- a text is UTF-8, or is read as UTF-8
+abbrev pub string_cell : CsvEncoding → List ℕ → Cell
+string_cell encoding.Utf8 text = if is_utf8 text then Ok (Some (Letters text)) else Err fault.Utf8
+string_cell encoding.LossyUtf8 text = Ok (Some (Letters (utf8_lossy text)))
+
+-- a category is UTF-8
+abbrev pub category_cell : List ℕ → Cell
+category_cell text = if is_utf8 text then Ok (Some (Letters text)) else Err fault.Utf8
+
+-- and in an enum it is one of those that are given
+abbrev pub enum_cell : List (List ℕ) → List ℕ → Cell
+enum_cell categories text =
+    if is_utf8 text then (if is_among categories text then Ok (Some (Letters text)) else Err fault.Value) else Err fault.Utf8
+
+-- a text that has a value
+abbrev pub value_cell : DataType → List ℕ → Cell
+value_cell type text = elim (value_of_text type text) [ None ↦ Err fault.Value | Some value ↦ Ok (Some value) ]
+
+-- no text is null
+abbrev pub value_or_null : DataType → List ℕ → Cell
+value_or_null type [] = Ok None
+value_or_null type (x ∷ xs) = value_cell type (x ∷ xs)
+
+-- blanks in front of a whole number don't count
+abbrev pub counted_text : DataType → List ℕ → List ℕ
+counted_text type text = if is_whole_number type then without_blanks text else text
+
+-- the cell of a text, by its type
+abbrev pub text_cell : Reading → DataType → List ℕ → Cell
+text_cell reading dtype.String text = string_cell reading.encoding text
+text_cell reading dtype.Categorical text = category_cell text
+text_cell reading (dtype.Enum (Some categories)) text = enum_cell categories text
+text_cell reading type text = value_or_null type (counted_text type text)
+
+-- ---- the cell of a field
+
+-- a missing text is null, or the empty text where the column holds strings and missing ones are not null
+abbrev pub missing_cell : Reading → DataType → Cell
+missing_cell reading dtype.String = if reading.missing_is_null then Ok None else Ok (Some (Letters []))
+missing_cell reading type = Ok None
+
+-- a plain field
+abbrev pub plain_cell : Reading → DataType → List ℕ → Cell
+plain_cell reading type [] = missing_cell reading type
+plain_cell reading type (x ∷ xs) = text_cell reading type (x ∷ xs)
+
+-- what stands between quotes: texts have their doubled quotes undoubled, and the empty one is not missing
+abbrev pub quoted_cell : Reading → ℕ → DataType → List ℕ → Cell
+quoted_cell reading q type text = if is_text type then text_cell reading type (undouble q text) else text_cell reading type text
+
+-- where errors are ignored, a text without a value is null
+abbrev pub softened : Bool → Cell → Cell
+softened true (Err fault.Utf8) = Ok None
+softened true (Err fault.Value) = Ok None
+softened _ c = c
+
+-- a quoted field must end with another quote, whatever is ignored. A test for null texts would stand between the two cases
+abbrev pub quoted_field_cell : Reading → ℕ → DataType → List ℕ → Cell
+quoted_field_cell reading q type field =
+    if is_well_quoted q field then softened reading.ignore_errors (quoted_cell reading q type (inside field)) else Err fault.Escape
+
+-- and before this one
+abbrev pub plain_field_cell : Reading → DataType → List ℕ → Cell
+plain_field_cell reading type field = softened reading.ignore_errors (plain_cell reading type field)
+
+-- the cell of a field without its carriage return, given whether it begins with the quote
+abbrev pub field_cell : Reading → ℕ → DataType → Bool → List ℕ → Cell
+field_cell reading q type is_quoted field = if is_quoted then quoted_field_cell reading q type field else plain_field_cell reading type field
+
+-- the cell of a field, of which one carriage return at the end does not count
+abbrev pub cell : Reading → Option ℕ → DataType → List ℕ → Cell
+cell reading None type field = plain_field_cell reading type (strip field)
+cell reading (Some q) type field = field_cell reading q type (begins_quoted (Some q) field) (strip field)
+
+-- the value of a cell without a fault
+abbrev pub value_of : Cell → Option Scalar
+value_of (Ok value) = value
+value_of (Err kind) = None
+
+abbrev pub fault_of : Cell → Option FaultKind
+fault_of (Ok value) = None
+fault_of (Err kind) = Some kind

@@ -1,0 +1,285 @@
+//! Times of the day, and dates with times, from text. No call takes memory.
+ghost use Rattle.std.specs.Prelude.{◌≡◌, ◌+◌, ◌*◌, ◌≤◌, ◌<◌, ◌^◌, length, pos, IfSome, Some, take, drop, ◌∷◌, true};
+ghost use Rattle.std.specs.Option.{option_map};
+ghost use Rattle.pl_frame.specs.Types.{datetime_range, units_in_second, is_within, day_range, time_range, signed_range};
+ghost use Rattle.pl_cells.specs.Integers.{number_of, digits_value, number_below, only_within};
+ghost use Rattle.pl_cells.specs.Dates.{date_value};
+ghost use Rattle.pl_cells.specs.Times.{clock_value, second_of_day, filled, fraction_value, time_value, count_of_units, datetime_of, datetime_value};
+
+use crate::dates::{parse_date, two_digits};
+use crate::integers;
+use pl_frame::data_type::TimeUnit;
+
+const NANOSECONDS: u64 = 1_000_000_000;
+
+// The second of the day, where there is one.
+#[inline]
+fn second_of(hour: u8, minute: u8, second: u8) -> Option<u64>
+    ensures value { result ≡ second_of_day (Some hour) (Some minute) (Some second) }
+    ensures small { IfSome result (λ n. n < 86400) }
+{
+    if hour < 24 && minute < 60 && second < 60 {
+        Some(u64::from(hour) * 3600 + u64::from(minute) * 60 + u64::from(second))
+    } else {
+        None
+    }
+}
+
+// The second of the day that a text writes as `HH:MM:SS`.
+#[inline]
+fn parse_clock(text: &[u8]) -> Option<u64>
+    ensures value { result ≡ clock_value text.now }
+    ensures small { IfSome result (λ n. n < 86400) }
+{
+    if text.len() != 8 || text[2] != b':' || text[5] != b':' {
+        return None;
+    }
+    let hour = two_digits(text, 0)?;
+    let minute = two_digits(text, 3)?;
+    let second = two_digits(text, 6)?;
+    second_of(hour, minute, second)
+}
+
+// Ten to a power of at most 9.
+#[inline]
+fn power_of_ten(exponent: usize) -> u64
+    requires { exponent ≤ 9 }
+    ensures { result ≡ 10 ^ exponent }
+{
+    const POWERS: [u64; 10] = [
+        1,
+        10,
+        100,
+        1_000,
+        10_000,
+        100_000,
+        1_000_000,
+        10_000_000,
+        100_000_000,
+        1_000_000_000,
+    ];
+    POWERS[exponent]
+}
+
+// The nanoseconds of one to nine digits behind the point.
+#[inline]
+fn nanoseconds_of(digits: &[u8]) -> Option<u64>
+    requires { length digits.now ≤ 9 }
+    ensures value { result ≡ fraction_value (46 ∷ digits.now) }
+    ensures small { IfSome result (λ n. n < 10 ^ 9) }
+{
+    let number = integers::number_of(digits)?;
+    Some(number * power_of_ten(9 - digits.len()))
+}
+
+// The nanoseconds of a second: of no text, or of a point and one to nine digits.
+#[inline]
+fn parse_fraction(text: &[u8]) -> Option<u64>
+    ensures value { result ≡ fraction_value text.now }
+    ensures small { IfSome result (λ n. n < 10 ^ 9) }
+{
+    match text {
+        [] => Some(0),
+        [b'.', digits @ ..] if digits.len() <= 9 => nanoseconds_of(digits),
+        _ => None,
+    }
+}
+
+// The nanoseconds of the day.
+#[inline]
+fn nanosecond_of_day(text: &[u8]) -> Option<u64>
+    ensures value { result ≡ time_value text.now }
+    ensures small { IfSome result (λ n. n < 86400 * 10 ^ 9) }
+{
+    if text.len() < 8 {
+        return None;
+    }
+    let (clock, fraction) = text.split_at(8);
+    let seconds = parse_clock(clock)?;
+    let nanoseconds = parse_fraction(fraction)?;
+    Some(seconds * NANOSECONDS + nanoseconds)
+}
+
+/// The nanoseconds of the day that a text writes as `HH:MM:SS`, and behind that nothing or a point and one to nine
+/// digits.
+#[inline]
+pub fn parse_time(text: &[u8]) -> Option<i64>
+    ensures value { result ≡ option_map pos (time_value text.now) }
+    ensures within { IfSome result (λ n. is_within time_range n ≡ true) }
+{
+    match nanosecond_of_day(text) {
+        Some(nanoseconds) => Some(nanoseconds as i64),
+        None => None,
+    }
+}
+
+// How many units make a second.
+#[inline]
+fn units_in(unit: TimeUnit) -> u64
+    ensures value { result ≡ units_in_second unit }
+    ensures some { 0 < result }
+    ensures bound { result ≤ 10 ^ 9 }
+{
+    match unit {
+        TimeUnit::Milliseconds => 1_000,
+        TimeUnit::Microseconds => 1_000_000,
+        TimeUnit::Nanoseconds => NANOSECONDS,
+    }
+}
+
+// The number, where it fits 64 bits.
+#[inline]
+fn in_64_bits(number: i128) -> Option<i64>
+    ensures { result ≡ only_within (signed_range 64) number }
+{
+    if number < i128::from(i64::MIN) || number > i128::from(i64::MAX) {
+        None
+    } else {
+        Some(number as i64)
+    }
+}
+
+// The count of units, of which so many make a second, of a day and of the nanoseconds of that day.
+#[inline]
+fn count_of(units: u64, day: i64, nanoseconds: u64) -> i128
+    requires units_in { units ≤ 10 ^ 9 }
+    requires some { 0 < units }
+    requires day_in { is_within day_range day ≡ true }
+    requires time_in { nanoseconds < 86400 * 10 ^ 9 }
+    ensures { result ≡ count_of_units units day nanoseconds }
+{
+    let whole = i128::from(day) * i128::from(86_400 * units);
+    whole + i128::from(nanoseconds / (NANOSECONDS / units))
+}
+
+// The same for a unit.
+#[inline]
+fn units_of(unit: TimeUnit, day: i64, nanoseconds: u64) -> i128
+    requires day_in { is_within day_range day ≡ true }
+    requires time_in { nanoseconds < 86400 * 10 ^ 9 }
+    ensures value { result ≡ count_of_units (units_in_second unit) day nanoseconds }
+    ensures within { is_within (datetime_range (units_in_second unit)) result ≡ true }
+{
+    count_of(units_in(unit), day, nanoseconds)
+}
+
+// The count of units of a date and a time of day.
+#[inline]
+fn datetime_of_parts(date: &[u8], time: &[u8], unit: TimeUnit) -> Option<i64>
+    ensures value { result ≡ datetime_of (units_in_second unit) (date_value date.now) (time_value time.now) }
+    ensures within { IfSome result (λ n. is_within (datetime_range (units_in_second unit)) n ≡ true) }
+{
+    let day = parse_date(date)?;
+    let nanoseconds = nanosecond_of_day(time)?;
+    in_64_bits(units_of(unit, day, nanoseconds))
+}
+
+/// The count of units from 1970-01-01T00:00:00 that a text writes as a date, `T` or one space, and a time, where it fits
+/// 64 bits. Digits past the unit are cut.
+#[inline]
+pub fn parse_datetime(text: &[u8], unit: TimeUnit) -> Option<i64>
+    ensures value { result ≡ datetime_value unit text.now }
+    ensures within { IfSome result (λ n. is_within (datetime_range (units_in_second unit)) n ≡ true) }
+{
+    if text.len() < 11 {
+        return None;
+    }
+    match text[10] {
+        b'T' | b' ' => datetime_of_parts(&text[..10], &text[11..], unit),
+        _ => None,
+    }
+}
+
+#[cfg(test)]
+mod tests {
+    use super::*;
+
+    #[test]
+    fn reads_times_of_the_day(rt: HostRuntime) {
+        for (text, want) in [
+            (b"00:00:00".as_slice(), Some(0)),
+            (b"23:59:59", Some(86399000000000)),
+            (b"23:59:59.999999999", Some(86399999999999)),
+            (b"23:59:59.5", Some(86399500000000)),
+            (b"12:34:56.000000001", Some(45296000000001)),
+            (b"12:34:56.78", Some(45296780000000)),
+            (b"24:00:00", None),
+            (b"00:60:00", None),
+            (b"00:00:60", None),
+            (b"00:00:00.", None),
+            (b"00:00:00.0000000000", None),
+            (b"00:00:00.1x", None),
+            (b"0:00:00", None),
+            (b"00-00-00", None),
+            (b"00:00", None),
+            (b"", None),
+        ] {
+            assert_eq!(rt; parse_time(text), want, "of {text:?}");
+        }
+    }
+
+    #[test]
+    fn reads_dates_with_times(rt: HostRuntime) {
+        for (text, unit, want) in [
+            (
+                b"1970-01-01T00:00:00".as_slice(),
+                TimeUnit::Nanoseconds,
+                Some(0),
+            ),
+            (b"1970-01-01 00:00:01.5", TimeUnit::Milliseconds, Some(1500)),
+            (b"1969-12-31T23:59:59.999", TimeUnit::Milliseconds, Some(-1)),
+            (
+                b"1969-12-31T23:59:59.9999",
+                TimeUnit::Milliseconds,
+                Some(-1),
+            ),
+            (
+                b"1970-01-01T00:00:00.000999",
+                TimeUnit::Milliseconds,
+                Some(0),
+            ),
+            (
+                b"1970-01-01T00:00:00.0000019",
+                TimeUnit::Microseconds,
+                Some(1),
+            ),
+            (
+                b"9999-12-31T23:59:59.999",
+                TimeUnit::Milliseconds,
+                Some(253402300799999),
+            ),
+            (
+                b"0000-01-01T00:00:00",
+                TimeUnit::Microseconds,
+                Some(-62167219200000000),
+            ),
+            (
+                b"2262-04-11T23:47:16.854775807",
+                TimeUnit::Nanoseconds,
+                Some(i64::MAX),
+            ),
+            (
+                b"2262-04-11T23:47:16.854775808",
+                TimeUnit::Nanoseconds,
+                None,
+            ),
+            (
+                b"1677-09-21T00:12:43.145224192",
+                TimeUnit::Nanoseconds,
+                Some(i64::MIN),
+            ),
+            (
+                b"1677-09-21T00:12:43.145224191",
+                TimeUnit::Nanoseconds,
+                None,
+            ),
+            (b"1970-01-01t00:00:00", TimeUnit::Nanoseconds, None),
+            (b"1970-01-01  00:00:00", TimeUnit::Nanoseconds, None),
+            (b"1970-01-01", TimeUnit::Nanoseconds, None),
+            (b"1970-01-01T", TimeUnit::Nanoseconds, None),
+            (b"2023-02-29T00:00:00", TimeUnit::Nanoseconds, None),
+        ] {
+            assert_eq!(rt; parse_datetime(text, unit), want, "of {text:?}");
+        }
+    }
+}

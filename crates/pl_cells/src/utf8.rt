@@ -1,0 +1,38 @@
+//! Whether bytes are UTF-8, and what a reader does where they are not.
+ghost use Rattle.std.specs.Prelude.{◌≡◌};
+ghost use Rattle.std.specs.Str.{is_utf8};
+
+/// What is done with bytes that are not UTF-8.
+#[derive(Clone, Copy, Debug, Default, PartialEq, Eq)]
+pub enum CsvEncoding {
+    /// They are a fault.
+    #[default]
+    Utf8,
+    /// They are replaced, as std's lossy reading does.
+    LossyUtf8,
+}
+
+/// Whether bytes are UTF-8. Takes no memory.
+#[inline]
+pub fn validate_utf8(bytes: &[u8]) -> bool
+    ensures { result ≡ is_utf8 bytes.now }
+{
+    match simdutf8::basic::from_utf8(bytes) {
+        Ok(_) => true,
+        Err(_) => false,
+    }
+}
+
+#[cfg(test)]
+mod tests {
+    use super::*;
+
+    #[test]
+    fn tells_utf8(rt: HostRuntime) {
+        assert!(rt; validate_utf8("é€😀".as_bytes()));
+        assert!(rt; validate_utf8(b""));
+        assert!(rt; !validate_utf8(b"a\xFF"));
+        assert!(rt; !validate_utf8(b"\xED\xA0\x80"));
+        assert_eq!(rt; CsvEncoding::default(), CsvEncoding::Utf8);
+    }
+}

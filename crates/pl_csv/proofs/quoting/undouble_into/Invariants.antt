@@ -1,9 +1,0 @@
-use Rattle.std.proofs.Common.{◌≡◌, ◌++◌, length}
-use Rattle.pl_csv.specs.Quoting.{undouble}
-use Rattle.pl_csv.proofs.quoting.undouble_into.Given as goal
-
-abbrev pub invariant-loop-at : goal.invariant-loop-at
-invariant-loop-at l = l.to.items ++ undouble l.quote l.rest ≡ undouble l.quote l.text
-
-abbrev pub decreases-loop-at : goal.decreases-loop-at
-decreases-loop-at l = length l.rest

@@ -1,0 +1,305 @@
+//! A count of the rows of a text that comes block by block.
+ghost use Rattle.std.specs.Prelude.{◌≡◌, ◌≢◌, ℕ, ◌+◌, ◌-◌, ◌^◌, ◌<◌, ◌≤◌, ◌==◌, true, false, if◌then◌else◌, List, [], ◌++◌, length, slice_index, take, Option, None, count_by};
+ghost use Rattle.pl_frame.specs.Dialect.{marks, IsDialect};
+ghost use Rattle.pl_scan.specs.Fields.{is_quote};
+ghost use Rattle.pl_scan.specs.Items.{items};
+ghost use Rattle.pl_scan.specs.RowCount.{cut_line_ends, is_row};
+ghost use Rattle.pl_scan.specs.RowPlaces.{next_place, is_unquoted, is_run_place, place_of, rows_behind, Count, rows_with};
+
+use crate::fields::is_the_quote;
+use memchr::memchr;
+use std::marker::Model;
+
+// How many bytes are searched for a quote before they are counted.
+const PIECE_SIZE: usize = 16384;
+
+// How many bytes are counted in one byte.
+const LANE_SIZE: usize = 192;
+
+// Where a count stands in a text.
+#[derive(Clone, Copy, Debug, PartialEq, Eq)]
+enum Place {
+    // Behind line ends at the front of the text, or before all.
+    Front,
+    // Behind a line end.
+    Start,
+    // Behind a separator.
+    Field,
+    // In a field that is not quoted.
+    Plain,
+    // In a quoted field, behind an even number of quotes.
+    Even,
+    // In a quoted field, behind an odd number of quotes.
+    Odd,
+}
+
+// The place behind one more byte, and how many rows end at it.
+#[inline]
+fn step(
+    place: Place,
+    byte: u8,
+    separator: u8,
+    quote_char: Option<u8>,
+    eol_char: u8,
+) -> (Place, usize)
+    ensures value { result ≡ next_place (marks separator quote_char eol_char) place byte }
+    ensures few { result.1 ≤ 1 }
+{
+    match place {
+        Place::Odd if is_the_quote(quote_char, byte) => (Place::Even, 0),
+        Place::Odd => (Place::Odd, 0),
+        Place::Front if byte == eol_char => (Place::Front, 0),
+        _ if byte == separator => (Place::Field, 0),
+        _ if byte == eol_char => (Place::Start, 1),
+        Place::Plain => (Place::Plain, 0),
+        _ if is_the_quote(quote_char, byte) => (Place::Odd, 0),
+        Place::Even => (Place::Even, 0),
+        _ => (Place::Plain, 0),
+    }
+}
+
+// How often a byte stands in a few bytes.
+#[inline]
+fn count_in_lane(lane: &[u8], byte: u8) -> u8
+    requires { length lane.now < 256 }
+    ensures { result ≡ count_by (λ x. x == byte) lane.now }
+{
+    let mut number = 0;
+    for &x in lane {
+        if x == byte {
+            number += 1;
+        }
+    }
+    number
+}
+
+// How often a byte stands in a slice.
+fn count_byte(bytes: &[u8], byte: u8) -> usize
+    ensures { result ≡ count_by (λ x. x == byte) bytes.now }
+{
+    let mut number = 0;
+    let mut rest = bytes;
+    while !rest.is_empty() {
+        let (lane, others) = rest.split_at(rest.len().min(LANE_SIZE));
+        number += count_in_lane(lane, byte) as usize;
+        rest = others;
+    }
+    number
+}
+
+// How many bytes come before the first quote, if there is one.
+#[inline]
+fn len_before_quote(bytes: &[u8], quote_char: Option<u8>) -> usize
+    ensures fits { result ≤ length bytes.now }
+    ensures none { (k : ℕ) → k < result → is_quote quote_char (slice_index bytes.now k) ≡ false }
+{
+    match quote_char {
+        Some(quote) => match memchr(quote, bytes) {
+            Some(at) => at,
+            None => bytes.len(),
+        },
+        None => bytes.len(),
+    }
+}
+
+// Whether no quoted field is open at a place, and a row may end there.
+#[inline]
+fn is_unquoted(place: Place) -> bool
+    ensures { result ≡ is_unquoted place }
+{
+    matches!(place, Place::Start | Place::Field | Place::Plain)
+}
+
+// The place behind a byte that is no quote, where no quoted field is open.
+#[inline]
+fn place_of(byte: u8, separator: u8, eol_char: u8) -> Place
+    ensures { result ≡ place_of separator eol_char byte }
+{
+    if byte == separator {
+        Place::Field
+    } else if byte == eol_char {
+        Place::Start
+    } else {
+        Place::Plain
+    }
+}
+
+// Whether bytes without quotes can be counted at once from a place on.
+#[inline]
+fn is_run_place(place: Place) -> bool
+    ensures { result ≡ is_run_place place }
+{
+    !matches!(place, Place::Front | Place::Even)
+}
+
+// How many bytes can be counted at once.
+#[inline]
+fn run_len(left: &[u8], place: Place, quote_char: Option<u8>) -> usize
+    ensures fits { result ≤ length left.now }
+    ensures none { (k : ℕ) → k < result → is_quote quote_char (slice_index left.now k) ≡ false }
+    ensures place { 0 < result → is_run_place place ≡ true }
+{
+    if is_run_place(place) {
+        len_before_quote(&left[..left.len().min(PIECE_SIZE)], quote_char)
+    } else {
+        0
+    }
+}
+
+// The place behind bytes without quotes, and how many rows end in them.
+#[inline]
+fn count_run(run: &[u8], place: Place, separator: u8, eol_char: u8) -> (Place, usize)
+    requires { (is_run_place place ≡ true) × (separator ≢ eol_char) × (0 < length run.now) }
+    ensures rows { (quote : Option ℕ) → ((k : ℕ) → k < length run.now → is_quote quote (slice_index run.now k) ≡ false)
+        → (rest : List ℕ) → result.1 + rows_behind (marks separator quote eol_char) result.0 rest
+        ≡ rows_behind (marks separator quote eol_char) place (run.now ++ rest) }
+    ensures few { result.1 ≤ length run.now }
+{
+    if is_unquoted(place) {
+        let behind = place_of(run[run.len() - 1], separator, eol_char);
+        (behind, count_byte(run, eol_char))
+    } else {
+        (place, 0)
+    }
+}
+
+// Some bytes at the front: the place behind them, how many rows end in them, and how many bytes they are.
+#[inline]
+fn count_front(
+    left: &[u8],
+    place: Place,
+    separator: u8,
+    quote_char: Option<u8>,
+    eol_char: u8,
+) -> (Place, usize, usize)
+    requires { (separator ≢ eol_char) × (0 < length left.now) }
+    ensures some { 0 < result.2 }
+    ensures fits { result.2 ≤ length left.now }
+    ensures rows { (rest : List ℕ) → result.1 + rows_behind (marks separator quote_char eol_char) result.0 rest
+        ≡ rows_behind (marks separator quote_char eol_char) place (take result.2 left.now ++ rest) }
+    ensures few { result.1 ≤ result.2 }
+{
+    let len = run_len(left, place, quote_char);
+    if len > 0 {
+        let (behind, rows) = count_run(&left[..len], place, separator, eol_char);
+        (behind, rows, len)
+    } else {
+        let (behind, rows) = step(place, left[0], separator, quote_char, eol_char);
+        (behind, rows, 1)
+    }
+}
+
+// The place behind a block, and how many rows end in it.
+fn count_block(
+    block: &[u8],
+    place: Place,
+    separator: u8,
+    quote_char: Option<u8>,
+    eol_char: u8,
+) -> (Place, usize)
+    requires { separator ≢ eol_char }
+    ensures rows { (rest : List ℕ) → result.1 + rows_behind (marks separator quote_char eol_char) result.0 rest
+        ≡ rows_behind (marks separator quote_char eol_char) place (block.now ++ rest) }
+    ensures few { result.1 ≤ length block.now }
+{
+    let mut behind = place;
+    let mut rows = 0;
+    let mut left = block;
+    while !left.is_empty() {
+        let (next, number, len) = count_front(left, behind, separator, quote_char, eol_char);
+        behind = next;
+        rows += number;
+        let (_, others) = left.split_at(len);
+        left = others;
+    }
+    (behind, rows)
+}
+
+/// A count of the rows of a text that comes block by block, under a dialect without comments. It takes no memory.
+///
+/// Contracts see by `rows_with` how many rows what came has together with what follows, whatever that is.
+#[derive(Drop)]
+pub struct RowCounter {
+    separator: u8,
+    quote_char: Option<u8>,
+    eol_char: u8,
+    rows: usize,
+    place: Place,
+}
+
+impl Model for RowCounter {
+    ghost Value = { Count };
+
+    ghost view = { λ it. record { marks = marks it.separator it.quote_char it.eol_char; rows = it.rows; place = it.place } };
+
+    ghost invariant = { λ it. it.separator ≢ it.eol_char };
+}
+
+impl RowCounter {
+    /// Before all bytes.
+    pub fn new(separator: u8, quote_char: Option<u8>, eol_char: u8) -> Self
+        requires { IsDialect (marks separator quote_char eol_char) None }
+        ensures rows { (text : List ℕ) → rows_with result text
+            ≡ count_by (is_row None) (items (marks separator quote_char eol_char) None (cut_line_ends eol_char text)) }
+        ensures none { rows_with result [] ≡ 0 }
+    {
+        RowCounter {
+            separator,
+            quote_char,
+            eol_char,
+            rows: 0,
+            place: Place::Front,
+        }
+    }
+
+    /// Adds the bytes that come next.
+    pub fn add(&mut self, block: &[u8])
+        requires { rows_with self.old [] + length block.now < 2 ^ 64 }
+        ensures rows { (rest : List ℕ) → rows_with self.new rest ≡ rows_with self.old (block.now ++ rest) }
+        ensures few { rows_with self.new [] ≤ rows_with self.old [] + length block.now }
+    {
+        let (place, number) = count_block(
+            block,
+            self.place,
+            self.separator,
+            self.quote_char,
+            self.eol_char,
+        );
+        self.place = place;
+        self.rows += number;
+    }
+
+    /// The number of rows of what came, less one for a header, never below zero.
+    pub fn rows(&self, has_header: bool) -> usize
+        requires { rows_with self.now [] < 2 ^ 64 }
+        ensures { result ≡ rows_with self.now [] - (if has_header then 1 else 0) }
+    {
+        let last = match self.place {
+            Place::Front | Place::Start => 0,
+            Place::Field | Place::Plain | Place::Even | Place::Odd => 1,
+        };
+        let rows = self.rows + last;
+        if has_header {
+            rows.saturating_sub(1)
+        } else {
+            rows
+        }
+    }
+}
+
+#[cfg(test)]
+mod tests {
+    use super::*;
+
+    #[test]
+    fn goes_on_in_a_quoted_field(rt: HostRuntime) {
+        let mut counter = RowCounter::new(b',', Some(b'"'), b'\n');
+        assert_eq!(rt; counter.rows(true), 0);
+        counter.add(b"\na,b\n1,\"x");
+        assert_eq!(rt; counter.rows(false), 2);
+        counter.add(b"\ny\"");
+        assert_eq!(rt; counter.rows(false), 2);
+        counter.add(b"\"\n\"\n\n");
+        assert_eq!(rt; counter.rows(true), 2);
+    }
+}

@@ -1,10 +1,7 @@
 pub mod CountingLaws
 pub mod FaultLaws
 pub mod FrameLaws
-pub mod LineLaws
 pub mod ReadLaws
 pub mod RowLaws
 pub mod RunLaws
 pub mod WordLaws
-pub mod WriteLaws
-pub mod WrittenLaws

@@ -6,6 +6,5 @@ pub mod Rows
 pub mod Settings
 pub mod Frames
 pub mod Words
-pub mod Writing
 pub mod Run
 pub mod Counting

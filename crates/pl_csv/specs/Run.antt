@@ -13,7 +13,7 @@ use Rattle.pl_csv.specs.declared.reading.ReadFault.TheVariants as read_fault
 use Rattle.pl_csv.specs.declared.settings.Settings.{Settings}
 use Rattle.pl_csv.specs.Reading.{IsRead, IsReadFault}
 use Rattle.pl_csv.specs.Words.{settings_of_words}
-use Rattle.pl_csv.specs.Writing.{AppendsPrefix}
+use Rattle.pl_write.specs.Writing.{AppendsPrefix}
 
 -- the words mean settings, and the source gave this input of at most 2 ^ 36 bytes and was read to its end
 pub record HasRead (words : List (List ℕ)) (before now : Option (List ℕ)) : Type 0 where

@@ -11,7 +11,5 @@ pub mod read_all;
 mod reading;
 mod rows;
 pub mod run;
-mod serializer;
 mod settings;
 mod words;
-mod writer;

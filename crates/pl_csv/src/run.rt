@@ -8,10 +8,11 @@ ghost use Rattle.pl_csv.specs.Run.{status_of, fault_line, is_status, IsTold, IsD
 use crate::read_all::{LIMIT, ReadAllFault, read_all};
 use crate::reading::{ReadFault, read_frame};
 use crate::words::{WordsFault, parse_words};
-use crate::writer::write_frame;
 use pl_frame::frame::DataFrame;
 use pl_frame::sink::{Sink, SinkFault, write_all};
 use pl_frame::source::Source;
+use pl_write::options::CsvWriterOptions;
+use pl_write::writer::write_frame;
 use std::alloc::Global;
 
 /// Why a run ends with a status other than 0.
@@ -137,7 +138,11 @@ fn convert<So: Source, Si: Sink>(
         Ok(frame) => frame,
         Err(refusal) => return Err(refusal),
     };
-    match write_frame(alloc, frame.columns(), out) {
+    let options = match CsvWriterOptions::new(alloc) {
+        Ok(options) => options,
+        Err(_) => return Err(Refusal::OutOfMemory),
+    };
+    match write_frame(alloc, frame.columns(), &options, out) {
         Ok(()) => Ok(()),
         Err(SinkFault::Device) => Err(Refusal::Sink),
         Err(SinkFault::OutOfMemory) => Err(Refusal::OutOfMemory),

@@ -1,10 +1,10 @@
 -- The text of a frame: the byte order mark if asked, the header if asked, and then each row (docs/quoting.md).
-use Rattle.std.specs.Prelude.{ℕ, Bool, true, false, ◌||◌, ◌==◌, if◌then◌else◌, List, [], length, ◌∷◌, ◌++◌, Option, None, Some, map, codes}
-use Rattle.std.specs.Fmt.{signed_decimal}
+use Rattle.std.specs.Prelude.{ℕ, Bool, true, false, ◌||◌, ◌==◌, if◌then◌else◌, List, [], length, ◌∷◌, ◌++◌, Option, None, Some, map}
 use Rattle.std.specs.List.{list_any, join_with_byte, flat_map, range_with_len}
 use Rattle.pl_frame.specs.declared.data_type.DataType.{DataType}
 use Rattle.pl_frame.specs.declared.data_type.DataType.TheVariants as dtype
 use Rattle.pl_frame.specs.Frame.{Scalar, Truth, Number, Letters, ColumnValue, cell_at, height_of, names_of}
+use Rattle.pl_frame.specs.Printed.{printed}
 
 -- When a cell is quoted. As a number: 0 Necessary, 1 Always, 2 NonNumeric, 3 Never.
 abbrev pub Style : Type 0
@@ -49,13 +49,6 @@ kind_of (dtype.Datetime unit) = OtherKind
 kind_of dtype.Null = OtherKind
 kind_of _ = NumberKind
 
--- the printed text of a truth value, a whole number or a text
-abbrev pub plain : Scalar → List ℕ
-plain (Truth true) = codes "true"
-plain (Truth false) = codes "false"
-plain (Number n) = signed_decimal n
-plain (Letters text) = text
-
 -- each quote twice
 abbrev pub doubled : ℕ → List ℕ → List ℕ
 doubled q text = flat_map (λ x. if x == q then q ∷ q ∷ [] else x ∷ []) text
@@ -85,11 +78,15 @@ written_value o kind text =
     else if o.style == 2 then (elim kind [ TextKind ↦ quoted o.quote text | NumberKind ↦ text | OtherKind ↦ quoted o.quote text ])
     else text
 
+-- what stands for a null, by style
+abbrev pub written_null : WriteOptions → List ℕ
+written_null o = if o.style == 1 then quoted_null o.quote o.null else o.null
+
 -- the written cell
 abbrev pub written_cell : WriteOptions → DataType → Option Scalar → List ℕ
-written_cell o type None = if o.style == 1 then quoted_null o.quote o.null else o.null
+written_cell o type None = written_null o
 written_cell o type (Some (Letters text)) = written_text o text
-written_cell o type (Some value) = written_value o (kind_of type) (plain value)
+written_cell o type (Some value) = written_value o (kind_of type) (printed type value)
 
 -- a line: texts joined by the separator, and the terminator
 abbrev pub line : WriteOptions → List (List ℕ) → List ℕ

@@ -1,0 +1,12 @@
+use Rattle.std.proofs.Common.{sym, ◌∙◌, arith, refl, ◌/◌, ◌%◌}
+use Rattle.pl_write.proofs.PaddedLaws.{padded-three, padded-nine}
+use Rattle.pl_write.proofs.digits.nine_digits.Goals as goal
+
+pub returns : goal.returns
+returns c =
+    let n = c.args.n in
+    let small = c.requires in
+    let front = padded-three (n / 1000000) (omega (arith, small)) in
+    let middle = padded-three (n / 1000 % 1000) (omega (arith)) in
+    let back = padded-three (n % 1000) (omega (arith)) in
+    rw (c.three_digits.ensures ∙ front, c.three_digits-2.ensures ∙ middle, c.three_digits-3.ensures ∙ back) (sym (padded-nine n small ∙ rw (front, middle, back) refl))

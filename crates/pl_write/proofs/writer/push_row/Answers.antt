@@ -1,0 +1,16 @@
+use Rattle.std.proofs.Common.{◌++◌, ◌∙◌, ap}
+use Rattle.pl_frame.specs.Frame.{ColumnValue, cell_at}
+use Rattle.pl_frame.specs.Text.{written_cell}
+use Rattle.pl_write.specs.Options.{cell_options}
+use Rattle.pl_write.specs.Writing.{separator_before}
+use Rattle.pl_write.proofs.LineLaws.{joined_more}
+use Rattle.pl_write.proofs.writer.push_row.Goals as goal
+
+pub loop-place-preserved : goal.loop-place-preserved
+loop-place-preserved c =
+    let f = λ (column : ColumnValue). written_cell (cell_options c.args.options.now) column.dtype (cell_at column c.args.row) in
+    let i = c.loop-place.place in
+    let d = c.index-columns-place.result in
+    let now = c.loop-place.block.items in
+    let next = c.in_ok-push_cell.ensures ∙ ap (λ l. l ++ f d) c.in_ok-push_separator.ensures ∙ ap (λ column. (now ++ separator_before c.args.options.now.separator i) ++ f column) c.index-columns-place.is in
+    joined_more c.args.options.now.separator f c.args.columns.now i d c.args.block.now.items now c.push_cell.new.block.items c.loop-place-test.true c.loop-place.invariant next

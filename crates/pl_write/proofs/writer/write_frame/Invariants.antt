@@ -1,0 +1,13 @@
+use Rattle.std.proofs.Common.{◌≤◌, ◌-◌}
+use Rattle.pl_frame.specs.Frame.{height_of}
+use Rattle.pl_frame.specs.Text.{row_lines, text_of_frame}
+use Rattle.pl_write.specs.Options.{frame_options}
+use Rattle.pl_write.proofs.WriteLaws.{IsWriting}
+use Rattle.pl_write.proofs.writer.write_frame.Given as goal
+
+abbrev pub invariant-loop-row : goal.invariant-loop-row
+invariant-loop-row g l = record {
+  writing : IsWriting (g.Si.Sink.received l.fn.sink) (g.Si.Sink.received l.sink) l.block.items
+      (row_lines (frame_options l.options) l.columns l.row (height_of l.columns - l.row)) (text_of_frame (frame_options l.options) l.columns);
+  later : g.Si.Sink.faults l.fn.sink ≤ g.Si.Sink.faults l.sink;
+}

@@ -1,0 +1,90 @@
+-- How a frame is written (docs/quoting.md).
+use Rattle.std.specs.Prelude.{ℕ, ℤ, Bool, true, false, if◌then◌else◌, ◌==◌, List, [], ◌∷◌}
+use Rattle.std.specs.Option.{option_map_or}
+use Rattle.pl_frame.specs.declared.data_type.DataType.{DataType}
+use Rattle.pl_frame.specs.Types.{range_of, is_within}
+use Rattle.pl_frame.specs.Text.{WriteOptions, TypeKind, TextKind, NumberKind, OtherKind}
+use Rattle.pl_write.specs.declared.options.CsvWriterOptions.{CsvWriterOptions}
+use Rattle.pl_write.specs.declared.options.QuoteStyle.{QuoteStyle}
+use Rattle.pl_write.specs.declared.options.QuoteStyle.TheVariants as style
+use Rattle.pl_write.specs.declared.options.SerializeOptions.{SerializeOptions}
+
+-- the number of a style
+abbrev pub style_number : QuoteStyle → ℕ
+style_number style.Necessary = 0
+style_number style.Always = 1
+style_number style.NonNumeric = 2
+style_number style.Never = 3
+
+-- how cells are written, with byte order mark and header or without
+abbrev pub with_head : SerializeOptions → Bool → Bool → WriteOptions
+with_head o include_bom include_header = record {
+  separator = o.separator;
+  quote = o.quote_char;
+  null = o.null;
+  terminator = o.line_terminator;
+  style = style_number o.quote_style;
+  include_bom = include_bom;
+  include_header = include_header;
+}
+
+-- how one cell is written
+abbrev pub cell_options : SerializeOptions → WriteOptions
+cell_options o = with_head o false false
+
+-- how a frame is written
+abbrev pub frame_options : CsvWriterOptions → WriteOptions
+frame_options o = with_head o.serialize_options o.include_bom o.include_header
+
+-- the type holds numbers, and this one is in its range
+abbrev pub in_range : DataType → ℤ → Bool
+in_range type n = option_map_or (λ range. is_within range n) (range_of type) false
+
+-- whole numbers and decimals
+abbrev pub is_number_kind : TypeKind → Bool
+is_number_kind TextKind = false
+is_number_kind NumberKind = true
+is_number_kind OtherKind = false
+
+-- a value that is no text stands without quotes
+abbrev pub is_bare : ℕ → TypeKind → Bool
+is_bare style kind = if style == 1 then false else (if style == 2 then is_number_kind kind else true)
+
+-- ---- the defaults
+
+-- comma, double quote, empty null text, line feed, quoted where necessary
+abbrev pub default_cells : SerializeOptions
+default_cells = record { separator = 44; quote_char = 34; null = []; line_terminator = 10 ∷ []; quote_style = style.Necessary }
+
+-- no byte order mark, a header, 1024 rows at a time
+abbrev pub default_options : CsvWriterOptions
+default_options = record { include_bom = false; include_header = true; batch_size = 1024; maintain_order = false; serialize_options = default_cells }
+
+-- ---- one setting set, and all others kept
+
+abbrev pub with_separator : ℕ → SerializeOptions → SerializeOptions
+with_separator separator o = record { separator = separator; quote_char = o.quote_char; null = o.null; line_terminator = o.line_terminator; quote_style = o.quote_style }
+
+abbrev pub with_quote_char : ℕ → SerializeOptions → SerializeOptions
+with_quote_char quote_char o = record { separator = o.separator; quote_char = quote_char; null = o.null; line_terminator = o.line_terminator; quote_style = o.quote_style }
+
+abbrev pub with_null : List ℕ → SerializeOptions → SerializeOptions
+with_null null o = record { separator = o.separator; quote_char = o.quote_char; null = null; line_terminator = o.line_terminator; quote_style = o.quote_style }
+
+abbrev pub with_line_terminator : List ℕ → SerializeOptions → SerializeOptions
+with_line_terminator line_terminator o = record { separator = o.separator; quote_char = o.quote_char; null = o.null; line_terminator = line_terminator; quote_style = o.quote_style }
+
+abbrev pub with_quote_style : QuoteStyle → SerializeOptions → SerializeOptions
+with_quote_style quote_style o = record { separator = o.separator; quote_char = o.quote_char; null = o.null; line_terminator = o.line_terminator; quote_style = quote_style }
+
+abbrev pub with_include_bom : Bool → CsvWriterOptions → CsvWriterOptions
+with_include_bom include_bom o = record { include_bom = include_bom; include_header = o.include_header; batch_size = o.batch_size; maintain_order = o.maintain_order; serialize_options = o.serialize_options }
+
+abbrev pub with_include_header : Bool → CsvWriterOptions → CsvWriterOptions
+with_include_header include_header o = record { include_bom = o.include_bom; include_header = include_header; batch_size = o.batch_size; maintain_order = o.maintain_order; serialize_options = o.serialize_options }
+
+abbrev pub with_batch_size : ℕ → CsvWriterOptions → CsvWriterOptions
+with_batch_size batch_size o = record { include_bom = o.include_bom; include_header = o.include_header; batch_size = batch_size; maintain_order = o.maintain_order; serialize_options = o.serialize_options }
+
+abbrev pub with_cells : (SerializeOptions → SerializeOptions) → CsvWriterOptions → CsvWriterOptions
+with_cells change o = record { include_bom = o.include_bom; include_header = o.include_header; batch_size = o.batch_size; maintain_order = o.maintain_order; serialize_options = change o.serialize_options }

@@ -1,0 +1,59 @@
+-- What a row and a line are made of.
+use Rattle.std.specs.Prelude.{◌≡◌, ℕ, ◌<◌, ◌≤◌, zero, suc, List, [], ◌∷◌, length, take, Option}
+use Rattle.std.specs.Io.KnownBytes.{Appends, Keeps}
+use Rattle.std.specs.List.{AllByRecursion}
+use Rattle.pl_frame.specs.Causes.{Rose}
+use Rattle.pl_frame.specs.Frame.{ColumnValue}
+use Rattle.pl_frame.specs.declared.error.ComputeFault.{ComputeFault}
+use Rattle.pl_frame.specs.declared.error.ComputeFault.TheVariants as compute_fault
+use Rattle.pl_frame.specs.declared.error.OpFault.{OpFault}
+use Rattle.pl_frame.specs.declared.error.OpFault.TheVariants as op_fault
+use Rattle.pl_frame.specs.declared.error.PolarsError.{PolarsError}
+use Rattle.pl_frame.specs.declared.error.PolarsError.TheVariants as error
+use Rattle.pl_write.specs.declared.options.CsvWriterOptions.{CsvWriterOptions}
+
+-- a separator, but before the first text of a line
+abbrev pub separator_before : ℕ → ℕ → List ℕ
+separator_before separator zero = []
+separator_before separator (suc place) = separator ∷ []
+
+-- every column has the row
+abbrev pub HasRow : ℕ → List ColumnValue → Type 0
+HasRow row columns = AllByRecursion (λ column. row < length column.values) columns
+
+-- known bytes grow by a prefix of a text
+abbrev pub AppendsPrefix : Option (List ℕ) → Option (List ℕ) → List ℕ → Type 0
+AppendsPrefix old new text = (n : ℕ) × Appends old new (take n text)
+
+-- a writer of frames: its sink, how it writes, and on how many threads
+pub record Writer (S : Type 0) : Type 0 where
+  pub sink : S
+  pub options : CsvWriterOptions
+  pub n_threads : ℕ
+
+-- frames can be written: on one thread or more, and with a quote that is ASCII
+pub record CanWrite (n_threads quote : ℕ) : Type 0 where
+  pub threads : 0 < n_threads
+  pub ascii : quote < 128
+
+-- why a frame was not written: no threads, or else a quote that is not ASCII, before any byte; else a fault of the sink, whose
+-- count rose, or want of memory
+abbrev pub IsWriteFault : ℕ → ℕ → Option (List ℕ) → Option (List ℕ) → ℕ → ℕ → PolarsError → Type 0
+IsWriteFault n_threads quote received received_now faults faults_now (error.InvalidOperation op) = (op ≡ op_fault.Option) × (n_threads ≡ 0) × Keeps received received_now
+IsWriteFault n_threads quote received received_now faults faults_now (error.ComputeError fault) = (fault ≡ compute_fault.Quote) × (0 < n_threads) × (128 ≤ quote) × Keeps received received_now
+IsWriteFault n_threads quote received received_now faults faults_now error.IO = CanWrite n_threads quote × Rose faults faults_now
+IsWriteFault n_threads quote received received_now faults faults_now error.OutOfMemory = CanWrite n_threads quote
+IsWriteFault n_threads quote received received_now faults faults_now _ = ⊥
+
+-- a writer whose options are changed
+abbrev pub with_change : {S : Type 0} → (CsvWriterOptions → CsvWriterOptions) → Writer S → Writer S
+with_change change w = record { sink = w.sink; options = change w.options; n_threads = w.n_threads }
+
+abbrev pub with_threads : {S : Type 0} → ℕ → Writer S → Writer S
+with_threads n_threads w = record { sink = w.sink; options = w.options; n_threads = n_threads }
+
+-- no threads, or else a quote that is not ASCII
+abbrev pub IsEarlyFault : ℕ → ℕ → PolarsError → Type 0
+IsEarlyFault n_threads quote (error.InvalidOperation op) = (op ≡ op_fault.Option) × (n_threads ≡ 0)
+IsEarlyFault n_threads quote (error.ComputeError fault) = (fault ≡ compute_fault.Quote) × (0 < n_threads) × (128 ≤ quote)
+IsEarlyFault n_threads quote _ = ⊥

@@ -1,0 +1,67 @@
+//! Numbers in a fixed number of decimal digits.
+ghost use Rattle.std.specs.Prelude.{◌≡◌, ◌+◌, ◌<◌};
+ghost use Rattle.pl_frame.specs.Printed.{padded};
+
+// The digit for a number below 10.
+#[inline]
+fn digit(n: u32) -> u8
+    requires { n < 10 }
+    ensures { result ≡ 48 + n }
+{
+    b'0' + n as u8
+}
+
+/// A number below 100 in two digits.
+#[inline]
+pub fn two_digits(n: u32) -> [u8; 2]
+    requires { n < 100 }
+    ensures { result ≡ padded 2 n }
+{
+    [digit(n / 10), digit(n % 10)]
+}
+
+/// A number below 1000 in three digits.
+#[inline]
+pub fn three_digits(n: u32) -> [u8; 3]
+    requires { n < 1000 }
+    ensures { result ≡ padded 3 n }
+{
+    [digit(n / 100), digit(n / 10 % 10), digit(n % 10)]
+}
+
+/// A number below 10000 in four digits.
+#[inline]
+pub fn four_digits(n: u32) -> [u8; 4]
+    requires { n < 10000 }
+    ensures { result ≡ padded 4 n }
+{
+    [
+        digit(n / 1000),
+        digit(n / 100 % 10),
+        digit(n / 10 % 10),
+        digit(n % 10),
+    ]
+}
+
+/// A number below a million in six digits.
+#[inline]
+pub fn six_digits(n: u32) -> [u8; 6]
+    requires { n < 1000000 }
+    ensures { result ≡ padded 6 n }
+{
+    let [a, b, c] = three_digits(n / 1000);
+    let [d, e, f] = three_digits(n % 1000);
+    [a, b, c, d, e, f]
+}
+
+/// A number below a thousand million in nine digits.
+#[inline]
+pub fn nine_digits(n: u32) -> [u8; 9]
+    requires { n < 1000000000 }
+    ensures { result ≡ padded 9 n }
+{
+    let [a, b, c] = three_digits(n / 1_000_000);
+    let [d, e, f] = three_digits(n / 1000 % 1000);
+    let [g, h, i] = three_digits(n % 1000);
+    [a, b, c, d, e, f, g, h, i]
+}

@@ -1,0 +1,12 @@
+//! Frames written as CSV: the text of each cell, and of a whole frame.
+#![tactic(auto)]
+
+pub mod csv_writer;
+pub mod dates;
+pub mod decimals;
+pub mod digits;
+pub mod options;
+pub mod texts;
+pub mod times;
+mod values;
+pub mod writer;

@@ -1,0 +1,110 @@
+//! Texts and nulls as they are written.
+ghost use Rattle.std.specs.Prelude.{◌≡◌, ◌++◌, ◌∷◌, ◌==◌, ◌||◌, [], OnOk, if◌then◌else◌};
+ghost use Rattle.std.specs.List.{list_any};
+ghost use Rattle.pl_frame.specs.Text.{needs_quotes, doubled, quoted, quoted_null, written_text, written_null};
+ghost use Rattle.pl_write.specs.Options.{cell_options};
+
+use crate::options::{QuoteStyle, SerializeOptions};
+use memchr::memchr;
+use std::alloc::AllocError;
+
+// Whether a text holds what only a quoted text may hold.
+#[inline]
+fn holds_mark(text: &[u8], separator: u8, quote: u8) -> bool
+    ensures { result ≡ list_any (λ x. x == separator || x == 10 || x == 13 || x == quote) text.now }
+{
+    text.iter().any(|x| *x == separator || *x == b'\n' || *x == b'\r' || *x == quote)
+}
+
+// Whether a text is quoted where quotes are written only if necessary.
+#[inline]
+fn is_quoting_needed(text: &[u8], separator: u8, quote: u8) -> bool
+    ensures { result ≡ needs_quotes separator quote text.now }
+{
+    text.is_empty() || holds_mark(text, separator, quote)
+}
+
+// Appends the text with each quote doubled.
+fn push_doubled(block: &mut Vec<u8>, text: &[u8], quote: u8) -> Result<(), AllocError>
+    ensures { OnOk result (block.new.items ≡ block.old.items ++ doubled quote text.now) }
+{
+    let mut rest = text;
+    while let Some(at) = memchr(quote, rest) {
+        let (front, behind) = rest.split_at(at);
+        block.extend_from_slice(front)?;
+        block.extend_from_slice(&[quote, quote])?;
+        rest = &behind[1..];
+    }
+    block.extend_from_slice(rest)?;
+    Ok(())
+}
+
+/// Appends a text between quotes, with each quote in it doubled.
+pub fn push_quoted(block: &mut Vec<u8>, text: &[u8], quote: u8) -> Result<(), AllocError>
+    ensures { OnOk result (block.new.items ≡ block.old.items ++ quoted quote text.now) }
+{
+    block.push(quote)?;
+    push_doubled(block, text, quote)?;
+    block.push(quote)?;
+    Ok(())
+}
+
+// Appends a text, quoted where it is empty or holds the separator, a line feed, a carriage return or the quote.
+#[inline]
+fn push_as_needed(
+    block: &mut Vec<u8>,
+    text: &[u8],
+    separator: u8,
+    quote: u8,
+) -> Result<(), AllocError>
+    ensures { OnOk result (block.new.items ≡ block.old.items ++ (if needs_quotes separator quote text.now then quoted quote text.now else text.now)) }
+{
+    if is_quoting_needed(text, separator, quote) {
+        push_quoted(block, text, quote)
+    } else {
+        block.extend_from_slice(text)
+    }
+}
+
+/// Appends a text, quoted as the style asks.
+#[inline]
+pub fn push_text(
+    block: &mut Vec<u8>,
+    text: &[u8],
+    options: &SerializeOptions,
+) -> Result<(), AllocError>
+    ensures { OnOk result (block.new.items ≡ block.old.items ++ written_text (cell_options options.now) text.now) }
+{
+    match options.quote_style {
+        QuoteStyle::Necessary => {
+            push_as_needed(block, text, options.separator, options.quote_char)
+        }
+        QuoteStyle::Never => block.extend_from_slice(text),
+        QuoteStyle::Always => push_quoted(block, text, options.quote_char),
+        QuoteStyle::NonNumeric => push_quoted(block, text, options.quote_char),
+    }
+}
+
+// Appends the null text between quotes, which is never doubled.
+fn push_quoted_null(block: &mut Vec<u8>, null: &[u8], quote: u8) -> Result<(), AllocError>
+    ensures { OnOk result (block.new.items ≡ block.old.items ++ quoted_null quote null.now) }
+{
+    block.push(quote)?;
+    block.extend_from_slice(null)?;
+    block.push(quote)?;
+    Ok(())
+}
+
+/// Appends what stands for a null.
+#[inline]
+pub fn push_null(block: &mut Vec<u8>, options: &SerializeOptions) -> Result<(), AllocError>
+    ensures { OnOk result (block.new.items ≡ block.old.items ++ written_null (cell_options options.now)) }
+{
+    let null = options.null.as_str().as_bytes();
+    match options.quote_style {
+        QuoteStyle::Always => push_quoted_null(block, null, options.quote_char),
+        QuoteStyle::Necessary => block.extend_from_slice(null),
+        QuoteStyle::NonNumeric => block.extend_from_slice(null),
+        QuoteStyle::Never => block.extend_from_slice(null),
+    }
+}

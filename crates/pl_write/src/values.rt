@@ -1,0 +1,122 @@
+//! Values that are no texts, as they are written.
+ghost use Rattle.std.specs.Prelude.{◌≡◌, ◌++◌, true, not, unwrap_or, unsigned_abs, OnOk, if◌then◌else◌};
+ghost use Rattle.std.specs.Fmt.{signed_decimal};
+ghost use Rattle.pl_frame.specs.Frame.{Truth};
+ghost use Rattle.pl_frame.specs.Types.{is_within, datetime_range, range_of, units_in_second};
+ghost use Rattle.pl_frame.specs.Printed.{datetime_text, number_text, printed};
+ghost use Rattle.pl_frame.specs.Text.{kind_of, written_value};
+ghost use Rattle.pl_write.specs.Options.{cell_options, in_range, style_number, is_number_kind, is_bare};
+
+use crate::dates::push_date;
+use crate::decimals::push_decimal;
+use crate::options::{QuoteStyle, SerializeOptions};
+use crate::texts::push_quoted;
+use crate::times::{push_datetime, push_time};
+use pl_frame::data_type::DataType;
+use std::alloc::AllocError;
+
+// Appends a whole number of any width.
+#[inline]
+fn push_whole(block: &mut Vec<u8>, number: i128) -> Result<(), AllocError>
+    ensures { OnOk result (block.new.items ≡ block.old.items ++ signed_decimal number) }
+{
+    let mut digits = itoa::Buffer::new();
+    match i64::try_from(number) {
+        Ok(number) => block.extend_from_slice(digits.format(number).as_bytes()),
+        Err(_) => block.extend_from_slice(digits.format(number).as_bytes()),
+    }
+}
+
+// Appends a day or a time of the day, which fits 64 bits.
+#[inline]
+fn push_number(block: &mut Vec<u8>, dtype: &DataType, number: i128) -> Result<(), AllocError>
+    requires { in_range dtype.now number ≡ true }
+    ensures { OnOk result (block.new.items ≡ block.old.items ++ number_text dtype.now number) }
+{
+    match dtype {
+        DataType::Date => push_date(block, number as i64),
+        DataType::Time => push_time(block, number as i64),
+        DataType::Datetime(unit) => push_datetime(block, *unit, number),
+        DataType::Decimal(_, scale) => push_decimal(block, number, scale.unwrap_or(0)),
+        _ => push_whole(block, number),
+    }
+}
+
+// Appends a truth value.
+#[inline]
+fn push_truth(block: &mut Vec<u8>, dtype: &DataType, truth: bool) -> Result<(), AllocError>
+    ensures { OnOk result (block.new.items ≡ block.old.items ++ printed dtype.now (Truth truth)) }
+{
+    if truth {
+        block.extend_from_slice(b"true")
+    } else {
+        block.extend_from_slice(b"false")
+    }
+}
+
+// Whether values of a type are numbers, dates and times not among them.
+#[inline]
+fn is_numeric(dtype: &DataType) -> bool
+    ensures { result ≡ is_number_kind (kind_of dtype.now) }
+{
+    match dtype {
+        DataType::Boolean | DataType::String | DataType::Categorical | DataType::Enum(_) => false,
+        DataType::Date | DataType::Time | DataType::Datetime(_) | DataType::Null => false,
+        _ => true,
+    }
+}
+
+// Whether a value that is no text is quoted.
+#[inline]
+fn is_quoted(dtype: &DataType, style: QuoteStyle) -> bool
+    ensures { result ≡ not (is_bare (style_number style) (kind_of dtype.now)) }
+{
+    match style {
+        QuoteStyle::Always => true,
+        QuoteStyle::NonNumeric => !is_numeric(dtype),
+        QuoteStyle::Necessary | QuoteStyle::Never => false,
+    }
+}
+
+/// Appends the cell of a number of the type, quoted as the style asks. `scratch` is a buffer for its own use, of which
+/// nothing is expected.
+#[inline]
+pub fn push_number_cell(
+    block: &mut Vec<u8>,
+    scratch: &mut Vec<u8>,
+    dtype: &DataType,
+    number: i128,
+    options: &SerializeOptions,
+) -> Result<(), AllocError>
+    requires { in_range dtype.now number ≡ true }
+    ensures { OnOk result (block.new.items ≡ block.old.items ++ written_value (cell_options options.now) (kind_of dtype.now) (number_text dtype.now number)) }
+{
+    if is_quoted(dtype, options.quote_style) {
+        scratch.clear();
+        push_number(scratch, dtype, number)?;
+        push_quoted(block, scratch, options.quote_char)
+    } else {
+        push_number(block, dtype, number)
+    }
+}
+
+/// Appends the cell of a truth value, quoted as the style asks. `scratch` is a buffer for its own use, of which nothing is
+/// expected.
+#[inline]
+pub fn push_truth_cell(
+    block: &mut Vec<u8>,
+    scratch: &mut Vec<u8>,
+    dtype: &DataType,
+    truth: bool,
+    options: &SerializeOptions,
+) -> Result<(), AllocError>
+    ensures { OnOk result (block.new.items ≡ block.old.items ++ written_value (cell_options options.now) (kind_of dtype.now) (printed dtype.now (Truth truth))) }
+{
+    if is_quoted(dtype, options.quote_style) {
+        scratch.clear();
+        push_truth(scratch, dtype, truth)?;
+        push_quoted(block, scratch, options.quote_char)
+    } else {
+        push_truth(block, dtype, truth)
+    }
+}

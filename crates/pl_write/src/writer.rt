@@ -1,0 +1,174 @@
+//! The text of a frame, written in blocks.
+ghost use Rattle.std.specs.Prelude.{◌≡◌, ◌<◌, ◌++◌, ◌≤◌, [], length, OnOk, IsErrOf, if◌then◌else◌};
+ghost use Rattle.std.specs.Io.KnownBytes.{Appends};
+ghost use Rattle.pl_frame.specs.Causes.{Rose};
+ghost use Rattle.pl_frame.specs.Frame.{cell_at, HaveHeight, height_of, names_of};
+ghost use Rattle.pl_frame.specs.Text.{written_cell, written_text, row_line, header_line, head_text, byte_order_mark, text_of_frame};
+ghost use Rattle.pl_write.specs.Options.{cell_options, frame_options};
+ghost use Rattle.pl_write.specs.Writing.{separator_before, HasRow, AppendsPrefix};
+
+use crate::options::{CsvWriterOptions, SerializeOptions};
+use crate::texts::{push_null, push_text};
+use crate::values::{push_number_cell, push_truth_cell};
+use pl_frame::column::{Column, Value};
+use pl_frame::sink::{Sink, SinkFault, write_all};
+use std::alloc::{AllocError, Global};
+
+// So many bytes are written at a time, or a row more.
+const BLOCK: usize = 1 << 17;
+
+// Appends the text of a cell.
+#[inline]
+fn push_cell(
+    block: &mut Vec<u8>,
+    scratch: &mut Vec<u8>,
+    column: &Column,
+    row: usize,
+    options: &SerializeOptions,
+) -> Result<(), AllocError>
+    requires { row < length column.now.values }
+    ensures { OnOk result (block.new.items ≡ block.old.items ++ written_cell (cell_options options.now) column.now.dtype (cell_at column.now row)) }
+{
+    match column.get(row) {
+        Value::Null => push_null(block, options),
+        Value::Text(text) => push_text(block, text.as_bytes(), options),
+        Value::Boolean(truth) => push_truth_cell(block, scratch, column.dtype(), truth, options),
+        Value::Whole(number) => push_number_cell(block, scratch, column.dtype(), number, options),
+    }
+}
+
+// Appends a separator, but before the first of a line.
+#[inline]
+fn push_separator(block: &mut Vec<u8>, separator: u8, place: usize) -> Result<(), AllocError>
+    ensures { OnOk result (block.new.items ≡ block.old.items ++ separator_before separator place) }
+{
+    if place == 0 {
+        Ok(())
+    } else {
+        block.push(separator)?;
+        Ok(())
+    }
+}
+
+// Appends what ends a line.
+#[inline]
+fn push_terminator(block: &mut Vec<u8>, options: &SerializeOptions) -> Result<(), AllocError>
+    ensures { OnOk result (block.new.items ≡ block.old.items ++ options.now.line_terminator) }
+{
+    block.extend_from_slice(options.line_terminator.as_str().as_bytes())
+}
+
+// Appends the line of a row.
+fn push_row(
+    block: &mut Vec<u8>,
+    scratch: &mut Vec<u8>,
+    columns: &[Column],
+    row: usize,
+    options: &SerializeOptions,
+) -> Result<(), AllocError>
+    requires { HasRow row columns.now }
+    ensures { OnOk result (block.new.items ≡ block.old.items ++ row_line (cell_options options.now) columns.now row) }
+{
+    for (place, column) in columns.iter().enumerate() {
+        push_separator(block, options.separator, place)?;
+        push_cell(block, scratch, column, row, options)?;
+    }
+    push_terminator(block, options)
+}
+
+// Appends the name of a column, as a text.
+fn push_name(
+    block: &mut Vec<u8>,
+    column: &Column,
+    options: &SerializeOptions,
+) -> Result<(), AllocError>
+    ensures { OnOk result (block.new.items ≡ block.old.items ++ written_text (cell_options options.now) column.now.name) }
+{
+    push_text(block, column.name().as_bytes(), options)
+}
+
+// Appends the line of the names.
+fn push_header(
+    block: &mut Vec<u8>,
+    columns: &[Column],
+    options: &SerializeOptions,
+) -> Result<(), AllocError>
+    ensures { OnOk result (block.new.items ≡ block.old.items ++ header_line (cell_options options.now) (names_of columns.now)) }
+{
+    for (place, column) in columns.iter().enumerate() {
+        push_separator(block, options.separator, place)?;
+        push_name(block, column, options)?;
+    }
+    push_terminator(block, options)
+}
+
+// Appends a byte order mark, where one is asked for.
+fn push_mark(block: &mut Vec<u8>, include_bom: bool) -> Result<(), AllocError>
+    ensures { OnOk result (block.new.items ≡ block.old.items ++ (if include_bom then byte_order_mark else [])) }
+{
+    if include_bom {
+        block.extend_from_slice(&[0xEF, 0xBB, 0xBF])?;
+    }
+    Ok(())
+}
+
+// Appends what stands before the rows.
+fn push_head(
+    block: &mut Vec<u8>,
+    columns: &[Column],
+    options: &CsvWriterOptions,
+) -> Result<(), AllocError>
+    ensures { OnOk result (block.new.items ≡ block.old.items ++ head_text (frame_options options.now) (names_of columns.now)) }
+{
+    push_mark(block, options.include_bom)?;
+    if options.include_header {
+        push_header(block, columns, &options.serialize_options)?;
+    }
+    Ok(())
+}
+
+// The number of rows.
+fn row_count(columns: &[Column]) -> usize
+    ensures { result ≡ height_of columns.now }
+{
+    match columns {
+        [first, ..] => first.len(),
+        [] => 0,
+    }
+}
+
+/// Appends the text of a frame to a sink, a block at a time.
+///
+/// Refuses a fault of the device, and want of memory, here or in the sink. A prefix of the text was then appended.
+pub fn write_frame<Si: Sink>(
+    alloc: Global,
+    columns: &[Column],
+    options: &CsvWriterOptions,
+    sink: &mut Si,
+) -> Result<(), SinkFault>
+    requires { HaveHeight (height_of columns.now) columns.now }
+    ensures text { OnOk result (Appends (Si.received sink.old) (Si.received sink.new) (text_of_frame (frame_options options.now) columns.now)) }
+    ensures prefix { AppendsPrefix (Si.received sink.old) (Si.received sink.new) (text_of_frame (frame_options options.now) columns.now) }
+    ensures later { Si.faults sink.old ≤ Si.faults sink.new }
+    ensures device { IsErrOf result SinkFault.Device → Rose (Si.faults sink.old) (Si.faults sink.new) }
+{
+    let mut block = Vec::new(alloc);
+    let mut scratch = Vec::new(alloc);
+    match push_head(&mut block, columns, options) {
+        Ok(()) => {}
+        Err(_) => return Err(SinkFault::OutOfMemory),
+    }
+    for row in 0..row_count(columns) {
+        match push_row(&mut block, &mut scratch, columns, row, &options.serialize_options) {
+            Ok(()) => {}
+            Err(_) => return Err(SinkFault::OutOfMemory),
+        }
+        if block.len() >= BLOCK {
+            match write_all(sink, &block) {
+                Ok(()) => block.clear(),
+                Err(fault) => return Err(fault),
+            }
+        }
+    }
+    write_all(sink, &block)
+}

@@ -1,5 +1,9 @@
 //! Frames: columns of one height with distinct names.
-ghost use Rattle.std.specs.Prelude.{◌≡◌, ◌<◌, length, IfSome, IfOk, OnOk, IfErr, None, Some, slice_index_or, []};
+ghost use Rattle.std.specs.Prelude.{◌≡◌, ◌<◌, length, IfSome, IfOk, OnOk, IfErr, IsOkUnless, None, Some, slice_index_or, []};
+ghost use Rattle.std.specs.Cmp.{partial_equiv_from_equiv};
+ghost use Rattle.std.specs.Cmp.Lexicographic.{lists_equiv, lists_per, pointwise};
+ghost use Rattle.pl_frame.specs.Equal.{columns_equal};
+ghost use Rattle.pl_frame.specs.declared.error.PolarsError.TheVariants as error;
 ghost use Rattle.pl_frame.specs.Frame.{HaveHeight, IsFrame, height_of, names_of};
 ghost use Rattle.pl_frame.specs.Names.{IsRepeatFault, first_repeat, repeated_name};
 
@@ -58,6 +62,22 @@ impl DataFrame {
         DataFrame { columns }
     }
 
+    /// An equal frame. Refuses only want of memory.
+    pub fn try_clone(&self) -> PolarsResult<DataFrame>
+        ensures equal { IfOk result (λ frame. frame ≡ self.now) }
+        ensures refused { IsOkUnless result error.OutOfMemory }
+    {
+        let columns = copy_columns(*self.columns.allocator(), &self.columns)?;
+        Ok(DataFrame { columns })
+    }
+
+    /// Whether another frame has equal columns in the same order, without taking memory.
+    pub fn equals(&self, other: &DataFrame) -> bool
+        ensures { result ≡ pointwise columns_equal self.now other.now }
+    {
+        self == other
+    }
+
     /// The number of rows, without taking memory.
     pub fn height(&self) -> usize
         ensures { result ≡ height_of self.now }
@@ -82,6 +102,40 @@ impl DataFrame {
     {
         &self.columns
     }
+}
+
+// By its columns in order.
+impl PartialEq for DataFrame {
+    ghost use Rattle.pl_frame.specs.EqualLaws.{columns_equiv};
+
+    ghost eq = { pointwise columns_equal };
+
+    ghost laws = { lists_per (partial_equiv_from_equiv columns_equiv) };
+
+    fn eq(&self, other: &DataFrame) -> bool {
+        self.columns == other.columns
+    }
+}
+
+impl Eq for DataFrame {
+    ghost use Rattle.pl_frame.specs.EqualLaws.{columns_equiv};
+
+    ghost laws = { lists_equiv columns_equiv };
+}
+
+// Equal columns.
+fn copy_columns(alloc: Global, columns: &[Column]) -> PolarsResult<Vec<Column>>
+    ensures equal { IfOk result (λ copies. copies.items ≡ columns.now) }
+    ensures refused { IsOkUnless result error.OutOfMemory }
+{
+    let mut copies = Vec::new(alloc);
+    for column in columns {
+        let copy = column.try_clone()?;
+        if copies.push(copy).is_err() {
+            return Err(PolarsError::OutOfMemory);
+        }
+    }
+    Ok(copies)
 }
 
 // The refusal of a name that stands twice.

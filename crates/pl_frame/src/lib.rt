@@ -5,6 +5,7 @@
 pub mod codes;
 pub mod column;
 pub mod data_type;
+pub mod equal;
 pub mod error;
 pub mod frame;
 pub mod made;

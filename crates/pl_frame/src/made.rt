@@ -272,12 +272,26 @@ mod tests {
         let unit = DataType::Datetime(TimeUnit::Milliseconds);
         assert!(rt; is_range(alloc, unit, -62_167_219_200_000, 253_402_300_799_999)?);
         let unit = DataType::Datetime(TimeUnit::Microseconds);
-        assert!(rt; is_range(alloc, unit, -62_167_219_200_000_000, 253_402_300_799_999_999)?);
+        assert!(rt;
+            is_range(
+                alloc,
+                unit,
+                -62_167_219_200_000_000,
+                253_402_300_799_999_999
+            )?
+        );
         let unit = DataType::Datetime(TimeUnit::Nanoseconds);
         let (low, high) = (-62_167_219_200_000_000_000, 253_402_300_799_999_999_999);
         assert!(rt; is_range(alloc, unit, low, high)?);
         assert!(rt; is_range(alloc, DataType::Decimal(Some(1), Some(0)), -9, 9)?);
-        assert!(rt; is_range(alloc, DataType::Decimal(Some(38), Some(38)), -digits, digits)?);
+        assert!(rt;
+            is_range(
+                alloc,
+                DataType::Decimal(Some(38), Some(38)),
+                -digits,
+                digits
+            )?
+        );
         assert!(rt; is_range(alloc, DataType::Decimal(None, Some(1)), -digits, digits)?);
         Ok(())
     }

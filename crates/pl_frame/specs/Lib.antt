@@ -1,3 +1,4 @@
+pub mod Casts
 pub mod Categories
 pub mod Causes
 pub mod ColumnData

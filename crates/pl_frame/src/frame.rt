@@ -1,13 +1,15 @@
 //! Frames: columns of one height with distinct names.
-ghost use Rattle.std.specs.Prelude.{◌≡◌, ◌<◌, length, IfSome, IfOk, OnOk, IfErr, IsOkUnless, None, Some, slice_index_or, []};
+ghost use Rattle.std.specs.Prelude.{◌≡◌, ◌<◌, length, IfSome, IfOk, OnOk, OnErr, IfErr, true, IsOkUnless, None, Some, slice_index_or, []};
 ghost use Rattle.std.specs.Cmp.{partial_equiv_from_equiv};
 ghost use Rattle.std.specs.Cmp.Lexicographic.{lists_equiv, lists_per, pointwise};
+ghost use Rattle.pl_frame.specs.Casts.{can_cast, with_cast};
 ghost use Rattle.pl_frame.specs.Equal.{columns_equal};
 ghost use Rattle.pl_frame.specs.declared.error.PolarsError.TheVariants as error;
 ghost use Rattle.pl_frame.specs.Frame.{HaveHeight, IsFrame, height_of, names_of};
 ghost use Rattle.pl_frame.specs.Names.{IsRepeatFault, first_repeat, repeated_name};
 
 use crate::column::Column;
+use crate::data_type::DataType;
 use crate::error::{NamePlace, PolarsError, PolarsResult};
 use crate::name::{Named, PlSmallStr, find_repeat};
 use std::alloc::Global;
@@ -76,6 +78,22 @@ impl DataFrame {
         ensures { result ≡ pointwise columns_equal self.now other.now }
     {
         self == other
+    }
+
+    /// Casts the column at a place to another type: each value stays where it is one of that type, and becomes null where
+    /// it is none. `DataType::casts_to` tells which types go together. Refuses only want of memory, and is then as it was.
+    pub fn cast(&mut self, column: usize, to: &DataType) -> PolarsResult<()>
+        requires { can_cast self.old column to.now ≡ true }
+        ensures cast { OnOk result (self.new ≡ with_cast self.old column to.now) }
+        ensures unchanged { OnErr result (self.new ≡ self.old) }
+        ensures refused { IsOkUnless result error.OutOfMemory }
+    {
+        if self.columns[column].dtype() == to {
+            return Ok(());
+        }
+        let cast = self.columns[column].cast(*self.columns.allocator(), to)?;
+        self.columns[column] = cast;
+        Ok(())
     }
 
     /// The number of rows, without taking memory.

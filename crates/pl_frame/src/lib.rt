@@ -2,6 +2,7 @@
 //! sources and sinks of bytes.
 #![tactic(auto)]
 
+pub mod cast;
 pub mod codes;
 pub mod column;
 pub mod data_type;
@@ -12,6 +13,7 @@ pub mod made;
 pub mod name;
 pub mod numbers;
 pub mod opener;
+pub mod places;
 pub mod range;
 pub mod schema;
 pub mod sink;

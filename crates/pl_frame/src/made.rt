@@ -243,7 +243,7 @@ mod tests {
         }
         let name = PlSmallStr::from_str(alloc, "n")?;
         let given = vec![in alloc; Some(numbers[0]), Some(numbers[1]), Some(numbers[2])]?;
-        match Column::whole(alloc, name, dtype.try_clone(alloc)?, given) {
+        match Column::whole(alloc, name, dtype.try_clone()?, given) {
             Err(ColumnFault::OutOfRange { row }) => Ok(Some(row)),
             _ => Ok(None),
         }

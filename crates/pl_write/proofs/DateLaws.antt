@@ -1,5 +1,5 @@
 -- The date of a day number.
-use Rattle.std.proofs.Common.{◌≡◌, ◌≢◌, ℕ, zero, suc, ◌+◌, ◌<◌, ◌≤◌, ◌==◌, nat_le, Bool, true, false, ℤ, pos, negsuc, neg_ℤ, unsigned_abs, ◌+ℤ◌, ◌<ℤ◌, ◌≤ℤ◌, List, [], ◌∷◌, ◌++◌, map, None, Some, refl, sym, ◌∙◌, ap, subst, arith}
+use Rattle.std.proofs.Common.{◌≡◌, ◌≢◌, ℕ, zero, suc, ◌+◌, ◌<◌, ◌≤◌, ◌==◌, nat_le, Bool, true, false, ℤ, pos, negsuc, neg_ℤ, unsigned_abs, ◌+ℤ◌, ◌<ℤ◌, ◌≤ℤ◌, List, [], ◌∷◌, None, Some, refl, sym, ◌∙◌, ap, subst, arith}
 use Rattle.std.proofs.lemmas.Bool.Decides.{nat_tests, Decides-int_eq}
 use Rattle.std.proofs.lemmas.List.Concat.{flat_map_single}
 use Rattle.std.proofs.lemmas.List.Folds.{find-append}
@@ -91,14 +91,14 @@ date_of-is y m d h small = find_one p dates_of_year 0 10000 y (civil y m d) (ome
       where
         by_order : (month day : ℕ) → IsInRange 1 12 month → IsInRange 1 (days_in_month (pos y) month) day → day_count (pos y) month day ≡ day_count (pos y) m d → month ≢ m → ⊥
         by_order month day in_year in_month same other = by_lt month m
-          (λ lt. omega (arith, same, day_count-lt_month (pos y) month day m d (h.0, in_year, in_month) h.2.0 lt))
-          (λ le. omega (arith, same, day_count-lt_month (pos y) m d month day h in_month.0 (grind (arith, le, other))))
+            (λ lt. omega (arith, same, day_count-lt_month (pos y) month day m d (h.0, in_year, in_month) h.2.0 lt))
+            (λ le. omega (arith, same, day_count-lt_month (pos y) m d month day h in_month.0 (grind (arith, le, other))))
 
     here_month : find p (dates_of_month y m) ≡ Some (civil y m d)
     here_month =
         ap (find p) (sym (flat_map_single (civil y m) (range_with_len 1 (days_in_month (pos y) m))))
         ∙ find_one p (λ day. civil y m day ∷ []) 1 (days_in_month (pos y) m) d (civil y m d) h.2.0 (omega (arith, h.2.1))
-            (λ day low high other. rw (other_day day (low, omega (arith, high)) other) refl) (rw here refl)
+        (λ day low high other. rw (other_day day (low, omega (arith, high)) other) refl) (rw here refl)
 
     here_year : find p (dates_of_year y) ≡ Some (civil y m d)
     here_year = find_one p (dates_of_month y) 1 12 m (civil y m d) h.1.0 (omega (arith, h.1.1)) (λ month low high other. other_month month (low, omega (arith, high)) other) here_month
@@ -108,8 +108,8 @@ date_of-is y m d h small = find_one p dates_of_year 0 10000 y (civil y m d) (ome
       where
         by_order : (month day : ℕ) → IsInRange 1 12 month → IsInRange 1 (days_in_month (pos year) month) day → day_count (pos year) month day ≡ day_count (pos y) m d → ⊥
         by_order month day in_year in_month same = by_lt year y
-          (λ lt. omega (arith, same, day_count-lt_year (pos year) month day (pos y) m d (omega (arith, signed_arith, high), in_year, in_month) h.2.0 (omega (arith, signed_arith, lt))))
-          (λ le. omega (arith, same, day_count-lt_year (pos y) m d (pos year) month day h in_month.0 (grind (arith, signed_arith, le, other))))
+            (λ lt. omega (arith, same, day_count-lt_year (pos year) month day (pos y) m d (omega (arith, signed_arith, high), in_year, in_month) h.2.0 (omega (arith, signed_arith, lt))))
+            (λ le. omega (arith, same, day_count-lt_year (pos y) m d (pos year) month day h in_month.0 (grind (arith, signed_arith, le, other))))
 
 first_day : day_count (pos 0) 1 1 ≡ 3652425
 first_day = day_count-early (pos 0) 9999 1 1 refl (omega arith) (omega arith) (omega arith)

@@ -1,9 +1,8 @@
 -- The values that a column holds.
-use Rattle.std.proofs.Common.{◌≡◌, ℕ, ◌<◌, ◌≤◌, Bool, true, false, not, ℤ, List, length, get_or, Some, None, refl, sym, ◌∙◌, ap, arith}
+use Rattle.std.proofs.Common.{◌≡◌, ℕ, ◌<◌, Bool, true, false, ℤ, List, length, get_or, Some, None, refl, sym, ◌∙◌, ap}
 use Rattle.std.specs.Prelude.{Option, unwrap_or, slice_get}
-use Rattle.std.specs.List.{position, position_or_len}
 use Rattle.std.proofs.lemmas.Option.{unwrap_or-slice_get}
-use Rattle.pl_frame.specs.Columns.{misfits, is_value_of, first_misfit}
+use Rattle.pl_frame.specs.Columns.{misfits, first_misfit}
 use Rattle.pl_frame.specs.Frame.{Scalar, Number}
 use Rattle.pl_frame.specs.declared.data_type.DataType.{DataType}
 use Rattle.std.proofs.lemmas.List.Folds.{list_any_at}

@@ -36,7 +36,7 @@ padded-step w n bound = by_size (nat_le 10 n) refl
         let longer : length (d ++ last ∷ []) ≡ length d + 1 = length-append d (last ∷ []) in
         let room : suc (suc w) - length (d ++ last ∷ []) ≡ suc w - length d = omega (arith, longer) in
         ap (λ l. replicate (suc (suc w) - length l) 48 ++ l) step
-            ∙ (ap (λ k. replicate k 48 ++ (d ++ last ∷ [])) room ∙ sym (append_assoc (replicate (suc w - length d) 48) d (last ∷ [])))
+        ∙ (ap (λ k. replicate k 48 ++ (d ++ last ∷ [])) room ∙ sym (append_assoc (replicate (suc w - length d) 48) d (last ∷ [])))
 
 -- two, three and four digits
 pub padded-two : (n : ℕ) → n < 100 → padded 2 n ≡ (48 + n / 10) ∷ (48 + n % 10) ∷ []
@@ -46,15 +46,15 @@ pub padded-three : (n : ℕ) → n < 1000 → padded 3 n ≡ (48 + n / 100) ∷ 
 padded-three n small =
     let hundreds : n / 10 / 10 ≡ n / 100 = omega (arith) in
     padded-step 1 n (omega (arith, small)) ∙ (ap (λ l. l ++ (48 + n % 10) ∷ []) (padded-two (n / 10) (omega (arith, small)))
-        ∙ ap (λ h. (48 + h) ∷ (48 + n / 10 % 10) ∷ (48 + n % 10) ∷ []) hundreds)
+    ∙ ap (λ h. (48 + h) ∷ (48 + n / 10 % 10) ∷ (48 + n % 10) ∷ []) hundreds)
 
 pub padded-four : (n : ℕ) → n < 10000 → padded 4 n ≡ (48 + n / 1000) ∷ (48 + n / 100 % 10) ∷ (48 + n / 10 % 10) ∷ (48 + n % 10) ∷ []
 padded-four n small =
     let thousands : n / 10 / 100 ≡ n / 1000 = omega (arith) in
     let hundreds : n / 10 / 10 ≡ n / 100 = omega (arith) in
     padded-step 2 n (omega (arith, small)) ∙ (ap (λ l. l ++ (48 + n % 10) ∷ []) (padded-three (n / 10) (omega (arith, small)))
-        ∙ (ap (λ t. (48 + t) ∷ (48 + n / 10 / 10 % 10) ∷ (48 + n / 10 % 10) ∷ (48 + n % 10) ∷ []) thousands
-        ∙ ap (λ h. (48 + n / 1000) ∷ (48 + h % 10) ∷ (48 + n / 10 % 10) ∷ (48 + n % 10) ∷ []) hundreds))
+    ∙ (ap (λ t. (48 + t) ∷ (48 + n / 10 / 10 % 10) ∷ (48 + n / 10 % 10) ∷ (48 + n % 10) ∷ []) thousands
+    ∙ ap (λ h. (48 + n / 1000) ∷ (48 + h % 10) ∷ (48 + n / 10 % 10) ∷ (48 + n % 10) ∷ []) hundreds))
 
 -- three digits more
 pub padded-onto : (v n : ℕ) → n < 2 ^ 64 → padded (suc (suc (suc (suc v)))) n ≡ padded (suc v) (n / 1000) ++ padded 3 (n % 1000)
@@ -69,11 +69,11 @@ padded-onto v n bound =
     let c : n % 10 ≡ n % 1000 % 10 = omega (arith) in
     let digits : List ℕ = (48 + n / 10 / 10 % 10) ∷ (48 + n / 10 % 10) ∷ (48 + n % 10) ∷ [] in
     let glued : ((padded (suc v) (n / 10 / 10 / 10) ++ (48 + n / 10 / 10 % 10) ∷ []) ++ (48 + n / 10 % 10) ∷ []) ++ (48 + n % 10) ∷ [] ≡ padded (suc v) (n / 10 / 10 / 10) ++ digits =
-        append_assoc (padded (suc v) (n / 10 / 10 / 10) ++ (48 + n / 10 / 10 % 10) ∷ []) ((48 + n / 10 % 10) ∷ []) ((48 + n % 10) ∷ [])
-        ∙ append_assoc (padded (suc v) (n / 10 / 10 / 10)) ((48 + n / 10 / 10 % 10) ∷ []) ((48 + n / 10 % 10) ∷ (48 + n % 10) ∷ []) in
+    append_assoc (padded (suc v) (n / 10 / 10 / 10) ++ (48 + n / 10 / 10 % 10) ∷ []) ((48 + n / 10 % 10) ∷ []) ((48 + n % 10) ∷ [])
+    ∙ append_assoc (padded (suc v) (n / 10 / 10 / 10)) ((48 + n / 10 / 10 % 10) ∷ []) ((48 + n / 10 % 10) ∷ (48 + n % 10) ∷ []) in
     let last : padded 3 (n % 1000) ≡ digits = padded-three (n % 1000) (omega (arith)) ∙ sym (rw (a, b, c) refl) in
     one ∙ (ap (λ l. l ++ (48 + n % 10) ∷ []) (two ∙ ap (λ l. l ++ (48 + n / 10 % 10) ∷ []) three)
-        ∙ (glued ∙ (ap (λ k. padded (suc v) k ++ digits) thousands ∙ ap (λ l. front ++ l) (sym last))))
+    ∙ (glued ∙ (ap (λ k. padded (suc v) k ++ digits) thousands ∙ ap (λ l. front ++ l) (sym last))))
 
 -- six and nine digits
 pub padded-six : (n : ℕ) → n < 1000000 → padded 6 n ≡ padded 3 (n / 1000) ++ padded 3 (n % 1000)
@@ -83,7 +83,7 @@ pub padded-nine : (n : ℕ) → n < 1000000000 → padded 9 n ≡ padded 3 (n / 
 padded-nine n small =
     let millions : n / 1000 / 1000 ≡ n / 1000000 = omega (arith) in
     padded-onto 5 n (omega (arith, small)) ∙ (ap (λ l. l ++ padded 3 (n % 1000)) (padded-six (n / 1000) (omega (arith, small)))
-        ∙ (append_assoc (padded 3 (n / 1000 / 1000)) (padded 3 (n / 1000 % 1000)) (padded 3 (n % 1000)) ∙ ap (λ k. padded 3 k ++ (padded 3 (n / 1000 % 1000) ++ padded 3 (n % 1000))) millions))
+    ∙ (append_assoc (padded 3 (n / 1000 / 1000)) (padded 3 (n / 1000 % 1000)) (padded 3 (n % 1000)) ∙ ap (λ k. padded 3 k ++ (padded 3 (n / 1000 % 1000) ++ padded 3 (n % 1000))) millions))
 
 -- a number has a digit
 pub decimal_some : (n : ℕ) → n < 10 ^ 64 → 0 < length (decimal n)

@@ -1,9 +1,9 @@
 -- The day and the second of a count.
-use Rattle.std.proofs.Common.{◌≡◌, ℕ, zero, suc, ◌+◌, ◌-◌, ◌*◌, ◌/◌, ◌%◌, ◌<◌, ◌≤◌, true, ℤ, pos, negsuc, neg_ℤ, ◌≤ℤ◌, refl, arith}
+use Rattle.std.proofs.Common.{◌≡◌, ℕ, ◌*◌, ◌/◌, ◌<◌, true, ℤ, pos, negsuc, arith}
 use Rattle.std.proofs.Math.Nat.{div-lt_iff_lt-mul}
-use Rattle.std.specs.Int.{int_div_euclid, int_rem_euclid}
+use Rattle.std.specs.Int.{int_div_euclid}
 use Rattle.jiff_core.proofs.SignedLemmas.{signed_arith}
-use Rattle.pl_frame.specs.Types.{Range, is_within, day_range, datetime_range}
+use Rattle.pl_frame.specs.Types.{is_within, day_range, datetime_range}
 
 -- a quotient is small where the number is
 quotient : (a k units : ℕ) → 0 < units → a < k * units → a / units < k

@@ -262,7 +262,8 @@ mod tests {
         let whole = DataType::Decimal(Some(38), Some(0));
         assert!(rt; are_written(alloc, whole, 0, -7, "0\n-7\n")?);
         let small = DataType::Decimal(None, Some(38));
-        let text = "0.00000000000000000000000000000000000001\n0.00000000000000000000000000000000000000\n";
+        let text =
+            "0.00000000000000000000000000000000000001\n0.00000000000000000000000000000000000000\n";
         assert!(rt; are_written(alloc, small, 1, 0, text)?);
         let wide = DataType::Int128;
         let text = "170141183460469231731687303715884105727\n-1\n";

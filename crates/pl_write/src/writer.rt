@@ -159,7 +159,13 @@ pub fn write_frame<Si: Sink>(
         Err(_) => return Err(SinkFault::OutOfMemory),
     }
     for row in 0..row_count(columns) {
-        match push_row(&mut block, &mut scratch, columns, row, &options.serialize_options) {
+        match push_row(
+            &mut block,
+            &mut scratch,
+            columns,
+            row,
+            &options.serialize_options,
+        ) {
             Ok(()) => {}
             Err(_) => return Err(SinkFault::OutOfMemory),
         }

@@ -15,7 +15,7 @@ returns-in-Ok-write_frame-clause-converted g c =
       text = text_of_frame default_write_options frame;
       is = (frame, has.is, refl);
       written = subst (λ columns. Appends (g.Si.Sink.received c.args.out.now) (g.Si.Sink.received c.write_frame.new.sink) (text_of_frame default_write_options columns)) c.columns.ensures.columns
-            (subst (λ o. Appends (g.Si.Sink.received c.args.out.now) (g.Si.Sink.received c.write_frame.new.sink) (text_of_frame (frame_options o) c.columns.result.now)) c.in-Ok-new.ensures.made c.in-Ok-write_frame.ensures.text);
+          (subst (λ o. Appends (g.Si.Sink.received c.args.out.now) (g.Si.Sink.received c.write_frame.new.sink) (text_of_frame (frame_options o) c.columns.result.now)) c.in-Ok-new.ensures.made c.in-Ok-write_frame.ensures.text);
     }
 
 pub returns-in-Err-Device-clause-refused : goal.returns-in-Err-Device-clause-refused
@@ -41,5 +41,5 @@ returns-clause-refused g c =
       text = text_of_frame default_write_options frame;
       is = (frame, has.is, refl);
       written = subst (λ columns. AppendsPrefix (g.Si.Sink.received c.args.out.now) (g.Si.Sink.received c.write_frame.new.sink) (text_of_frame default_write_options columns)) c.columns.ensures.columns
-            (subst (λ o. AppendsPrefix (g.Si.Sink.received c.args.out.now) (g.Si.Sink.received c.write_frame.new.sink) (text_of_frame (frame_options o) c.columns.result.now)) c.in-Ok-new.ensures.made c.in-Err-OutOfMemory.ensures.prefix);
+          (subst (λ o. AppendsPrefix (g.Si.Sink.received c.args.out.now) (g.Si.Sink.received c.write_frame.new.sink) (text_of_frame (frame_options o) c.columns.result.now)) c.in-Ok-new.ensures.made c.in-Err-OutOfMemory.ensures.prefix);
     })

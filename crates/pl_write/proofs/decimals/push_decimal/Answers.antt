@@ -1,4 +1,4 @@
-use Rattle.std.proofs.Common.{◌≡◌, ℕ, ◌+◌, ◌-◌, ◌<◌, ◌^◌, if◌then◌else◌, List, [], ◌∷◌, ◌++◌, length, replicate, unsigned_abs, sym, ◌∙◌, ap, refl, arith}
+use Rattle.std.proofs.Common.{◌≡◌, ◌+◌, ◌-◌, if◌then◌else◌, [], ◌∷◌, ◌++◌, length, replicate, unsigned_abs, ◌∙◌, ap, arith}
 use Rattle.std.proofs.lemmas.Int.{to_z-of_z}
 use Rattle.std.specs.Prelude.{decimal}
 use Rattle.std.specs.Int.{is_negative, w128}
@@ -20,7 +20,7 @@ returns c =
     let sign = simp given at c.in_ok-push_sign.ensures in
     let scale = c.args.scale in
     two_parts c.push_filled.result c.args.block.now.items c.push_sign.new.block.items c.push_filled.new.block.items
-        (if is_negative c.args.number then 45 ∷ [] else []) (point_text scale (replicate (scale + 1 - length c.as_bytes.result.now) 48 ++ c.as_bytes.result.now)) (decimal_text scale c.args.number)
-        sign
-        (ap (λ ds. (if is_negative c.args.number then 45 ∷ [] else []) ++ point_text scale (replicate (scale + 1 - length ds) 48 ++ ds)) digits)
-        c.push_filled.ensures
+    (if is_negative c.args.number then 45 ∷ [] else []) (point_text scale (replicate (scale + 1 - length c.as_bytes.result.now) 48 ++ c.as_bytes.result.now)) (decimal_text scale c.args.number)
+    sign
+    (ap (λ ds. (if is_negative c.args.number then 45 ∷ [] else []) ++ point_text scale (replicate (scale + 1 - length ds) 48 ++ ds)) digits)
+    c.push_filled.ensures

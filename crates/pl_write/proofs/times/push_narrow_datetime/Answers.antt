@@ -1,6 +1,6 @@
-use Rattle.std.proofs.Common.{◌≡◌, ◌++◌, ◌∷◌, [], ℕ, List, pos, unsigned_abs, refl, sym, ap, ◌∙◌, append_assoc, w64, FitsSigned}
+use Rattle.std.proofs.Common.{◌≡◌, ◌++◌, ◌∷◌, [], pos, ap, ◌∙◌, append_assoc, w64, FitsSigned}
 use Rattle.std.proofs.lemmas.Int.{to_z-of_z}
-use Rattle.std.specs.Int.{int_div_euclid, int_rem_euclid}
+use Rattle.std.specs.Int.{int_div_euclid}
 use Rattle.pl_frame.specs.Types.{units_in_second}
 use Rattle.pl_frame.specs.Printed.{second_text, padded, places_of, datetime_text}
 use Rattle.pl_write.proofs.BlockLaws.{two_parts}
@@ -17,9 +17,9 @@ returns c =
     let front = simp (to_z-of_z w64 second fits) at c.in_ok-push_second.ensures in
     let rest = simp given at c.rest_of.ensures.value in
     two_parts c.push_places.result c.args.block.now.items c.push_second.new.block.items c.push_places.new.block.items
-        (second_text second ++ 46 ∷ []) (padded places c.rest_of.result) (datetime_text c.args.unit c.args.count)
-        front
-        (append_assoc (second_text second) (46 ∷ []) (padded places c.rest_of.result)
-            ∙ (ap (λ s. second_text s ++ 46 ∷ padded places c.rest_of.result) is
-            ∙ ap (λ r. second_text (int_div_euclid c.args.count (pos units)) ++ 46 ∷ padded places r) rest))
-        c.push_places.ensures
+    (second_text second ++ 46 ∷ []) (padded places c.rest_of.result) (datetime_text c.args.unit c.args.count)
+    front
+    (append_assoc (second_text second) (46 ∷ []) (padded places c.rest_of.result)
+    ∙ (ap (λ s. second_text s ++ 46 ∷ padded places c.rest_of.result) is
+    ∙ ap (λ r. second_text (int_div_euclid c.args.count (pos units)) ++ 46 ∷ padded places r) rest))
+    c.push_places.ensures

@@ -1,4 +1,4 @@
-use Rattle.std.proofs.Common.{◌≡◌, ◌++◌, ◌∷◌, [], ℕ, List, pos, unsigned_abs, refl, sym, ap, ◌∙◌, append_assoc, w64, FitsSigned}
+use Rattle.std.proofs.Common.{◌≡◌, ◌++◌, ◌∷◌, [], pos, unsigned_abs, sym, ap, ◌∙◌, append_assoc, w64, FitsSigned}
 use Rattle.std.proofs.lemmas.Int.{to_z-of_z}
 use Rattle.std.specs.Int.{int_div_euclid, int_rem_euclid}
 use Rattle.pl_frame.specs.Printed.{date_text, second_text, clock_text}
@@ -14,9 +14,9 @@ returns c =
     let front = simp (to_z-of_z w64 day fits) at c.in_ok-push_date.ensures in
     let second = simp given at c.second_of_day.ensures.value in
     two_parts c.push_clock.result c.args.block.now.items c.push_date.new.block.items c.push_clock.new.block.items
-        (date_text day) (84 ∷ (clock_text c.second_of_day.result ++ 46 ∷ [])) (second_text c.args.second ++ 46 ∷ [])
-        front
-        (ap (λ d. date_text d ++ 84 ∷ (clock_text c.second_of_day.result ++ 46 ∷ [])) is
-            ∙ (ap (λ s. date_text (int_div_euclid c.args.second (pos 86400)) ++ 84 ∷ (clock_text s ++ 46 ∷ [])) second
-            ∙ sym (append_assoc (date_text (int_div_euclid c.args.second (pos 86400))) (84 ∷ clock_text (unsigned_abs (int_rem_euclid c.args.second (pos 86400)))) (46 ∷ []))))
-        c.push_clock.ensures
+    (date_text day) (84 ∷ (clock_text c.second_of_day.result ++ 46 ∷ [])) (second_text c.args.second ++ 46 ∷ [])
+    front
+    (ap (λ d. date_text d ++ 84 ∷ (clock_text c.second_of_day.result ++ 46 ∷ [])) is
+    ∙ (ap (λ s. date_text (int_div_euclid c.args.second (pos 86400)) ++ 84 ∷ (clock_text s ++ 46 ∷ [])) second
+    ∙ sym (append_assoc (date_text (int_div_euclid c.args.second (pos 86400))) (84 ∷ clock_text (unsigned_abs (int_rem_euclid c.args.second (pos 86400)))) (46 ∷ []))))
+    c.push_clock.ensures

@@ -1,7 +1,5 @@
-use Rattle.std.proofs.Common.{◌≡◌, ℕ, List, sym, ◌∙◌, ap}
 use Rattle.std.specs.Int.{w128}
 use Rattle.std.proofs.lemmas.Int.{to_z-of_z}
-use Rattle.pl_write.specs.Options.{in_range}
 use Rattle.pl_write.proofs.HeldLaws.{held_number}
 use Rattle.pl_write.proofs.writer.push_cell.Goals as goal
 

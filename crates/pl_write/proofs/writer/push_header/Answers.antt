@@ -1,4 +1,4 @@
-use Rattle.std.proofs.Common.{◌++◌, ◌∷◌, [], map, take, ◌∙◌, ap, append_assoc, arith}
+use Rattle.std.proofs.Common.{◌++◌, map, take, ◌∙◌, ap, arith}
 use Rattle.std.specs.List.{join_with_byte}
 use Rattle.std.proofs.lemmas.List.{take_all}
 use Rattle.pl_frame.specs.Frame.{ColumnValue, names_of}
@@ -27,4 +27,4 @@ returns c =
     let end = c.args.options.now.line_terminator in
     let all = ap (map f) (take_all c.loop-place.place columns (omega arith)) ∙ map-names (written_text (cell_options c.args.options.now)) columns in
     two_parts c.push_terminator.result old c.loop-place.block.items c.push_terminator.new.block.items (join_with_byte s (map f (take c.loop-place.place columns))) end
-        (header_line (cell_options c.args.options.now) (names_of columns)) c.loop-place.invariant (ap (λ l. join_with_byte s l ++ end) all) c.push_terminator.ensures
+    (header_line (cell_options c.args.options.now) (names_of columns)) c.loop-place.invariant (ap (λ l. join_with_byte s l ++ end) all) c.push_terminator.ensures

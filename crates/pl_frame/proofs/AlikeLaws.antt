@@ -1,13 +1,16 @@
 -- Laws of tests of two lists, element by element.
-use Rattle.std.proofs.Common.{◌≡◌, ℕ, zero, suc, ◌+◌, ◌<◌, Bool, true, false, ◌&&◌, List, [], ◌∷◌, length, get_or, nat_lt, slice_get, unwrap_or, subst, Option, None, Some, map, refl, sym, ◌∙◌, ap, arith}
+use Rattle.std.proofs.Common.{◌≡◌, ℕ, ℤ, zero, suc, ◌+◌, ◌<◌, Bool, true, false, not, ◌&&◌, List, [], ◌∷◌, length, get_or, nat_lt, slice_get, unwrap_or, subst, Option, None, Some, map, refl, sym, ◌∙◌, ap, arith}
 use borrow.Author.Tests.{ltb-true, ltb-false}
 use Rattle.std.specs.Cmp.Lexicographic.{pointwise}
 use Rattle.pl_frame.specs.contracts.column.ValuePartialEq.TheImpl as values
 use Rattle.pl_frame.specs.declared.column.Value.{Value}
 use Rattle.pl_frame.specs.declared.column.Value.TheVariants as value
-use Rattle.pl_frame.specs.Columns.{scalar_of}
+use Rattle.std.specs.Option.{option_eq, option_map}
+use Rattle.std.specs.Ordering.{int_eq}
+use Rattle.std.proofs.lemmas.Option.{get_or_from_slice_get}
+use Rattle.pl_frame.specs.Columns.{scalar_of, number_cells}
 use Rattle.pl_frame.specs.Equal.{cells_equal}
-use Rattle.pl_frame.specs.Frame.{Scalar}
+use Rattle.pl_frame.specs.Frame.{Scalar, Number}
 
 -- a test of items, and one of what they show
 pub pointwise-map : {X Y : Type 0} (f : X → Y) (D : X → X → Bool) (E : Y → Y → Bool) → ((a b : X) → D a b ≡ E (f a) (f b)) → (xs ys : List X) →
@@ -73,3 +76,23 @@ values_same (value.Text s) (value.Text t) = refl
 pub row_told : (xs ys : List (Option Scalar)) (i : ℕ) (told : Bool) (a b : Option Scalar) → a ≡ unwrap_or (slice_get xs i) None → b ≡ unwrap_or (slice_get ys i) None →
     told ≡ cells_equal a b → cells_equal (get_or xs i None) (get_or ys i None) ≡ told
 row_told xs ys i told a b here there e = sym (e ∙ (λ j. cells_equal ((here ∙ cell_is xs i) j) ((there ∙ cell_is ys i) j)))
+
+-- the same of numbers
+pub number_told : (xs ys : List (Option ℤ)) (i : ℕ) (told : Bool) (a b : Option ℤ) → slice_get xs i ≡ Some a → slice_get ys i ≡ Some b → told ≡ option_eq int_eq a b →
+    option_eq int_eq (get_or xs i None) (get_or ys i None) ≡ told
+number_told xs ys i told a b here there e =
+    (λ j. option_eq int_eq (get_or_from_slice_get xs i a None here j) (get_or_from_slice_get ys i b None there j)) ∙ sym e
+
+pub false_from_not : (b : Bool) → not b ≡ true → b ≡ false
+false_from_not true h = sym h
+false_from_not false h = refl
+
+option_same : (a b : Option ℤ) → option_eq int_eq a b ≡ cells_equal (option_map Number a) (option_map Number b)
+option_same None None = refl
+option_same None (Some n) = refl
+option_same (Some m) None = refl
+option_same (Some m) (Some n) = refl
+
+-- equal numbers, and equal cells
+pub numbers_same : (xs ys : List (Option ℤ)) → pointwise (option_eq int_eq) xs ys ≡ pointwise cells_equal (number_cells xs) (number_cells ys)
+numbers_same xs ys = pointwise-map (option_map Number) (option_eq int_eq) cells_equal option_same xs ys

@@ -13,6 +13,7 @@ use Rattle.pl_frame.specs.Frame.{Scalar, Truth, Number, Letters, ColumnValue}
 use Rattle.pl_frame.specs.Types.{Range, range_of, is_within}
 use Rattle.pl_frame.proofs.AlikeLaws.{cell_is}
 use Rattle.pl_frame.proofs.CategoryLaws.{known, text_at_place, text_for}
+use Rattle.pl_frame.proofs.CellLaws.{cell_of}
 use Rattle.pl_frame.proofs.ColumnLaws.{position-nowhere, true_from_not}
 use Rattle.pl_frame.proofs.SchemaLaws.{none_passes}
 
@@ -22,6 +23,10 @@ pub row_more : {Y : Type 0} (f : Option Scalar → Y) (values : List (Option Sca
 row_more f values made new i v y l before at is e =
     e ∙ ap (λ m. m ++ y ∷ []) before ∙ ap (λ z. map f (take i values) ++ z ∷ []) (is ∙ ap f (at ∙ cell_is values i))
     ∙ sym (map-append f (take i values) (get_or values i None ∷ [])) ∙ ap (map f) (sym (take_more values i None l))
+
+-- the cell of a row of numbers
+pub number_cell : (numbers : List (Option ℤ)) (i : ℕ) (number : Option ℤ) → slice_get numbers i ≡ Some number → option_map Number number ≡ unwrap_or (slice_get (number_cells numbers) i) None
+number_cell numbers i number at = ap (option_map Number) (ap (λ o. unwrap_or o None) (sym at)) ∙ sym (cell_of Number numbers i)
 
 -- ---- what a cast gives is of the type
 

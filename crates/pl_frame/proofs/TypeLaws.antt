@@ -27,7 +27,7 @@ choices_told (Fs ∷ Fss) each all (inl x) (inr y) e = absurd (true≢false (sym
 choices_told (Fs ∷ Fss) each all (inr x) (inl y) e = absurd (true≢false (sym e))
 choices_told (Fs ∷ Fss) each all (inr x) (inr y) e = ap inr (choices_told Fss each.1 all.1 x y e)
 
-options_told : {X : Type 0} (E : X → X → Bool) → ((x y : X) → E x y ≡ true → x ≡ y) → (a b : Option X) → option_eq E a b ≡ true → a ≡ b
+pub options_told : {X : Type 0} (E : X → X → Bool) → ((x y : X) → E x y ≡ true → x ≡ y) → (a b : Option X) → option_eq E a b ≡ true → a ≡ b
 options_told E each None None e = refl
 options_told E each None (Some y) e = absurd (true≢false (sym e))
 options_told E each (Some x) None e = absurd (true≢false (sym e))

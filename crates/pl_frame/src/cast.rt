@@ -1,8 +1,9 @@
 //! Columns under another type.
 ghost use Rattle.std.specs.Prelude.{◌≡◌, ◌++◌, ◌∷◌, [], true, map, IfOk, OnOk, IsOkUnless, None, Some};
+ghost use Rattle.std.specs.Option.{option_map};
 ghost use Rattle.pl_frame.specs.Casts.{is_string, is_cast, is_other_cast, number_in, cast_column};
 ghost use Rattle.pl_frame.specs.Categories.{code_of};
-ghost use Rattle.pl_frame.specs.Columns.{scalar_of, text_in, is_coded, HoldsType};
+ghost use Rattle.pl_frame.specs.Columns.{number_cells, scalar_of, text_in, is_coded, HoldsType};
 ghost use Rattle.pl_frame.specs.declared.error.PolarsError.TheVariants as error;
 ghost use Rattle.pl_frame.specs.Frame.{Number};
 ghost use Rattle.pl_frame.specs.Names.{first_repeat};
@@ -161,6 +162,37 @@ fn narrow_within(
     requires { is_narrow (from_to range.now.low range.now.high) ≡ true }
     ensures { IfOk result (λ numbers. numbers ≡ map (number_in (from_to range.now.low range.now.high)) column.now.values) }
 {
+    match column.narrow_numbers() {
+        Some(numbers) => narrow_of_narrow(alloc, numbers, range),
+        None => narrow_of_rows(alloc, column, range),
+    }
+}
+
+// The same of numbers that are kept in 64 bits.
+fn narrow_of_narrow(
+    alloc: Global,
+    numbers: &Numbers<i64>,
+    range: &NumberRange,
+) -> Result<Numbers<i64>, AllocError>
+    ensures { IfOk result (λ cast. cast ≡ map (number_in (from_to range.now.low range.now.high)) (number_cells numbers.now)) }
+{
+    let mut cast = Numbers::new(alloc);
+    cast.reserve(numbers.len())?;
+    for row in 0..numbers.len() {
+        push_option(&mut cast, narrow_in(numbers.get(row), range))?;
+    }
+    Ok(cast)
+}
+
+// The same row by row, however the numbers are kept.
+fn narrow_of_rows(
+    alloc: Global,
+    column: &Column,
+    range: &NumberRange,
+) -> Result<Numbers<i64>, AllocError>
+    requires { is_narrow (from_to range.now.low range.now.high) ≡ true }
+    ensures { IfOk result (λ numbers. numbers ≡ map (number_in (from_to range.now.low range.now.high)) column.now.values) }
+{
     let mut numbers = Numbers::new(alloc);
     numbers.reserve(column.len())?;
     for row in 0..column.len() {
@@ -284,6 +316,17 @@ fn number_within(number: i128, range: &NumberRange) -> Option<i128>
     }
 }
 
+// The number, where it lies in the range.
+#[inline]
+fn narrow_in(number: Option<i64>, range: &NumberRange) -> Option<i64>
+    ensures { result ≡ number_in (from_to range.now.low range.now.high) (option_map Number number) }
+{
+    match number {
+        Some(number) if range.contains(i128::from(number)) => Some(number),
+        _ => None,
+    }
+}
+
 // The place of the text in a cell.
 #[inline]
 fn place_in(categories: &Places, value: Value<'_>) -> Option<u64>
@@ -302,5 +345,103 @@ fn place_of(categories: &Places, text: &str) -> Option<u64>
     match categories.find(text) {
         Some(place) => Some(place as u64),
         None => None,
+    }
+}
+
+#[cfg(test)]
+mod tests {
+    use super::*;
+    use crate::frame::DataFrame;
+    use std::test::Fail;
+
+    fn name(alloc: Global) -> Result<PlSmallStr, Fail> {
+        Ok(PlSmallStr::from_str(alloc, "n")?)
+    }
+
+    // Whether a column can be cast, and then has these cells.
+    fn casts(
+        alloc: Global,
+        column: &Column,
+        to: DataType,
+        cells: &[Value<'_>],
+    ) -> Result<bool, Fail> {
+        if !column.dtype().casts_to(&to) {
+            return Ok(false);
+        }
+        let cast = column.cast(alloc, &to)?;
+        if cast.name() != column.name() || *cast.dtype() != to || cast.len() != cells.len() {
+            return Ok(false);
+        }
+        for (row, cell) in cells.iter().enumerate() {
+            if row >= cast.len() || cast.get(row) != *cell {
+                return Ok(false);
+            }
+        }
+        Ok(true)
+    }
+
+    fn enumeration(alloc: Global) -> Result<DataType, Fail> {
+        let texts = vec![in alloc;
+            PlSmallStr::from_str(alloc, "x")?,
+            PlSmallStr::from_str(alloc, "q")?,
+        ]?;
+        Ok(DataType::Enum(Some(Categories::new(texts))))
+    }
+
+    #[test]
+    fn whole_numbers_out_of_range_become_null(rt: HostRuntime) -> Result<(), Fail> {
+        let alloc = rt.alloc();
+        let given = vec![in alloc; Some(300), None, Some(-1), Some(255)]?;
+        let column = Column::whole(alloc, name(alloc)?, DataType::Int64, given)?;
+        let (null, minus, high) = (Value::Null, Value::Whole(-1), Value::Whole(255));
+        assert!(rt; casts(alloc, &column, DataType::UInt8, &[null, null, null, high])?);
+        assert!(rt; casts(alloc, &column, DataType::Int8, &[null, null, minus, null])?);
+        let whole = Value::Whole(300);
+        assert!(rt; casts(alloc, &column, DataType::UInt64, &[whole, null, null, high])?);
+        assert!(rt; casts(alloc, &column, DataType::Int64, &[whole, null, minus, high])?);
+        assert!(rt; !casts(alloc, &column, DataType::Date, &[whole, null, minus, high])?);
+        assert!(rt;
+            !casts(
+                alloc,
+                &column,
+                DataType::String,
+                &[whole, null, minus, high]
+            )?
+        );
+        Ok(())
+    }
+
+    #[test]
+    fn categories_become_texts_and_back(rt: HostRuntime) -> Result<(), Fail> {
+        let alloc = rt.alloc();
+        let given = vec![in alloc;
+            Some(PlSmallStr::from_str(alloc, "q")?),
+            None,
+            Some(PlSmallStr::from_str(alloc, "p")?),
+        ]?;
+        let column = Column::text(alloc, name(alloc)?, DataType::Categorical, given)?;
+        let (null, q, p) = (Value::Null, Value::Text("q"), Value::Text("p"));
+        assert!(rt; casts(alloc, &column, DataType::String, &[q, null, p])?);
+        assert!(rt; !casts(alloc, &column, enumeration(alloc)?, &[q, null, null])?);
+        if column.dtype().casts_to(&DataType::String) {
+            let texts = column.cast(alloc, &DataType::String)?;
+            assert!(rt; casts(alloc, &texts, DataType::Categorical, &[q, null, p])?);
+            assert!(rt; casts(alloc, &texts, enumeration(alloc)?, &[q, null, null])?);
+        }
+        Ok(())
+    }
+
+    #[test]
+    fn frame_casts_a_column(rt: HostRuntime) -> Result<(), Fail> {
+        let alloc = rt.alloc();
+        let given = vec![in alloc; Some(300)]?;
+        let column = Column::whole(alloc, name(alloc)?, DataType::Int64, given)?;
+        let mut frame = DataFrame::new(alloc, vec![in alloc; column]?)?;
+        frame.cast(0, &DataType::UInt8)?;
+        let given = vec![in alloc; None]?;
+        let column = Column::whole(alloc, name(alloc)?, DataType::UInt8, given)?;
+        let expected = DataFrame::new(alloc, vec![in alloc; column]?)?;
+        assert!(rt; frame.equals(&expected));
+        Ok(())
     }
 }

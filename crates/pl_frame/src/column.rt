@@ -1,5 +1,5 @@
 //! Columns: a name, a type and values of that type.
-ghost use Rattle.std.specs.Prelude.{◌≡◌, ◌<◌, true, length, IfOk, IsOk, IsOkUnless, count_by, is_none, replicate, slice_get, slice_index_or, unwrap_or, [], None};
+ghost use Rattle.std.specs.Prelude.{◌≡◌, ◌<◌, true, length, IfOk, IfSome, IsOk, IsOkUnless, count_by, is_none, replicate, slice_get, slice_index_or, unwrap_or, [], None};
 ghost use Rattle.std.specs.Option.{option_map};
 ghost use Rattle.pl_frame.specs.Categories.{AreCodes, decoded};
 ghost use Rattle.pl_frame.specs.Columns.{scalar_of, truth_cells, number_cells, text_cells, is_number, is_coded, is_enum, categories_of, HoldsType, dictionary, code_at};
@@ -251,6 +251,17 @@ impl Column {
             Data::Categories(texts) => text_value(texts.get(row)),
             Data::Enum(places) => text_value(category_at(&self.dtype, places, row)),
             Data::Null(_) => Value::Null,
+        }
+    }
+
+    // The numbers, where they are kept in 64 bits.
+    #[inline]
+    pub(crate) fn narrow_numbers(&self) -> Option<&Numbers<i64>>
+        ensures { IfSome result (λ numbers. number_cells numbers.now ≡ self.now.values) }
+    {
+        match &self.kept {
+            Data::Narrow(numbers) => Some(numbers),
+            _ => None,
         }
     }
 

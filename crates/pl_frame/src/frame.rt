@@ -1,5 +1,6 @@
 //! Frames: columns of one height with distinct names.
 ghost use Rattle.std.specs.Prelude.{◌≡◌, ◌<◌, length, IfSome, IfOk, OnOk, OnErr, IfErr, true, IsOkUnless, None, Some, slice_index_or, []};
+ghost use Rattle.std.specs.Bool.{Decides};
 ghost use Rattle.std.specs.Cmp.{partial_equiv_from_equiv};
 ghost use Rattle.std.specs.Cmp.Lexicographic.{lists_equiv, lists_per, pointwise};
 ghost use Rattle.pl_frame.specs.Casts.{can_cast, with_cast};
@@ -73,9 +74,9 @@ impl DataFrame {
         Ok(DataFrame { columns })
     }
 
-    /// Whether another frame has equal columns in the same order, without taking memory.
+    /// Whether another frame is the same: equal columns in the same order. Takes no memory.
     pub fn equals(&self, other: &DataFrame) -> bool
-        ensures { result ≡ pointwise columns_equal self.now other.now }
+        ensures { Decides result (self.now ≡ other.now) }
     {
         self == other
     }

@@ -2,7 +2,7 @@ use Rattle.std.proofs.Common.{◌∙◌, arith}
 use Rattle.pl_frame.specs.Casts.{number_in}
 use Rattle.pl_frame.specs.Types.{from_to}
 use Rattle.pl_frame.proofs.CastLaws.{row_more}
-use Rattle.pl_frame.proofs.cast.narrow_within.Goals as goal
+use Rattle.pl_frame.proofs.cast.narrow_of_rows.Goals as goal
 
 pub loop-row-preserved : goal.loop-row-preserved
 loop-row-preserved c =

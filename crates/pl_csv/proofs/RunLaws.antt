@@ -1,6 +1,6 @@
 -- What a run answers, by its outcome.
 use Rattle.std.proofs.Common.{◌≡◌, ◌≢◌, ℕ, ◌^◌, ◌<◌, ◌≤◌, ◌==◌, if◌then◌else◌, Bool, true, false, List, ◌++◌, length, refl, sym, ◌∙◌, ap, subst, append-nil, arith, inl, inr, length-append}
-use Rattle.std.specs.Prelude.{Option, None, Some, IsSome, ◌⊎◌}
+use Rattle.std.specs.Prelude.{Option, None, Some, IsSome}
 use Rattle.std.specs.Io.KnownBytes.{Consumes, IsAtEnd}
 use Rattle.pl_frame.specs.Frame.{ColumnValue}
 use Rattle.pl_csv.specs.declared.reading.ReadFault.{ReadFault}
@@ -8,8 +8,8 @@ use Rattle.pl_csv.specs.declared.reading.ReadFault.TheVariants as read_fault
 use Rattle.pl_csv.specs.declared.run.Refusal.{Refusal}
 use Rattle.pl_csv.specs.declared.run.Refusal.TheVariants as refusal
 use Rattle.pl_csv.specs.declared.settings.Settings.{Settings}
-use Rattle.pl_csv.specs.Reading.{IsRead, IsReadFault, is_faulty}
-use Rattle.pl_csv.specs.Run.{HasRead, HasCause, IsValid, IsInvalid, Views, IsRefused, status_of, status_of_fault, IsDue, EndsAsDue, Converted}
+use Rattle.pl_csv.specs.Reading.{IsValidRead, IsReadFault, is_faulty}
+use Rattle.pl_csv.specs.Run.{HasRead, HasCause, Views, IsRefused, status_of, status_of_fault, IsDue, EndsAsDue, Converted}
 use Rattle.pl_csv.specs.Words.{settings_of_words}
 
 -- an input that is known is the one that was read
@@ -42,55 +42,69 @@ true_false : (b : Bool) → b ≡ true → b ≡ false → ⊥
 true_false true one other = cc
 true_false false one other = cc
 
--- an input that has a reference read has no fault
-no_fault : (s : Settings) (input : List ℕ) (frame : List ColumnValue) (fault : ReadFault) → IsRead s input frame → IsReadFault s input fault → fault ≢ read_fault.OutOfMemory → ⊥
-no_fault s input frame read_fault.Dialect read is other = is read.can_start.0
-no_fault s input frame read_fault.Option read is other = read.can_start.1 is.1
-no_fault s input frame read_fault.Compressed read is other = true_false _ is.1 read.no_mark
-no_fault s input frame read_fault.Skip read is other = none_some _ read.records is.2 read.place
+-- an input whose frame can be written has no fault
+no_fault : (s : Settings) (input : List ℕ) (frame : List ColumnValue) (fault : ReadFault) → IsValidRead s input frame → IsReadFault s input fault → fault ≢ read_fault.OutOfMemory → ⊥
+no_fault s input frame read_fault.Dialect read is other = is read.1.can_start.0
+no_fault s input frame read_fault.Option read is other = read.1.can_start.1 is.1
+no_fault s input frame read_fault.Quote read is other = omega (arith, read.0, is.1)
+no_fault s input frame read_fault.Compressed read is other = true_false _ is.1 read.1.no_mark
+no_fault s input frame read_fault.Skip read is other = none_some _ read.1.records is.2 read.1.place
 no_fault s input frame read_fault.Record read is other =
-    let same = same_some _ is.2 read.records is.3 read.place in
-    true_false _ (sym (ap (is_faulty s) same) ∙ is.4) read.whole
+    let same = same_some _ is.2 read.1.records is.3 read.1.place in
+    true_false _ (sym (ap (is_faulty s) same) ∙ is.4) read.1.whole
 no_fault s input frame read_fault.OutOfMemory read is other = other refl
 
 -- an input has one first cause
 one_fault : (s : Settings) (input : List ℕ) (f g : ReadFault) → IsReadFault s input f → IsReadFault s input g → f ≢ read_fault.OutOfMemory → g ≢ read_fault.OutOfMemory → f ≡ g
 one_fault s input read_fault.Dialect read_fault.Dialect x y known_x known_y = refl
 one_fault s input read_fault.Dialect read_fault.Option x y known_x known_y = absurd (x y.0)
-one_fault s input read_fault.Dialect read_fault.Compressed x y known_x known_y = absurd (x y.0.0)
-one_fault s input read_fault.Dialect read_fault.Skip x y known_x known_y = absurd (x y.0.0)
-one_fault s input read_fault.Dialect read_fault.Record x y known_x known_y = absurd (x y.0.0)
+one_fault s input read_fault.Dialect read_fault.Quote x y known_x known_y = absurd (x y.0.0)
+one_fault s input read_fault.Dialect read_fault.Compressed x y known_x known_y = absurd (x y.0.0.0)
+one_fault s input read_fault.Dialect read_fault.Skip x y known_x known_y = absurd (x y.0.0.0)
+one_fault s input read_fault.Dialect read_fault.Record x y known_x known_y = absurd (x y.0.0.0)
 one_fault s input read_fault.Dialect read_fault.OutOfMemory x y known_x known_y = absurd (known_y refl)
 one_fault s input read_fault.Option read_fault.Dialect x y known_x known_y = absurd (y x.0)
 one_fault s input read_fault.Option read_fault.Option x y known_x known_y = refl
-one_fault s input read_fault.Option read_fault.Compressed x y known_x known_y = absurd (y.0.1 x.1)
-one_fault s input read_fault.Option read_fault.Skip x y known_x known_y = absurd (y.0.1 x.1)
-one_fault s input read_fault.Option read_fault.Record x y known_x known_y = absurd (y.0.1 x.1)
+one_fault s input read_fault.Option read_fault.Quote x y known_x known_y = absurd (y.0.1 x.1)
+one_fault s input read_fault.Option read_fault.Compressed x y known_x known_y = absurd (y.0.0.1 x.1)
+one_fault s input read_fault.Option read_fault.Skip x y known_x known_y = absurd (y.0.0.1 x.1)
+one_fault s input read_fault.Option read_fault.Record x y known_x known_y = absurd (y.0.0.1 x.1)
 one_fault s input read_fault.Option read_fault.OutOfMemory x y known_x known_y = absurd (known_y refl)
-one_fault s input read_fault.Compressed read_fault.Dialect x y known_x known_y = absurd (y x.0.0)
-one_fault s input read_fault.Compressed read_fault.Option x y known_x known_y = absurd (x.0.1 y.1)
+one_fault s input read_fault.Quote read_fault.Dialect x y known_x known_y = absurd (y x.0.0)
+one_fault s input read_fault.Quote read_fault.Option x y known_x known_y = absurd (x.0.1 y.1)
+one_fault s input read_fault.Quote read_fault.Quote x y known_x known_y = refl
+one_fault s input read_fault.Quote read_fault.Compressed x y known_x known_y = absurd (omega (arith, x.1, y.0.1))
+one_fault s input read_fault.Quote read_fault.Skip x y known_x known_y = absurd (omega (arith, x.1, y.0.1))
+one_fault s input read_fault.Quote read_fault.Record x y known_x known_y = absurd (omega (arith, x.1, y.0.1))
+one_fault s input read_fault.Quote read_fault.OutOfMemory x y known_x known_y = absurd (known_y refl)
+one_fault s input read_fault.Compressed read_fault.Dialect x y known_x known_y = absurd (y x.0.0.0)
+one_fault s input read_fault.Compressed read_fault.Option x y known_x known_y = absurd (x.0.0.1 y.1)
+one_fault s input read_fault.Compressed read_fault.Quote x y known_x known_y = absurd (omega (arith, y.1, x.0.1))
 one_fault s input read_fault.Compressed read_fault.Compressed x y known_x known_y = refl
 one_fault s input read_fault.Compressed read_fault.Skip x y known_x known_y = absurd (true_false _ x.1 y.1)
 one_fault s input read_fault.Compressed read_fault.Record x y known_x known_y = absurd (true_false _ x.1 y.1)
 one_fault s input read_fault.Compressed read_fault.OutOfMemory x y known_x known_y = absurd (known_y refl)
-one_fault s input read_fault.Skip read_fault.Dialect x y known_x known_y = absurd (y x.0.0)
-one_fault s input read_fault.Skip read_fault.Option x y known_x known_y = absurd (x.0.1 y.1)
+one_fault s input read_fault.Skip read_fault.Dialect x y known_x known_y = absurd (y x.0.0.0)
+one_fault s input read_fault.Skip read_fault.Option x y known_x known_y = absurd (x.0.0.1 y.1)
+one_fault s input read_fault.Skip read_fault.Quote x y known_x known_y = absurd (omega (arith, y.1, x.0.1))
 one_fault s input read_fault.Skip read_fault.Compressed x y known_x known_y = absurd (true_false _ y.1 x.1)
 one_fault s input read_fault.Skip read_fault.Skip x y known_x known_y = refl
 one_fault s input read_fault.Skip read_fault.Record x y known_x known_y = absurd (none_some _ y.2 x.2 y.3)
 one_fault s input read_fault.Skip read_fault.OutOfMemory x y known_x known_y = absurd (known_y refl)
-one_fault s input read_fault.Record read_fault.Dialect x y known_x known_y = absurd (y x.0.0)
-one_fault s input read_fault.Record read_fault.Option x y known_x known_y = absurd (x.0.1 y.1)
+one_fault s input read_fault.Record read_fault.Dialect x y known_x known_y = absurd (y x.0.0.0)
+one_fault s input read_fault.Record read_fault.Option x y known_x known_y = absurd (x.0.0.1 y.1)
+one_fault s input read_fault.Record read_fault.Quote x y known_x known_y = absurd (omega (arith, y.1, x.0.1))
 one_fault s input read_fault.Record read_fault.Compressed x y known_x known_y = absurd (true_false _ y.1 x.1)
 one_fault s input read_fault.Record read_fault.Skip x y known_x known_y = absurd (none_some _ x.2 y.2 x.3)
 one_fault s input read_fault.Record read_fault.Record x y known_x known_y = refl
 one_fault s input read_fault.Record read_fault.OutOfMemory x y known_x known_y = absurd (known_y refl)
 one_fault s input read_fault.OutOfMemory read_fault.Dialect x y known_x known_y = absurd (known_x refl)
 one_fault s input read_fault.OutOfMemory read_fault.Option x y known_x known_y = absurd (known_x refl)
+one_fault s input read_fault.OutOfMemory read_fault.Quote x y known_x known_y = absurd (known_x refl)
 one_fault s input read_fault.OutOfMemory read_fault.Compressed x y known_x known_y = absurd (known_x refl)
 one_fault s input read_fault.OutOfMemory read_fault.Skip x y known_x known_y = absurd (known_x refl)
 one_fault s input read_fault.OutOfMemory read_fault.Record x y known_x known_y = absurd (known_x refl)
-one_fault s input read_fault.OutOfMemory read_fault.OutOfMemory x y known_x known_y = absurd (known_y refl)
+one_fault s input read_fault.OutOfMemory read_fault.OutOfMemory x y known_x known_y = absurd (known_x refl)
 
 -- words and a known input that were read have settings and a length that are known
 pub record WasRead (words : List (List ℕ)) (input : List ℕ) : Type 0 where
@@ -103,14 +117,14 @@ was_read words input left left_now read told =
     record { settings = read.settings; meaning = read.meaning; within = subst (λ i. length i ≤ 2 ^ 36) (sym (known_input words input left left_now read told)) read.within }
 
 -- what is due to an input that has a reference read
-due-read : (words : List (List ℕ)) (input : List ℕ) (status : ℕ) (was : WasRead words input) (frame : List ColumnValue) → IsRead was.settings input frame → IsDue words input status → status ≡ 0
+due-read : (words : List (List ℕ)) (input : List ℕ) (status : ℕ) (was : WasRead words input) (frame : List ColumnValue) → IsValidRead was.settings input frame → IsDue words input status → status ≡ 0
 due-read words input status was frame read (inl due) = absurd (none_some _ was.settings due.0 was.meaning)
 due-read words input status was frame read (inr (inl due)) = absurd (omega (arith, due.1, was.within))
 due-read words input status was frame read (inr (inr (inl due))) = due.1
 due-read words input status was frame read (inr (inr (inr due))) =
     let invalid = due.1 in
     let same = same_some _ was.settings invalid.settings was.meaning invalid.meaning in
-    absurd (no_fault invalid.settings input frame due.0 (subst (λ s. IsRead s input frame) same read) invalid.cause invalid.known)
+    absurd (no_fault invalid.settings input frame due.0 (subst (λ s. IsValidRead s input frame) same read) invalid.cause invalid.known)
 
 -- what is due to an input that has none
 due-fault : (words : List (List ℕ)) (input : List ℕ) (status : ℕ) (was : WasRead words input) (fault : ReadFault) → IsReadFault was.settings input fault → fault ≢ read_fault.OutOfMemory
@@ -140,7 +154,7 @@ pub due-converted : (words : List (List ℕ)) (before now : Views) (input : List
 due-converted words before now input status converted told due =
     let read = converted.read in
     let same = known_input words input before.left now.left read told in
-    inl (sym (due-read words input status (was_read words input before.left now.left read told) converted.is.0 (subst (λ i. IsRead read.settings i converted.is.0) (sym same) converted.is.1) due))
+    inl (sym (due-read words input status (was_read words input before.left now.left read told) converted.is.0 (subst (λ i. IsValidRead read.settings i converted.is.0) (sym same) converted.is.1) due))
 
 -- a cause, and no want of memory
 abbrev is_known : ReadFault → Bool
@@ -177,7 +191,7 @@ due-refused words before now input status refusal.Sink is told due =
     let part = is.1 in
     let read = part.read in
     let same = known_input words input before.left now.left read told in
-    inr (inr (inr (refl, due-read words input status (was_read words input before.left now.left read told) part.is.0 (subst (λ i. IsRead read.settings i part.is.0) (sym same) part.is.1) due, is.0)))
+    inr (inr (inr (refl, due-read words input status (was_read words input before.left now.left read told) part.is.0 (subst (λ i. IsValidRead read.settings i part.is.0) (sym same) part.is.1) due, is.0)))
 due-refused words before now input status refusal.OutOfMemory is told due = inr (inl refl)
 due-refused words before now input status refusal.TooLong is told due =
     let came = is.1 in
@@ -187,6 +201,8 @@ due-refused words before now input status refusal.Dialect is told due =
     inl (sym (due-cause words before.left now.left input status read_fault.Dialect is.0 (other_fault read_fault.Dialect refl) told due))
 due-refused words before now input status refusal.Option is told due =
     inl (sym (due-cause words before.left now.left input status read_fault.Option is.0 (other_fault read_fault.Option refl) told due))
+due-refused words before now input status refusal.Quote is told due =
+    inl (sym (due-cause words before.left now.left input status read_fault.Quote is.0 (other_fault read_fault.Quote refl) told due))
 due-refused words before now input status refusal.Compressed is told due =
     inl (sym (due-cause words before.left now.left input status read_fault.Compressed is.0 (other_fault read_fault.Compressed refl) told due))
 due-refused words before now input status refusal.Skip is told due =
@@ -203,6 +219,7 @@ named status =
     else if status == 6 then refusal.TooLong
     else if status == 11 then refusal.Dialect
     else if status == 12 then refusal.Option
+    else if status == 13 then refusal.Quote
     else if status == 14 then refusal.Compressed
     else if status == 20 then refusal.Skip
     else if status == 24 then refusal.Record
@@ -216,6 +233,7 @@ named-status refusal.OutOfMemory = refl
 named-status refusal.TooLong = refl
 named-status refusal.Dialect = refl
 named-status refusal.Option = refl
+named-status refusal.Quote = refl
 named-status refusal.Compressed = refl
 named-status refusal.Skip = refl
 named-status refusal.Record = refl

@@ -1,5 +1,5 @@
 -- The schema of a text, entry by entry.
-use Rattle.std.proofs.Common.{◌≡◌, ℕ, ◌+◌, ◌-◌, ◌*◌, ◌^◌, ◌<◌, ◌≤◌, Bool, true, false, not, cond, if◌then◌else◌, ◌&&◌, ◌||◌, List, [], ◌∷◌, ◌++◌, map, length, position, suc, refl, sym, ◌∙◌, ap, append_assoc, append-nil, arith, lit<}
+use Rattle.std.proofs.Common.{◌≡◌, ℕ, ◌+◌, ◌-◌, ◌*◌, ◌^◌, ◌<◌, ◌≤◌, Bool, true, false, not, cond, if◌then◌else◌, ◌&&◌, ◌||◌, ◌==◌, List, [], ◌∷◌, ◌++◌, map, length, position, suc, refl, sym, ◌∙◌, ap, append_assoc, append-nil, arith, lit<}
 use Rattle.std.specs.Prelude.{Option, Some, None, codes, is_some, slice_set, MatchOption, ◌≢◌}
 use Rattle.std.specs.Borrow.{Bor}
 use Rattle.std.specs.List.{list_all, list_any, position_or_len, slice_split, onto_first, before_first, after_first}
@@ -23,9 +23,12 @@ use Rattle.std.specs.Char.{is_ascii_digit}
 use Rattle.pl_cells.specs.Integers.{number_after, number_of, number_below}
 use Rattle.pl_cells.proofs.IntegerLaws.{digit_small}
 use Rattle.pl_csv.specs.Reading.{types_of}
-use Rattle.pl_csv.specs.Words.{named_type, entry_of, all_of, are_distinct, schema_of, is_comma, is_colon, is_equals_sign, at_equals_sign, Part, parts_of, count_of, with_value, with_part, with_parts, settings_of_given}
+use Rattle.pl_csv.specs.Words.{named_type, entry_of, all_of, are_distinct, schema_of, is_comma, is_colon, is_equals_sign, at_equals_sign, Part, parts_of, count_of, once, with_value, with_output, with_part, with_parts, settings_of_given}
 use Rattle.pl_csv.specs.declared.settings.Settings.{Settings}
 use Rattle.pl_csv.specs.declared.options.Given.{Given}
+use Rattle.pl_csv.specs.declared.output.GivenOutput.{GivenOutput}
+use Rattle.pl_scan.specs.Comment.{prefix_from}
+use Rattle.pl_scan.specs.declared.comment.CommentPrefix.{CommentPrefix}
 
 abbrev Named : Type 0
 Named = List ℕ × DataType
@@ -311,14 +314,38 @@ differs a b unlike = by (bytes_eq a b) refl
     by true e = absurd (unlike ((bytes_eq-Decides a b).0 e))
     by false e = e
 
--- an unknown name
-pub with_value-unknown : (given : Given) (name value : List ℕ)
+pub nonempty : (value : List ℕ) → (length value == 0) ≡ false → 0 < length value
+nonempty value is = grind (arith, nat_tests, is)
+
+-- the comment prefix
+pub with_value-comment : (given : Given) (name value : List ℕ) (prefix : Option CommentPrefix) → 0 < length value → name ≡ codes "--comment"
+    → once given.comment_prefix (Some (prefix_from value)) ≡ Some prefix → with_value given name value ≡ Some (record given { comment_prefix = prefix })
+with_value-comment given name [] prefix some is e = absurd (omega (arith, some))
+with_value-comment given name (x ∷ xs) prefix some is e =
+    ap (λ n. with_value given n (x ∷ xs)) is ∙ ap (option_map (λ (o : Option CommentPrefix). record given { comment_prefix = o })) e
+
+-- a name that is none of the input's
+pub with_value-other : (given : Given) (name value : List ℕ) → 0 < length value
     → name ≢ codes "--schema" → name ≢ codes "--sep" → name ≢ codes "--quote" → name ≢ codes "--eol"
     → name ≢ codes "--comment" → name ≢ codes "--skip-lines" → name ≢ codes "--skip-rows" → name ≢ codes "--skip-after"
-    → with_value given name value ≡ None
-with_value-unknown given name [] a b c d e f g h = refl
-with_value-unknown given name (x ∷ xs) a b c d e f g h =
+    → with_value given name value ≡ option_map (λ (o : GivenOutput). record given { output = o }) (with_output given.output name value)
+with_value-other given name [] some a b c d e f g h = absurd (omega (arith, some))
+with_value-other given name (x ∷ xs) some a b c d e f g h =
     rw (differs name _ a, differs name _ b, differs name _ c, differs name _ d, differs name _ e, differs name _ f, differs name _ g, differs name _ h) refl
+
+pub with_value-output : (given : Given) (name value : List ℕ) (output : GivenOutput) → with_value given name value ≡ option_map (λ (o : GivenOutput). record given { output = o }) (with_output given.output name value)
+    → with_output given.output name value ≡ Some output → with_value given name value ≡ Some (record given { output = output })
+with_value-output given name value output other e = other ∙ ap (option_map (λ (o : GivenOutput). record given { output = o })) e
+
+pub with_value-none : (given : Given) (name value : List ℕ) → with_value given name value ≡ option_map (λ (o : GivenOutput). record given { output = o }) (with_output given.output name value)
+    → with_output given.output name value ≡ None → with_value given name value ≡ None
+with_value-none given name value other e = other ∙ ap (option_map (λ (o : GivenOutput). record given { output = o })) e
+
+-- an unknown name
+pub with_output-unknown : (given : GivenOutput) (name value : List ℕ)
+    → name ≢ codes "--out-sep" → name ≢ codes "--out-quote" → name ≢ codes "--out-null" → name ≢ codes "--out-eol" → name ≢ codes "--style"
+    → with_output given name value ≡ None
+with_output-unknown given name value a b c d e = rw (differs name _ a, differs name _ b, differs name _ c, differs name _ d, differs name _ e) refl
 
 -- the settings that words mean behind what is given
 abbrev pub settings_from : Given → List (List ℕ) → Option Settings

@@ -1,5 +1,5 @@
 -- The reference read: the frame that an input means (docs/grammar.md, docs/types.md).
-use Rattle.std.specs.Prelude.{◌≡◌, ℕ, zero, suc, ◌+◌, Bool, true, false, not, ◌&&◌, ◌==◌, nat_eq, nat_lt, if◌then◌else◌, List, [], ◌∷◌, length, drop, map, Option, None, Some, unwrap_or, is_some, slice_get}
+use Rattle.std.specs.Prelude.{◌≡◌, ℕ, zero, suc, ◌+◌, ◌<◌, ◌≤◌, Bool, true, false, not, ◌&&◌, ◌==◌, nat_eq, nat_lt, if◌then◌else◌, List, [], ◌∷◌, length, drop, map, Option, None, Some, unwrap_or, is_some, slice_get}
 use Rattle.std.specs.List.{filter_map, list_any, enumerate_from, starts_with}
 use Rattle.pl_frame.specs.declared.data_type.DataType.{DataType}
 use Rattle.pl_frame.specs.declared.error.FaultKind.{FaultKind}
@@ -128,12 +128,26 @@ pub record IsRead (s : Settings) (input : List ℕ) (frame : List ColumnValue) :
   pub whole : is_faulty s records ≡ false
   pub is : frame ≡ frame_of_rows s.quote_char s.schema (data_rows s records)
 
--- the first cause for which an input means no frame; want of memory says nothing
+-- the quote with which the frame is written is ASCII
+abbrev pub HasAsciiQuote : Settings → Type 0
+HasAsciiQuote s = s.write.serialize_options.quote_char < 128
+
+-- the frame that an input means, which can be written
+abbrev pub IsValidRead : Settings → List ℕ → List ColumnValue → Type 0
+IsValidRead s input frame = HasAsciiQuote s × IsRead s input frame
+
+-- nothing but the bytes of the input stands in the way of a frame: the marks are a dialect, lines and rows are not both to be
+-- skipped, and the quote with which the frame is written is ASCII
+abbrev pub HasSoundSettings : Settings → Type 0
+HasSoundSettings s = CanStart (skips_of s) (marks_of s) (comment_of s) × HasAsciiQuote s
+
+-- the first cause for which an input has no frame that can be written; want of memory says nothing
 abbrev pub IsReadFault : Settings → List ℕ → ReadFault → Type 0
 IsReadFault s input read_fault.Dialect = ¬ IsDialect (marks_of s) (comment_of s)
 IsReadFault s input read_fault.Option = IsDialect (marks_of s) (comment_of s) × SkipsTwice (skips_of s)
-IsReadFault s input read_fault.Compressed = CanStart (skips_of s) (marks_of s) (comment_of s) × (is_compressed input ≡ true)
-IsReadFault s input read_fault.Skip = CanStart (skips_of s) (marks_of s) (comment_of s) × (is_compressed input ≡ false) × (data_of s input ≡ None)
+IsReadFault s input read_fault.Quote = CanStart (skips_of s) (marks_of s) (comment_of s) × (128 ≤ s.write.serialize_options.quote_char)
+IsReadFault s input read_fault.Compressed = HasSoundSettings s × (is_compressed input ≡ true)
+IsReadFault s input read_fault.Skip = HasSoundSettings s × (is_compressed input ≡ false) × (data_of s input ≡ None)
 IsReadFault s input read_fault.Record =
-    CanStart (skips_of s) (marks_of s) (comment_of s) × (is_compressed input ≡ false) × (records : List ℕ) × (data_of s input ≡ Some records) × (is_faulty s records ≡ true)
+    HasSoundSettings s × (is_compressed input ≡ false) × (records : List ℕ) × (data_of s input ≡ Some records) × (is_faulty s records ≡ true)
 IsReadFault s input read_fault.OutOfMemory = Unit {0}

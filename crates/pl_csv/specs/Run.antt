@@ -4,16 +4,18 @@ use Rattle.std.specs.Io.KnownBytes.{Consumes, IsAtEnd, Appends, Keeps}
 use Rattle.std.specs.List.{list_any}
 use Rattle.pl_frame.specs.Causes.{Rose}
 use Rattle.pl_frame.specs.Frame.{ColumnValue}
-use Rattle.pl_frame.specs.Text.{default_write_options, text_of_frame}
+use Rattle.pl_frame.specs.Text.{text_of_frame}
 use Rattle.pl_csv.specs.declared.run.Refusal.{Refusal}
 use Rattle.pl_csv.specs.declared.run.Refusal.TheVariants as refusal
 use Rattle.pl_csv.specs.Came.{Came}
 use Rattle.pl_csv.specs.declared.reading.ReadFault.{ReadFault}
 use Rattle.pl_csv.specs.declared.reading.ReadFault.TheVariants as read_fault
 use Rattle.pl_csv.specs.declared.settings.Settings.{Settings}
-use Rattle.pl_csv.specs.Reading.{IsRead, IsReadFault}
+use Rattle.pl_csv.specs.Reading.{IsValidRead, IsReadFault}
 use Rattle.pl_csv.specs.Words.{settings_of_words}
+use Rattle.pl_write.specs.Options.{frame_options}
 use Rattle.pl_write.specs.Writing.{AppendsPrefix}
+use Rattle.pl_write.specs.declared.options.CsvWriterOptions.{CsvWriterOptions}
 
 -- the words mean settings, and the source gave this input of at most 2 ^ 36 bytes and was read to its end
 pub record HasRead (words : List (List ℕ)) (before now : Option (List ℕ)) : Type 0 where
@@ -24,9 +26,9 @@ pub record HasRead (words : List (List ℕ)) (before now : Option (List ℕ)) : 
   pub end : IsAtEnd now
   pub within : length input ≤ 2 ^ 36
 
--- the text of the frame that an input means, where it means one
+-- the text of the frame that an input means, where it means one that can be written, as the settings say
 abbrev pub IsTextOf : Settings → List ℕ → List ℕ → Type 0
-IsTextOf settings input text = (frame : List ColumnValue) × IsRead settings input frame × (text ≡ text_of_frame default_write_options frame)
+IsTextOf settings input text = (frame : List ColumnValue) × IsValidRead settings input frame × (text ≡ text_of_frame (frame_options settings.write) frame)
 
 -- The reference read of the input exists, and the sink received exactly the text of its frame.
 pub record Converted (words : List (List ℕ)) (left left_now received received_now : Option (List ℕ)) : Type 0 where
@@ -42,7 +44,7 @@ pub record ConvertedPart (words : List (List ℕ)) (left left_now received recei
   pub is : IsTextOf read.settings read.input text
   pub written : AppendsPrefix received received_now text
 
--- the input has no reference read, first for this cause
+-- the input has no reference read that can be written, first for this cause
 pub record HasCause (words : List (List ℕ)) (left left_now : Option (List ℕ)) (fault : ReadFault) : Type 0 where
   pub read : HasRead words left left_now
   pub is : IsReadFault read.settings read.input fault
@@ -61,6 +63,7 @@ fault_line status =
     else if status == 6 then codes "too long\n"
     else if status == 11 then codes "refusal 1 dialect\n"
     else if status == 12 then codes "refusal 2 option\n"
+    else if status == 13 then codes "refusal 3 quote\n"
     else if status == 14 then codes "refusal 4 compressed\n"
     else if status == 20 then codes "refusal 10 skip\n"
     else if status == 24 then codes "refusal 14 record\n"
@@ -81,6 +84,7 @@ status_of refusal.OutOfMemory = 5
 status_of refusal.TooLong = 6
 status_of refusal.Dialect = 11
 status_of refusal.Option = 12
+status_of refusal.Quote = 13
 status_of refusal.Compressed = 14
 status_of refusal.Skip = 20
 status_of refusal.Record = 24
@@ -100,6 +104,7 @@ IsRefused words before now refusal.OutOfMemory = Keeps before.received now.recei
 IsRefused words before now refusal.TooLong = IsSome (settings_of_words words) × IsTooLong before.left now.left × Keeps before.received now.received
 IsRefused words before now refusal.Dialect = HasCause words before.left now.left read_fault.Dialect × Keeps before.received now.received
 IsRefused words before now refusal.Option = HasCause words before.left now.left read_fault.Option × Keeps before.received now.received
+IsRefused words before now refusal.Quote = HasCause words before.left now.left read_fault.Quote × Keeps before.received now.received
 IsRefused words before now refusal.Compressed = HasCause words before.left now.left read_fault.Compressed × Keeps before.received now.received
 IsRefused words before now refusal.Skip = HasCause words before.left now.left read_fault.Skip × Keeps before.received now.received
 IsRefused words before now refusal.Record = HasCause words before.left now.left read_fault.Record × Keeps before.received now.received
@@ -107,10 +112,11 @@ IsRefused words before now refusal.Record = HasCause words before.left now.left 
 abbrev pub views : Option (List ℕ) → Option (List ℕ) → ℕ → ℕ → Views
 views left received source_faults sink_faults = record { left = left; received = received; source_faults = source_faults; sink_faults = sink_faults }
 
--- the input that the source gave means the frame
-pub record HasFrame (words : List (List ℕ)) (left left_now : Option (List ℕ)) (frame : List ColumnValue) : Type 0 where
+-- the input that the source gave means the frame, which is to be written so
+pub record HasFrame (words : List (List ℕ)) (left left_now : Option (List ℕ)) (frame : List ColumnValue) (write : CsvWriterOptions) : Type 0 where
   pub read : HasRead words left left_now
-  pub is : IsRead read.settings read.input frame
+  pub is : IsValidRead read.settings read.input frame
+  pub so : read.settings.write ≡ write
 
 -- why no frame was read
 abbrev pub IsReadRefused : List (List ℕ) → Option (List ℕ) → Option (List ℕ) → ℕ → ℕ → Refusal → Type 0
@@ -121,6 +127,7 @@ IsReadRefused words left left_now faults faults_now refusal.OutOfMemory = Unit {
 IsReadRefused words left left_now faults faults_now refusal.TooLong = IsSome (settings_of_words words) × IsTooLong left left_now
 IsReadRefused words left left_now faults faults_now refusal.Dialect = HasCause words left left_now read_fault.Dialect
 IsReadRefused words left left_now faults faults_now refusal.Option = HasCause words left left_now read_fault.Option
+IsReadRefused words left left_now faults faults_now refusal.Quote = HasCause words left left_now read_fault.Quote
 IsReadRefused words left left_now faults faults_now refusal.Compressed = HasCause words left left_now read_fault.Compressed
 IsReadRefused words left left_now faults faults_now refusal.Skip = HasCause words left left_now read_fault.Skip
 IsReadRefused words left left_now faults faults_now refusal.Record = HasCause words left left_now read_fault.Record
@@ -129,17 +136,18 @@ IsReadRefused words left left_now faults faults_now refusal.Record = HasCause wo
 
 -- the statuses at which a run ends
 abbrev pub is_status : ℕ → Bool
-is_status status = list_any (λ known. status == known) (0 ∷ 2 ∷ 3 ∷ 4 ∷ 5 ∷ 6 ∷ 11 ∷ 12 ∷ 14 ∷ 20 ∷ 24 ∷ [])
+is_status status = list_any (λ known. status == known) (0 ∷ 2 ∷ 3 ∷ 4 ∷ 5 ∷ 6 ∷ 11 ∷ 12 ∷ 13 ∷ 14 ∷ 20 ∷ 24 ∷ [])
 
--- the words mean settings under which an input of at most 2 ^ 36 bytes has a reference read
+-- the words mean settings under which an input of at most 2 ^ 36 bytes has a reference read, which can be written
 pub record IsValid (words : List (List ℕ)) (input : List ℕ) : Type 0 where
   pub settings : Settings
   pub meaning : settings_of_words words ≡ Some settings
   pub within : length input ≤ 2 ^ 36
   pub frame : List ColumnValue
-  pub read : IsRead settings input frame
+  pub read : IsValidRead settings input frame
 
--- the words mean settings under which an input of at most 2 ^ 36 bytes has no reference read, first for this cause
+-- the words mean settings under which an input of at most 2 ^ 36 bytes has no reference read that can be written, first for
+-- this cause
 pub record IsInvalid (words : List (List ℕ)) (input : List ℕ) (fault : ReadFault) : Type 0 where
   pub settings : Settings
   pub meaning : settings_of_words words ≡ Some settings
@@ -147,17 +155,18 @@ pub record IsInvalid (words : List (List ℕ)) (input : List ℕ) (fault : ReadF
   pub cause : IsReadFault settings input fault
   pub known : fault ≢ read_fault.OutOfMemory
 
--- the status of a cause for which an input has no reference read
+-- the status of a cause for which an input has no reference read that can be written
 abbrev pub status_of_fault : ReadFault → ℕ
 status_of_fault read_fault.Dialect = 11
 status_of_fault read_fault.Option = 12
+status_of_fault read_fault.Quote = 13
 status_of_fault read_fault.Compressed = 14
 status_of_fault read_fault.Skip = 20
 status_of_fault read_fault.Record = 24
 status_of_fault read_fault.OutOfMemory = 5
 
 -- The status that is due to words and a whole input: 2 where the words have no meaning, 6 where the input is too long,
--- 0 where it has a reference read, and else that of the first cause for which it has none.
+-- 0 where it has a reference read that can be written, and else that of the first cause for which it has none.
 abbrev pub IsDue : List (List ℕ) → List ℕ → ℕ → Type 0
 IsDue words input status =
     ((settings_of_words words ≡ None) × (status ≡ 2))

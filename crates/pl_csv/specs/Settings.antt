@@ -1,17 +1,18 @@
--- How an input is read (docs/grammar.md, docs/command-line.md).
+-- How an input is read, and how its frame is written (docs/grammar.md, docs/quoting.md, docs/command-line.md).
 use Rattle.std.specs.Prelude.{ℕ, Bool, true, nat_le, List, length, Option, None, Some}
 use Rattle.std.specs.Option.{option_map}
 use Rattle.pl_frame.specs.declared.data_type.DataType.{DataType}
 use Rattle.pl_frame.specs.Dialect.{Marks, marks}
 use Rattle.pl_scan.specs.Comment.{prefix_bytes}
 use Rattle.pl_scan.specs.Start.{Skips, skips}
+use Rattle.pl_write.specs.Options.{default_options}
 use Rattle.pl_csv.specs.declared.settings.Settings.{Settings}
 
 -- names with their types, in order
 abbrev pub SchemaValue : Type 0
 SchemaValue = List (List ℕ × DataType)
 
--- comma, double quote, line feed, a header, no comments and no skips
+-- comma, double quote, line feed, a header, no comments and no skips; and the frame is written by the default options
 abbrev pub default_settings : SchemaValue → Settings
 default_settings schema = record {
   schema = schema;
@@ -23,6 +24,7 @@ default_settings schema = record {
   skip_lines = 0;
   skip_rows = 0;
   skip_rows_after_header = 0;
+  write = default_options;
 }
 
 -- the bytes that cut a record

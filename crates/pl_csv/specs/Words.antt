@@ -9,10 +9,15 @@ use Rattle.pl_frame.specs.Schema.{names_in}
 use Rattle.pl_scan.specs.Comment.{prefix_from}
 use Rattle.pl_csv.specs.declared.settings.Settings.{Settings}
 use Rattle.pl_csv.specs.declared.options.Given.{Given}
+use Rattle.pl_csv.specs.declared.output.GivenOutput.{GivenOutput}
 use Rattle.pl_csv.specs.Buffers.{is_carried}
 use Rattle.pl_cells.specs.Integers.{is_digits, number_of}
 use Rattle.pl_csv.specs.Reading.{types_of}
 use Rattle.pl_csv.specs.Settings.{SchemaValue, default_settings}
+use Rattle.pl_write.specs.Options.{default_cells, default_options}
+use Rattle.pl_write.specs.declared.options.CsvWriterOptions.{CsvWriterOptions}
+use Rattle.pl_write.specs.declared.options.QuoteStyle.{QuoteStyle}
+use Rattle.pl_write.specs.declared.options.QuoteStyle.TheVariants as style
 
 -- the type that a text names
 abbrev pub named_type : List ℕ → Option DataType
@@ -87,6 +92,22 @@ quote_of text = if bytes_eq text (codes "none") then Some None else option_map (
 abbrev pub count_of : List ℕ → Option ℕ
 count_of text = if is_digits text && nat_le (length text) 18 then Some (number_of text) else None
 
+-- what ends a line of the output: `lf` or `crlf`
+abbrev pub terminator_named : List ℕ → Option (List ℕ)
+terminator_named text =
+    if bytes_eq text (codes "lf") then Some (10 ∷ [])
+    else if bytes_eq text (codes "crlf") then Some (13 ∷ 10 ∷ [])
+    else None
+
+-- when a cell is quoted: `necessary`, `always`, `nonnumeric` or `never`
+abbrev pub style_named : List ℕ → Option QuoteStyle
+style_named text =
+    if bytes_eq text (codes "necessary") then Some style.Necessary
+    else if bytes_eq text (codes "always") then Some style.Always
+    else if bytes_eq text (codes "nonnumeric") then Some style.NonNumeric
+    else if bytes_eq text (codes "never") then Some style.Never
+    else None
+
 -- ---- flags and options
 
 -- a flag, or an option with its value
@@ -101,10 +122,13 @@ abbrev pub at_equals_sign : List ℕ → Option (List ℕ × List ℕ)
 at_equals_sign word =
     if list_any is_equals_sign word then Some (before_first is_equals_sign word, after_first is_equals_sign word) else None
 
--- what one word is alone: the flag, or an option with its value
+abbrev pub flags : List (List ℕ)
+flags = codes "--no-header" ∷ codes "--out-no-header" ∷ codes "--out-bom" ∷ []
+
+-- what one word is alone: a flag, or an option with its value
 abbrev pub whole_part : List ℕ → Option Part
 whole_part word =
-    if bytes_eq word (codes "--no-header") then Some (word, None)
+    if list_any (bytes_eq word) flags then Some (word, None)
     else option_map (λ cut. (cut.0, Some cut.1)) (at_equals_sign word)
 
 -- the flags and options of words: what a word is alone, or else an option's name with the next word as its value
@@ -124,6 +148,20 @@ once None (Some x) = Some (Some x)
 once None None = None
 once (Some x) meant = None
 
+-- a flag, where it was not given before
+abbrev pub once_flag : Bool → Option Bool
+once_flag given = if given then None else Some true
+
+-- what is given of the output with one option more
+abbrev pub with_output : GivenOutput → List ℕ → List ℕ → Option GivenOutput
+with_output given name value =
+    if bytes_eq name (codes "--out-sep") then option_map (λ o. record given { separator = o }) (once given.separator (byte_of value))
+    else if bytes_eq name (codes "--out-quote") then option_map (λ o. record given { quote_char = o }) (once given.quote_char (byte_of value))
+    else if bytes_eq name (codes "--out-null") then option_map (λ o. record given { null = o }) (once given.null (Some value))
+    else if bytes_eq name (codes "--out-eol") then option_map (λ o. record given { line_terminator = o }) (once given.line_terminator (terminator_named value))
+    else if bytes_eq name (codes "--style") then option_map (λ o. record given { quote_style = o }) (once given.quote_style (style_named value))
+    else None
+
 -- what is given with one option more; an empty value and an unknown name have no meaning
 abbrev pub with_value : Given → List ℕ → List ℕ → Option Given
 with_value given name [] = None
@@ -136,17 +174,36 @@ with_value given name (x ∷ xs) = let value : List ℕ = x ∷ xs in
     else if bytes_eq name (codes "--skip-lines") then option_map (λ o. record given { skip_lines = o }) (once given.skip_lines (count_of value))
     else if bytes_eq name (codes "--skip-rows") then option_map (λ o. record given { skip_rows = o }) (once given.skip_rows (count_of value))
     else if bytes_eq name (codes "--skip-after") then option_map (λ o. record given { skip_rows_after_header = o }) (once given.skip_rows_after_header (count_of value))
+    else option_map (λ o. record given { output = o }) (with_output given.output name value)
+
+-- what is given with one flag more
+abbrev pub with_flag : Given → List ℕ → Option Given
+with_flag given name =
+    if bytes_eq name (codes "--no-header") then option_map (λ b. record given { no_header = b }) (once_flag given.no_header)
+    else if bytes_eq name (codes "--out-no-header") then option_map (λ b. record given { output = record given.output { no_header = b } }) (once_flag given.output.no_header)
+    else if bytes_eq name (codes "--out-bom") then option_map (λ b. record given { output = record given.output { include_bom = b } }) (once_flag given.output.include_bom)
     else None
 
--- what is given with one part more; the flag too stands once
+-- what is given with one part more
 abbrev pub with_part : Given → Part → Option Given
-with_part given (name, None) = if given.no_header then None else Some (record given { no_header = true })
+with_part given (name, None) = with_flag given name
 with_part given (name, Some value) = with_value given name value
 
 -- what is given with some parts more, one after another
 abbrev pub with_parts : Given → List Part → Option Given
 with_parts given [] = Some given
 with_parts given (part ∷ parts) = option_and_then (λ given. with_parts given parts) (with_part given part)
+
+abbrev pub no_output_given : GivenOutput
+no_output_given = record {
+  separator = None;
+  quote_char = None;
+  null = None;
+  line_terminator = None;
+  quote_style = None;
+  no_header = false;
+  include_bom = false;
+}
 
 abbrev pub nothing_given : Given
 nothing_given = record {
@@ -159,6 +216,23 @@ nothing_given = record {
   skip_lines = None;
   skip_rows = None;
   skip_rows_after_header = None;
+  output = no_output_given;
+}
+
+-- how the frame is written: what is given, and the default for the rest
+abbrev pub write_options_of : GivenOutput → CsvWriterOptions
+write_options_of given = let defaults = default_cells in record {
+  include_bom = given.include_bom;
+  include_header = not given.no_header;
+  batch_size = default_options.batch_size;
+  maintain_order = default_options.maintain_order;
+  serialize_options = record {
+    separator = unwrap_or given.separator defaults.separator;
+    quote_char = unwrap_or given.quote_char defaults.quote_char;
+    null = unwrap_or given.null defaults.null;
+    line_terminator = unwrap_or given.line_terminator defaults.line_terminator;
+    quote_style = unwrap_or given.quote_style defaults.quote_style;
+  };
 }
 
 -- the settings under a schema: what is given, and the default for the rest
@@ -173,6 +247,7 @@ settings_under given schema = let defaults = default_settings schema in record {
   skip_lines = unwrap_or given.skip_lines defaults.skip_lines;
   skip_rows = unwrap_or given.skip_rows defaults.skip_rows;
   skip_rows_after_header = unwrap_or given.skip_rows_after_header defaults.skip_rows_after_header;
+  write = write_options_of given.output;
 }
 
 -- the settings of what is given; a schema must be there

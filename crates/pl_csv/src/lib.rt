@@ -7,6 +7,7 @@ mod compression;
 pub mod counting;
 mod frames;
 mod options;
+mod output;
 pub mod read_all;
 mod reading;
 mod rows;

@@ -1,9 +1,10 @@
 //! What the options of the command line give.
-ghost use Rattle.std.specs.Prelude.{◌≡◌, None, Some, OnOk, IsErrOf, MatchOption, ◌<◌};
+ghost use Rattle.std.specs.Prelude.{◌≡◌, None, Some, IfOk, OnOk, IsErrOf, MatchOption, ◌<◌};
 ghost use Rattle.std.specs.Option.{option_map};
 ghost use Rattle.pl_scan.specs.Comment.{prefix_from};
-ghost use Rattle.pl_csv.specs.Words.{schema_of, IsCarriedSchema, hexadecimal_digit, hexadecimal_pair, byte_of, quote_of, count_of, once, with_value, with_part, nothing_given, settings_of_given};
+ghost use Rattle.pl_csv.specs.Words.{schema_of, IsCarriedSchema, hexadecimal_digit, hexadecimal_pair, byte_of, quote_of, count_of, once, once_flag, with_value, with_flag, with_part, nothing_given, settings_of_given};
 
+use crate::output::{GivenOutput, give_output, write_options_of};
 use crate::settings::Settings;
 use crate::words::{WordsFault, parse_schema};
 use pl_cells::integers::number_of;
@@ -24,6 +25,7 @@ pub struct Given {
     pub skip_lines: Option<usize>,
     pub skip_rows: Option<usize>,
     pub skip_rows_after_header: Option<usize>,
+    pub output: GivenOutput,
 }
 
 impl Given {
@@ -41,6 +43,7 @@ impl Given {
             skip_lines: None,
             skip_rows: None,
             skip_rows_after_header: None,
+            output: GivenOutput::nothing(),
         }
     }
 }
@@ -68,8 +71,8 @@ fn parse_hexadecimal_pair(high: u8, low: u8) -> Option<u8>
     }
 }
 
-// The byte that a text writes: one ASCII character, or `x` and two hexadecimal digits.
-fn parse_byte(text: &str) -> Option<u8>
+/// The byte that a text writes: one ASCII character, or `x` and two hexadecimal digits.
+pub fn parse_byte(text: &str) -> Option<u8>
     ensures { result ≡ byte_of text.now }
 {
     match text.as_bytes() {
@@ -105,8 +108,8 @@ fn parse_count(text: &str) -> Option<usize>
     }
 }
 
-// Keeps a value with a meaning where none was given before. Refuses any other.
-fn give<T: Copy>(given: &mut Option<T>, meant: Option<T>) -> Result<(), WordsFault>
+/// Keeps a value with a meaning where none was given before. Refuses any other.
+pub fn give<T: Copy>(given: &mut Option<T>, meant: Option<T>) -> Result<(), WordsFault>
     ensures given { OnOk result (once given.old meant ≡ Some given.new) }
     ensures refused { IsErrOf result WordsFault.Words → once given.old meant ≡ None }
 {
@@ -178,6 +181,32 @@ fn give_value(alloc: Global, given: &mut Given, name: &str, value: &str) -> Resu
         "--skip-lines" => give(&mut given.skip_lines, parse_count(value)),
         "--skip-rows" => give(&mut given.skip_rows, parse_count(value)),
         "--skip-after" => give(&mut given.skip_rows_after_header, parse_count(value)),
+        _ => give_output(alloc, &mut given.output, name, value),
+    }
+}
+
+// Keeps a flag that was not given before. Refuses one that was.
+fn give_once(given: &mut bool) -> Result<(), WordsFault>
+    ensures given { OnOk result (once_flag given.old ≡ Some given.new) }
+    ensures refused { IsErrOf result WordsFault.Words → once_flag given.old ≡ None }
+{
+    if *given {
+        return Err(WordsFault::Words);
+    }
+    *given = true;
+    Ok(())
+}
+
+// Keeps the flag of a name that was not given before. Refuses one that was, and a name that is no flag.
+fn give_flag(given: &mut Given, name: &str) -> Result<(), WordsFault>
+    ensures given { OnOk result (with_flag given.old name.now ≡ Some given.new) }
+    ensures schema { OnOk result (given.new.schema ≡ given.old.schema) }
+    ensures refused { IsErrOf result WordsFault.Words → with_flag given.old name.now ≡ None }
+{
+    match name {
+        "--no-header" => give_once(&mut given.no_header),
+        "--out-no-header" => give_once(&mut given.output.no_header),
+        "--out-bom" => give_once(&mut given.output.include_bom),
         _ => Err(WordsFault::Words),
     }
 }
@@ -196,19 +225,14 @@ pub fn give_part(
 {
     match value {
         Some(value) => give_value(alloc, given, name, value),
-        None => {
-            if given.no_header {
-                return Err(WordsFault::Words);
-            }
-            given.no_header = true;
-            Ok(())
-        }
+        None => give_flag(given, name),
     }
 }
 
-/// The settings of what is given, where a schema is.
-pub fn settings_of(given: Given) -> Option<Settings>
-    ensures { result ≡ settings_of_given given }
+/// The settings of what is given. Refuses what has no schema, and want of memory.
+pub fn settings_of(alloc: Global, given: Given) -> Result<Settings, WordsFault>
+    ensures settings { IfOk result (λ settings. settings_of_given given ≡ Some settings) }
+    ensures refused { IsErrOf result WordsFault.Words → settings_of_given given ≡ None }
 {
     let Given {
         schema,
@@ -220,19 +244,22 @@ pub fn settings_of(given: Given) -> Option<Settings>
         skip_lines,
         skip_rows,
         skip_rows_after_header,
+        output,
     } = given;
-    match schema {
-        Some(schema) => Some(Settings {
-            schema,
-            separator: separator.unwrap_or(b','),
-            quote_char: quote_char.unwrap_or(Some(b'"')),
-            eol_char: eol_char.unwrap_or(b'\n'),
-            comment_prefix,
-            has_header: !no_header,
-            skip_lines: skip_lines.unwrap_or(0),
-            skip_rows: skip_rows.unwrap_or(0),
-            skip_rows_after_header: skip_rows_after_header.unwrap_or(0),
-        }),
-        None => None,
-    }
+    let Some(schema) = schema else {
+        return Err(WordsFault::Words);
+    };
+    let write = write_options_of(alloc, output)?;
+    Ok(Settings {
+        schema,
+        separator: separator.unwrap_or(b','),
+        quote_char: quote_char.unwrap_or(Some(b'"')),
+        eol_char: eol_char.unwrap_or(b'\n'),
+        comment_prefix,
+        has_header: !no_header,
+        skip_lines: skip_lines.unwrap_or(0),
+        skip_rows: skip_rows.unwrap_or(0),
+        skip_rows_after_header: skip_rows_after_header.unwrap_or(0),
+        write,
+    })
 }

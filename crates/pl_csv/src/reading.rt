@@ -8,7 +8,7 @@ ghost use Rattle.pl_scan.specs.Comment.{prefix_of};
 ghost use Rattle.pl_csv.specs.Buffers.{is_carried};
 ghost use Rattle.pl_csv.specs.Rows.{states};
 ghost use Rattle.pl_csv.specs.Frames.{empty_states};
-ghost use Rattle.pl_csv.specs.Reading.{types_of, data_of, rows, has_fault, frame_of_rows, IsRead, IsReadFault};
+ghost use Rattle.pl_csv.specs.Reading.{types_of, data_of, rows, has_fault, frame_of_rows, IsValidRead, IsReadFault};
 
 use crate::buffer::Buffer;
 use crate::compression::has_compression_mark;
@@ -30,6 +30,8 @@ pub enum ReadFault {
     Dialect,
     /// Lines and rows before the header are both to be skipped.
     Option,
+    /// The quote with which the frame is to be written is not ASCII.
+    Quote,
     /// The input begins with the mark of a compressed stream.
     Compressed,
     /// There are fewer items than are to be skipped.
@@ -59,10 +61,11 @@ fn data_from_start<'a>(input: &'a [u8], settings: &Settings, columns: usize) -> 
 }
 
 /// The frame that an input means. Refuses, in this order, marks that are no dialect, lines and rows that are both to be
-/// skipped, a compressed input, fewer items than are to be skipped, and a record with a fault; and want of memory.
+/// skipped, a quote for the output that is not ASCII, a compressed input, fewer items than are to be skipped, and a record
+/// with a fault; and want of memory.
 pub fn read_frame(alloc: Global, input: &[u8], settings: &Settings) -> Result<DataFrame, ReadFault>
     requires { list_all is_carried (types_of settings.now.schema) ≡ true }
-    ensures { MatchResult result (IsRead settings.now input.now) (IsReadFault settings.now input.now) }
+    ensures { MatchResult result (IsValidRead settings.now input.now) (IsReadFault settings.now input.now) }
 {
     if !dialect_ok(
         settings.separator,
@@ -74,6 +77,9 @@ pub fn read_frame(alloc: Global, input: &[u8], settings: &Settings) -> Result<Da
     }
     if settings.skip_lines > 0 && settings.skip_rows > 0 {
         return Err(ReadFault::Option);
+    }
+    if !settings.write.serialize_options.quote_char.is_ascii() {
+        return Err(ReadFault::Quote);
     }
     if has_compression_mark(input) {
         return Err(ReadFault::Compressed);

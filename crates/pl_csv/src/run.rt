@@ -31,6 +31,8 @@ pub enum Refusal {
     Dialect,
     /// Lines and rows before the header are both to be skipped.
     Option,
+    /// The quote with which the frame is to be written is not ASCII.
+    Quote,
     /// The input begins with the mark of a compressed stream.
     Compressed,
     /// There are fewer items than are to be skipped.
@@ -52,6 +54,7 @@ impl Refusal {
             Refusal::TooLong => 6,
             Refusal::Dialect => 11,
             Refusal::Option => 12,
+            Refusal::Quote => 13,
             Refusal::Compressed => 14,
             Refusal::Skip => 20,
             Refusal::Record => 24,
@@ -70,6 +73,7 @@ impl Refusal {
             Refusal::TooLong => "too long\n",
             Refusal::Dialect => "refusal 1 dialect\n",
             Refusal::Option => "refusal 2 option\n",
+            Refusal::Quote => "refusal 3 quote\n",
             Refusal::Compressed => "refusal 4 compressed\n",
             Refusal::Skip => "refusal 10 skip\n",
             Refusal::Record => "refusal 14 record\n",
@@ -88,13 +92,13 @@ fn tell<Se: Sink>(sink: &mut Se, line: &str)
     }
 }
 
-// The frame that the source's input means under the schema of the words.
+// The frame that the source's input means under the schema of the words, and how it is to be written.
 fn frame_of_source<So: Source>(
     alloc: Global,
     words: &[String],
     source: &mut So,
-) -> Result<DataFrame, Refusal>
-    ensures frame { IfOk result (HasFrame (map string_bytes words.now) (So.left source.old) (So.left source.new)) }
+) -> Result<(DataFrame, CsvWriterOptions), Refusal>
+    ensures frame { IfOk result (λ read. HasFrame (map string_bytes words.now) (So.left source.old) (So.left source.new) read.0 read.1) }
     ensures refused { IfErr result (IsReadRefused (map string_bytes words.now) (So.left source.old) (So.left source.new) (So.faults source.old) (So.faults source.new)) }
     ensures later { So.faults source.old ≤ So.faults source.new }
 {
@@ -110,9 +114,10 @@ fn frame_of_source<So: Source>(
         Err(ReadAllFault::OutOfMemory) => return Err(Refusal::OutOfMemory),
     };
     match read_frame(alloc, &input, &settings) {
-        Ok(frame) => Ok(frame),
+        Ok(frame) => Ok((frame, settings.write)),
         Err(ReadFault::Dialect) => Err(Refusal::Dialect),
         Err(ReadFault::Option) => Err(Refusal::Option),
+        Err(ReadFault::Quote) => Err(Refusal::Quote),
         Err(ReadFault::Compressed) => Err(Refusal::Compressed),
         Err(ReadFault::Skip) => Err(Refusal::Skip),
         Err(ReadFault::Record) => Err(Refusal::Record),
@@ -134,13 +139,9 @@ fn convert<So: Source, Si: Sink>(
     ensures source_later { So.faults source.old ≤ So.faults source.new }
     ensures sink_later { Si.faults out.old ≤ Si.faults out.new }
 {
-    let frame = match frame_of_source(alloc, words, source) {
-        Ok(frame) => frame,
+    let (frame, options) = match frame_of_source(alloc, words, source) {
+        Ok(read) => read,
         Err(refusal) => return Err(refusal),
-    };
-    let options = match CsvWriterOptions::new(alloc) {
-        Ok(options) => options,
-        Err(_) => return Err(Refusal::OutOfMemory),
     };
     match write_frame(alloc, frame.columns(), &options, out) {
         Ok(()) => Ok(()),
@@ -149,15 +150,16 @@ fn convert<So: Source, Si: Sink>(
     }
 }
 
-/// Reads CSV from a source under the schema that the words give, writes the text of its frame to `out`, and answers the
-/// status: 0 only where the reference read of the input exists, and `out` then received exactly the text of its frame.
+/// Reads CSV from a source under the schema that the words give, writes the text of its frame to `out` as they say, and
+/// answers the status: 0 only where the reference read of the input exists, and `out` then received exactly the text of
+/// its frame.
 ///
 /// docs/command-line.md has the words. Another status has its cause: 2 words without a meaning; 3 a fault
 /// of the source; 4 one of `out`, which then received a prefix of the text; 5 want of memory, with a prefix of the text
 /// or nothing received; 6 an input of more than 2^36 bytes; 11 marks that are no dialect; 12 lines and rows that are both
-/// to be skipped; 14 a compressed input; 20 fewer items than are to be skipped; 24 a record with a fault. At 2, 3, 6 and
-/// from 11 on `out` received nothing. `err` receives the fault line of the status; a fault of `err` cuts it short, and
-/// changes neither status nor `out`.
+/// to be skipped; 13 a quote for the output that is not ASCII; 14 a compressed input; 20 fewer items than are to be
+/// skipped; 24 a record with a fault. At 2, 3, 6 and from 11 on `out` received nothing. `err` receives the fault line of
+/// the status; a fault of `err` cuts it short, and changes neither status nor `out`.
 pub fn run<So: Source, Si: Sink, Se: Sink>(
     alloc: Global,
     words: &[String],
@@ -178,6 +180,7 @@ pub fn run<So: Source, Si: Sink, Se: Sink>(
     ensures too_long { result ≡ 6 → IsSome (settings_of_words (map string_bytes words.now)) × IsTooLong (So.left source.old) (So.left source.new) × Keeps (Si.received out.old) (Si.received out.new) }
     ensures dialect { result ≡ 11 → HasCause (map string_bytes words.now) (So.left source.old) (So.left source.new) ReadFault.Dialect × Keeps (Si.received out.old) (Si.received out.new) }
     ensures option { result ≡ 12 → HasCause (map string_bytes words.now) (So.left source.old) (So.left source.new) ReadFault.Option × Keeps (Si.received out.old) (Si.received out.new) }
+    ensures quote { result ≡ 13 → HasCause (map string_bytes words.now) (So.left source.old) (So.left source.new) ReadFault.Quote × Keeps (Si.received out.old) (Si.received out.new) }
     ensures compressed { result ≡ 14 → HasCause (map string_bytes words.now) (So.left source.old) (So.left source.new) ReadFault.Compressed × Keeps (Si.received out.old) (Si.received out.new) }
     ensures skip { result ≡ 20 → HasCause (map string_bytes words.now) (So.left source.old) (So.left source.new) ReadFault.Skip × Keeps (Si.received out.old) (Si.received out.new) }
     ensures faulty { result ≡ 24 → HasCause (map string_bytes words.now) (So.left source.old) (So.left source.new) ReadFault.Record × Keeps (Si.received out.old) (Si.received out.new) }
@@ -329,6 +332,20 @@ mod tests {
                 11,
             ),
             (
+                "--schema a:int64 --no-header --out-quote xFF",
+                "1\n",
+                "",
+                b"refusal 3 quote\n",
+                13,
+            ),
+            (
+                "--schema a:int64 --no-header --out-quote xFF --sep x22",
+                "1\n",
+                "",
+                b"refusal 1 dialect\n",
+                11,
+            ),
+            (
                 "--schema a:int64 --no-header --sep ab",
                 "1\n",
                 "",
@@ -373,6 +390,50 @@ mod tests {
         ] {
             let answer = converts(alloc, words, input.as_bytes(), out.as_bytes(), line)?;
             assert_eq!(rt; answer, (status, true), "at {input:?} under {words}");
+        }
+        Ok(())
+    }
+
+    #[test]
+    fn outputs_under_options(rt: HostRuntime) -> Result<(), Fail> {
+        for (words, out) in [
+            ("--schema a:int64,b:string --out-sep ;", "a;b\n1;x\n2;\n"),
+            (
+                "--schema a:int64,b:string --out-sep=x78",
+                "axb\n1x\"x\"\n2x\n",
+            ),
+            (
+                "--style always --schema a:int64,b:string --out-quote '",
+                "'a','b'\n'1','x'\n'2',''\n",
+            ),
+            (
+                "--style nonnumeric --schema a:int64,b:string",
+                "\"a\",\"b\"\n1,\"x\"\n2,\n",
+            ),
+            (
+                "--style never --schema a:int64,b:string --out-sep x",
+                "axb\n1xx\n2x\n",
+            ),
+            (
+                "--style=necessary --schema a:int64,b:string --out-null NA",
+                "a,b\n1,x\n2,NA\n",
+            ),
+            (
+                "--schema a:int64,b:string --style always --out-null=-",
+                "\"a\",\"b\"\n\"1\",\"x\"\n\"2\",\"-\"\n",
+            ),
+            (
+                "--schema a:int64,b:string --out-eol crlf",
+                "a,b\r\n1,x\r\n2,\r\n",
+            ),
+            (
+                "--out-bom --schema a:int64,b:string --out-eol=lf",
+                "\u{FEFF}a,b\n1,x\n2,\n",
+            ),
+            ("--schema a:int64,b:string --out-no-header", "1,x\n2,\n"),
+        ] {
+            let answer = converts(rt.alloc(), words, ROW.as_bytes(), out.as_bytes(), b"")?;
+            assert_eq!(rt; answer, (0, true), "under {words}");
         }
         Ok(())
     }

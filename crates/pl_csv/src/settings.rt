@@ -1,11 +1,9 @@
-//! How an input is read.
-ghost use Rattle.std.specs.Prelude.{◌≡◌};
-ghost use Rattle.pl_csv.specs.Settings.{default_settings};
-
+//! How an input is read, and how its frame is written.
 use pl_frame::schema::Schema;
 use pl_scan::comment::CommentPrefix;
+use pl_write::options::CsvWriterOptions;
 
-/// How an input is read: under which names and types, by which marks, and from where on.
+/// How an input is read: under which names and types, by which marks, and from where on; and how its frame is written.
 #[derive(Debug, Drop)]
 pub struct Settings {
     pub schema: Schema,
@@ -21,24 +19,6 @@ pub struct Settings {
     /// Rows to skip before the header.
     pub skip_rows: usize,
     pub skip_rows_after_header: usize,
-}
-
-impl Settings {
-    /// The settings that hold where nothing but a schema is given: comma, double quote, line feed, a header, no comments
-    /// and no skips.
-    pub fn new(schema: Schema) -> Self
-        ensures { result ≡ default_settings schema }
-    {
-        Settings {
-            schema,
-            separator: b',',
-            quote_char: Some(b'"'),
-            eol_char: b'\n',
-            comment_prefix: None,
-            has_header: true,
-            skip_lines: 0,
-            skip_rows: 0,
-            skip_rows_after_header: 0,
-        }
-    }
+    /// How the frame is written.
+    pub write: CsvWriterOptions,
 }

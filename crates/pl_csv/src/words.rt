@@ -6,7 +6,7 @@ ghost use Rattle.std.specs.Str.{bytes_eq};
 ghost use Rattle.pl_frame.specs.Schema.{names_in};
 ghost use Rattle.pl_csv.specs.Buffers.{is_carried};
 ghost use Rattle.pl_csv.specs.Reading.{types_of};
-ghost use Rattle.pl_csv.specs.Words.{named_type, is_comma, entry_of, is_value, schema_of, at_equals_sign, whole_part, parts_of, settings_of_words};
+ghost use Rattle.pl_csv.specs.Words.{named_type, is_comma, entry_of, is_value, schema_of, at_equals_sign, flags, whole_part, parts_of, settings_of_words};
 
 use crate::options::{Given, give_part, settings_of};
 use crate::settings::Settings;
@@ -132,11 +132,18 @@ fn cut_option(word: &str) -> Option<(&str, &str)>
     word.split_once('=')
 }
 
-// What one word is alone: the flag, or an option with its value.
+// Whether a word is a flag.
+fn is_flag(word: &str) -> bool
+    ensures { result ≡ list_any (bytes_eq word.now) flags }
+{
+    word == "--no-header" || word == "--out-no-header" || word == "--out-bom"
+}
+
+// What one word is alone: a flag, or an option with its value.
 fn read_whole(word: &str) -> Option<(&str, Option<&str>)>
     ensures { option_map (λ part. (part.0.now, option_map (λ text. text.now) part.1)) result ≡ whole_part word.now }
 {
-    if word == "--no-header" {
+    if is_flag(word) {
         return Some((word, None));
     }
     match cut_option(word) {
@@ -180,10 +187,7 @@ pub fn parse_words(alloc: Global, words: &[String]) -> Result<Settings, WordsFau
         give_part(alloc, &mut given, name, value)?;
         rest = next;
     }
-    match settings_of(given) {
-        Some(settings) => Ok(settings),
-        None => Err(WordsFault::Words),
-    }
+    settings_of(alloc, given)
 }
 
 #[cfg(test)]
@@ -470,6 +474,17 @@ mod tests {
             "--schema a:int64 --skip-after 1 --skip-after 1",
             "--schema a:int64 --skip 1",
             "--schema a:int64 -s ;",
+            "--schema a:int64 --sep ; --out-sep ; --out-sep ;",
+            "--schema a:int64 --out-sep ab",
+            "--schema a:int64 --out-quote none",
+            "--schema a:int64 --out-null=",
+            "--schema a:int64 --out-null NA --out-null=NA",
+            "--schema a:int64 --out-eol cr",
+            "--schema a:int64 --out-eol lf --out-eol lf",
+            "--schema a:int64 --style Always",
+            "--schema a:int64 --out-bom=x",
+            "--schema a:int64 --out-bom --out-bom",
+            "--out-no-header --schema a:int64 --out-no-header",
             "--schema a:int64 --",
             "--schema a:int64 ",
         ] {

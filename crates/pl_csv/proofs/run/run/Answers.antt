@@ -31,6 +31,13 @@ returns-in-Err-clause-option g c = λ e.
     let now = views (g.So.Source.left c.convert.new.source) (g.Si.Sink.received c.convert.new.out) (g.So.Source.faults c.convert.new.source) (g.Si.Sink.faults c.convert.new.out) in
     refused-as words before now c.in-Err.refusal 12 c.in-Err.ensures.refused (sym c.status.ensures ∙ e)
 
+pub returns-in-Err-clause-quote : goal.returns-in-Err-clause-quote
+returns-in-Err-clause-quote g c = λ e.
+    let words = map string_bytes c.args.words.now in
+    let before = views (g.So.Source.left c.args.source.now) (g.Si.Sink.received c.args.out.now) (g.So.Source.faults c.args.source.now) (g.Si.Sink.faults c.args.out.now) in
+    let now = views (g.So.Source.left c.convert.new.source) (g.Si.Sink.received c.convert.new.out) (g.So.Source.faults c.convert.new.source) (g.Si.Sink.faults c.convert.new.out) in
+    refused-as words before now c.in-Err.refusal 13 c.in-Err.ensures.refused (sym c.status.ensures ∙ e)
+
 pub returns-in-Err-clause-compressed : goal.returns-in-Err-clause-compressed
 returns-in-Err-clause-compressed g c = λ e.
     let words = map string_bytes c.args.words.now in

@@ -1,3 +1,4 @@
+pub mod BufferLaws
 pub mod DateLaws
 pub mod DecimalLaws
 pub mod IntegerLaws

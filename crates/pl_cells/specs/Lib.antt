@@ -1,4 +1,5 @@
 pub mod Booleans
+pub mod Buffers
 pub mod Cells
 pub mod Dates
 pub mod Decimals

@@ -1,0 +1,58 @@
+-- What a buffer holds, and what a cell adds to it (docs/types.md, "Buffers").
+use Rattle.std.specs.Prelude.{◌≡◌, ℕ, ◌++◌, Bool, List, [], ◌∷◌, Option, None, Some, Result, Ok, Err}
+use Rattle.pl_frame.specs.declared.data_type.DataType.{DataType}
+use Rattle.pl_frame.specs.declared.error.FaultKind.TheVariants as fault
+use Rattle.pl_frame.specs.Frame.{Scalar, ColumnValue}
+use Rattle.pl_cells.specs.declared.cell_fault.CellFault.{CellFault}
+use Rattle.pl_cells.specs.declared.cell_fault.CellFault.TheVariants as cell_fault
+use Rattle.pl_cells.specs.declared.utf8.CsvEncoding.{CsvEncoding}
+use Rattle.pl_cells.specs.Cells.{Cell, Reading, plain_field_cell, field_cell}
+
+-- a column that is being read: its name, its type, how its texts are read, and its cells so far
+pub record BufferValue : Type 0 where
+  pub name : List ℕ
+  pub dtype : DataType
+  pub quote_char : Option ℕ
+  pub encoding : CsvEncoding
+  pub values : List (Option Scalar)
+
+-- the column that it is, once all is read
+abbrev pub column_of : BufferValue → ColumnValue
+column_of buffer = record { name = buffer.name; dtype = buffer.dtype; values = buffer.values }
+
+-- the same with one cell more
+abbrev pub with_value : BufferValue → Option Scalar → BufferValue
+with_value buffer value = record {
+  name = buffer.name;
+  dtype = buffer.dtype;
+  quote_char = buffer.quote_char;
+  encoding = buffer.encoding;
+  values = buffer.values ++ value ∷ [];
+}
+
+-- how a buffer reads
+abbrev pub reading_of : BufferValue → Bool → Bool → Reading
+reading_of buffer missing_is_null ignore_errors = record { encoding = buffer.encoding; missing_is_null = missing_is_null; ignore_errors = ignore_errors }
+
+-- the cell of a field without its carriage return, given whether it begins with the quote; where there is no quote none does
+abbrev pub given_cell : Reading → Option ℕ → DataType → Bool → List ℕ → Cell
+given_cell reading None type is_quoted field = plain_field_cell reading type field
+given_cell reading (Some q) type is_quoted field = field_cell reading q type is_quoted field
+
+-- the buffer has the cell's value at its end
+pub record AddsCell (old new : BufferValue) (c : Cell) : Type 0 where
+  pub value : Option Scalar
+  pub is : c ≡ Ok value
+  pub pushed : new ≡ with_value old value
+
+-- the cell has the fault, or memory was wanting
+abbrev pub IsCellFault : CellFault → Cell → Type 0
+IsCellFault cell_fault.OutOfMemory c = Unit {0}
+IsCellFault cell_fault.Escape c = c ≡ Err fault.Escape
+IsCellFault cell_fault.Utf8 c = c ≡ Err fault.Utf8
+IsCellFault cell_fault.Value c = c ≡ Err fault.Value
+
+-- the cell was added, or it has the fault that is answered and nothing changed
+abbrev pub Answers : {T : Type 0} → BufferValue → BufferValue → Cell → Result T CellFault → Type 0
+Answers old new c (Ok done) = AddsCell old new c
+Answers old new c (Err wrong) = IsCellFault wrong c × (new ≡ old)

@@ -1,8 +1,9 @@
 -- What a buffer holds, and what a cell adds to it (docs/types.md, "Buffers").
-use Rattle.std.specs.Prelude.{◌≡◌, ℕ, ◌++◌, Bool, List, [], ◌∷◌, Option, None, Some, Result, Ok, Err}
+use Rattle.std.specs.Prelude.{◌≡◌, ℕ, ◌++◌, Bool, true, false, if◌then◌else◌, List, [], ◌∷◌, Option, None, Some, Result, Ok, Err}
 use Rattle.pl_frame.specs.declared.data_type.DataType.{DataType}
+use Rattle.pl_frame.specs.declared.data_type.DataType.TheVariants as dtype
 use Rattle.pl_frame.specs.declared.error.FaultKind.TheVariants as fault
-use Rattle.pl_frame.specs.Frame.{Scalar, ColumnValue}
+use Rattle.pl_frame.specs.Frame.{Scalar, Letters, ColumnValue}
 use Rattle.pl_cells.specs.declared.cell_fault.CellFault.{CellFault}
 use Rattle.pl_cells.specs.declared.cell_fault.CellFault.TheVariants as cell_fault
 use Rattle.pl_cells.specs.declared.utf8.CsvEncoding.{CsvEncoding}
@@ -52,7 +53,40 @@ IsCellFault cell_fault.Escape c = c ≡ Err fault.Escape
 IsCellFault cell_fault.Utf8 c = c ≡ Err fault.Utf8
 IsCellFault cell_fault.Value c = c ≡ Err fault.Value
 
+-- the fault is one of those that give a null where errors are ignored
+abbrev pub is_ignored : Bool → CellFault → Bool
+is_ignored true cell_fault.Utf8 = true
+is_ignored true cell_fault.Value = true
+is_ignored _ wrong = false
+
 -- the cell was added, or it has the fault that is answered and nothing changed
 abbrev pub Answers : {T : Type 0} → BufferValue → BufferValue → Cell → Result T CellFault → Type 0
 Answers old new c (Ok done) = AddsCell old new c
 Answers old new c (Err wrong) = IsCellFault wrong c × (new ≡ old)
+
+-- ---- lists of values
+
+-- how texts of an encoding are read
+abbrev pub reading_with : CsvEncoding → Bool → Bool → Reading
+reading_with encoding missing_is_null ignore_errors = record { encoding = encoding; missing_is_null = missing_is_null; ignore_errors = ignore_errors }
+
+-- the list has the cell's value at its end
+pub record AddsValue (old new : List (Option Scalar)) (c : Cell) : Type 0 where
+  pub value : Option Scalar
+  pub is : c ≡ Ok value
+  pub pushed : new ≡ old ++ value ∷ []
+
+-- the cell was added to the list, or it has the fault that is answered and nothing changed
+abbrev pub ListAnswers : {T : Type 0} → List (Option Scalar) → List (Option Scalar) → Cell → Result T CellFault → Type 0
+ListAnswers old new c (Ok done) = AddsValue old new c
+ListAnswers old new c (Err wrong) = IsCellFault wrong c × (new ≡ old)
+
+-- the value of a missing text: none, or the empty text where the column holds strings and missing ones are not null
+abbrev pub missing_value : Bool → DataType → Option Scalar
+missing_value is_null dtype.String = if is_null then None else Some (Letters [])
+missing_value is_null type = None
+
+-- an enum's categories, and texts among them
+pub record EnumValue : Type 0 where
+  pub categories : List (List ℕ)
+  pub texts : List (Option (List ℕ))

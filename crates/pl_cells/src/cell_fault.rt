@@ -1,5 +1,6 @@
 //! What is wrong with a cell.
 ghost use Rattle.std.specs.Prelude.{◌≡◌};
+ghost use Rattle.pl_cells.specs.Buffers.{is_ignored};
 
 use std::alloc::AllocError;
 
@@ -23,5 +24,15 @@ impl From<AllocError> for CellFault {
 
     fn from(_e: AllocError) -> CellFault {
         CellFault::OutOfMemory
+    }
+}
+
+impl CellFault {
+    /// Whether the cell is null instead, which is so for some faults where errors are ignored.
+    #[inline]
+    pub fn is_ignored(self, ignore_errors: bool) -> bool
+        ensures { result ≡ is_ignored ignore_errors self }
+    {
+        ignore_errors && matches!(self, CellFault::Utf8 | CellFault::Value)
     }
 }

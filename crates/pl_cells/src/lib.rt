@@ -10,6 +10,8 @@ pub mod decimals;
 pub mod integers;
 pub mod moment_types;
 pub mod quoting;
+pub mod text_buffer;
+pub mod text_types;
 pub mod times;
 pub mod utf8;
 pub mod value_buffer;

@@ -1,6 +1,7 @@
 pub mod BufferLaws
 pub mod DateLaws
 pub mod DecimalLaws
+pub mod EnumLaws
 pub mod IntegerLaws
 pub mod QuotingLaws
 mod Rows

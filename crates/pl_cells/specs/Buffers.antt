@@ -3,6 +3,8 @@ use Rattle.std.specs.Prelude.{◌≡◌, ℕ, ◌++◌, Bool, true, false, if◌
 use Rattle.pl_frame.specs.declared.data_type.DataType.{DataType}
 use Rattle.pl_frame.specs.declared.data_type.DataType.TheVariants as dtype
 use Rattle.pl_frame.specs.declared.error.FaultKind.TheVariants as fault
+use Rattle.pl_frame.specs.Categories.{AreCodes, decoded}
+use Rattle.pl_frame.specs.Columns.{text_cells, HoldsType}
 use Rattle.pl_frame.specs.Frame.{Scalar, Letters, ColumnValue}
 use Rattle.pl_cells.specs.declared.cell_fault.CellFault.{CellFault}
 use Rattle.pl_cells.specs.declared.cell_fault.CellFault.TheVariants as cell_fault
@@ -90,3 +92,8 @@ missing_value is_null type = None
 pub record EnumValue : Type 0 where
   pub categories : List (List ℕ)
   pub texts : List (Option (List ℕ))
+
+-- each code is the place of its text among the categories, and each text is one of their enum
+pub record ArePlaces (categories : List (List ℕ)) (places : List (Option ℕ)) : Type 0 where
+  pub codes : AreCodes categories places
+  pub held : HoldsType (dtype.Enum (Some categories)) (text_cells (decoded categories places))

@@ -7,6 +7,7 @@ pub mod column_settings;
 pub mod dates;
 pub mod decimal_type;
 pub mod decimals;
+pub mod enum_texts;
 pub mod integers;
 pub mod moment_types;
 pub mod quoting;

@@ -1,5 +1,5 @@
 -- Laws of cells by the kind of their type.
-use Rattle.std.proofs.Common.{◌≡◌, ℕ, ◌==◌, Bool, true, false, List, [], ◌∷◌, ◌++◌, length, Option, Some, None, Result, Ok, Err, refl, sym, ◌∙◌, ap, subst}
+use Rattle.std.proofs.Common.{◌≡◌, ℕ, ◌==◌, Bool, true, false, if◌then◌else◌, List, [], ◌∷◌, ◌++◌, length, Option, Some, None, Result, Ok, Err, refl, sym, ◌∙◌, ap, subst}
 use Rattle.pl_frame.specs.declared.data_type.DataType.{DataType}
 use Rattle.pl_frame.specs.declared.data_type.DataType.TheVariants as dtype
 use Rattle.pl_frame.specs.Types.{is_text}
@@ -7,7 +7,7 @@ use Rattle.pl_frame.specs.declared.error.FaultKind.{FaultKind}
 use Rattle.pl_frame.specs.declared.error.FaultKind.TheVariants as fault
 use Rattle.pl_cells.specs.declared.cell_fault.CellFault.{CellFault}
 use Rattle.pl_cells.specs.declared.cell_fault.CellFault.TheVariants as cell_fault
-use Rattle.pl_cells.specs.Quoting.{undouble}
+use Rattle.pl_cells.specs.Quoting.{is_well_quoted, inside, undouble}
 use Rattle.std.specs.Option.{option_map}
 use Rattle.std.specs.Str.{is_utf8}
 use Rattle.std.proofs.lemmas.List.{map-append}
@@ -16,8 +16,8 @@ use Rattle.pl_frame.specs.Columns.{text_cells}
 use Rattle.pl_frame.specs.Frame.{Scalar, Letters}
 use Rattle.pl_cells.specs.declared.utf8.CsvEncoding.{CsvEncoding}
 use Rattle.pl_cells.specs.declared.utf8.CsvEncoding.TheVariants as encodings
-use Rattle.pl_cells.specs.Buffers.{BufferValue, Answers, AddsValue, ListAnswers, IsCellFault, is_ignored, missing_value, reading_of, reading_with}
-use Rattle.pl_cells.specs.Cells.{Cell, Reading, plain_cell, quoted_cell, plain_field_cell, softened, value_or_null, counted_text, string_cell, text_cell, missing_cell}
+use Rattle.pl_cells.specs.Buffers.{BufferValue, Answers, given_cell, AddsValue, ListAnswers, IsCellFault, is_ignored, missing_value, reading_of, reading_with}
+use Rattle.pl_cells.specs.Cells.{Cell, Reading, plain_cell, quoted_cell, plain_field_cell, quoted_field_cell, field_cell, softened, value_or_null, counted_text, string_cell, text_cell, missing_cell}
 
 abbrev record_of : List ℕ → DataType → Option ℕ → CsvEncoding → List (Option Scalar) → BufferValue
 record_of name type quote encoding values = record { name = name; dtype = type; quote_char = quote; encoding = encoding; values = values }
@@ -228,3 +228,71 @@ pub quoted_same : (view old : BufferValue) (missing ignore : Bool) (q : ℕ) (te
 quoted_same view old missing ignore q text t is same texts =
     ap (softened ignore) (ap (text_cell (reading_of view missing ignore) view.dtype) same ∙ sym (quoted_text (reading_of view missing ignore) q view.dtype text texts))
     ∙ ap (λ (b : BufferValue). softened ignore (quoted_cell (reading_of b missing ignore) q b.dtype text)) is
+
+-- a type that holds no texts has no missing text but the null
+pub missing_no_text : (is_null : Bool) (type : DataType) → is_text type ≡ false → missing_value is_null type ≡ None
+missing_no_text is_null dtype.Boolean h = refl
+missing_no_text is_null dtype.Int8 h = refl
+missing_no_text is_null dtype.Int16 h = refl
+missing_no_text is_null dtype.Int32 h = refl
+missing_no_text is_null dtype.Int64 h = refl
+missing_no_text is_null dtype.Int128 h = refl
+missing_no_text is_null dtype.UInt8 h = refl
+missing_no_text is_null dtype.UInt16 h = refl
+missing_no_text is_null dtype.UInt32 h = refl
+missing_no_text is_null dtype.UInt64 h = refl
+missing_no_text is_null dtype.Categorical h = refl
+missing_no_text is_null dtype.Date h = refl
+missing_no_text is_null dtype.Time h = refl
+missing_no_text is_null dtype.Null h = refl
+missing_no_text is_null (dtype.Enum c) h = refl
+missing_no_text is_null (dtype.Datetime u) h = refl
+missing_no_text is_null (dtype.Decimal p s) h = refl
+missing_no_text is_null dtype.String h = absurd (cc)
+
+-- ---- fields
+
+-- whether a missing text is null does not matter to a text
+text_any : (encoding : CsvEncoding) (a b ignore : Bool) (type : DataType) (text : List ℕ) → text_cell (reading_with encoding a ignore) type text ≡ text_cell (reading_with encoding b ignore) type text
+text_any encoding a b ignore dtype.Boolean text = refl
+text_any encoding a b ignore dtype.Int8 text = refl
+text_any encoding a b ignore dtype.Int16 text = refl
+text_any encoding a b ignore dtype.Int32 text = refl
+text_any encoding a b ignore dtype.Int64 text = refl
+text_any encoding a b ignore dtype.Int128 text = refl
+text_any encoding a b ignore dtype.UInt8 text = refl
+text_any encoding a b ignore dtype.UInt16 text = refl
+text_any encoding a b ignore dtype.UInt32 text = refl
+text_any encoding a b ignore dtype.UInt64 text = refl
+text_any encoding a b ignore dtype.String text = refl
+text_any encoding a b ignore dtype.Categorical text = refl
+text_any encoding a b ignore dtype.Date text = refl
+text_any encoding a b ignore dtype.Time text = refl
+text_any encoding a b ignore dtype.Null text = refl
+text_any encoding a b ignore (dtype.Enum None) text = refl
+text_any encoding a b ignore (dtype.Enum (Some c)) text = refl
+text_any encoding a b ignore (dtype.Datetime u) text = refl
+text_any encoding a b ignore (dtype.Decimal p s) text = refl
+
+quoted_any : (encoding : CsvEncoding) (a b ignore : Bool) (q : ℕ) (type : DataType) (field : List ℕ)
+    → quoted_field_cell (reading_with encoding a ignore) q type field ≡ quoted_field_cell (reading_with encoding b ignore) q type field
+quoted_any encoding a b ignore q type field =
+    let doubled = text_any encoding a b ignore type (undouble q (inside field)) in
+    let same = text_any encoding a b ignore type (inside field) in
+    (λ j. if is_well_quoted q field then softened ignore (if is_text type then doubled j else same j) else Err fault.Escape)
+
+-- a field that begins with the quote
+pub given_quoted : {T : Type 0} (old new : BufferValue) (quote : Option ℕ) (q : ℕ) (missing ignore is_quoted : Bool) (field : List ℕ) (r : Result T CellFault) → quote ≡ old.quote_char → quote ≡ Some q → is_quoted ≡ true
+    → Answers old new (quoted_field_cell (reading_of old true ignore) q old.dtype field) r → Answers old new (given_cell (reading_of old missing ignore) old.quote_char old.dtype is_quoted field) r
+given_quoted old new quote q missing ignore is_quoted field r same is begins h =
+    subst (λ (o : Option ℕ). Answers old new (given_cell (reading_of old missing ignore) o old.dtype is_quoted field) r) (sym is ∙ same)
+    (subst (λ (b : Bool). Answers old new (field_cell (reading_of old missing ignore) q old.dtype b field) r) (sym begins)
+    (subst (λ (c : Cell). Answers old new c r) (quoted_any old.encoding true missing ignore q old.dtype field) h))
+
+pub quoted_inside : {T : Type 0} (old new : BufferValue) (ignore : Bool) (q : ℕ) (field text : List ℕ) (r : Result T CellFault) → is_well_quoted q field ≡ true → text ≡ inside field
+    → Answers old new (softened ignore (quoted_cell (reading_of old true ignore) q old.dtype text)) r → Answers old new (quoted_field_cell (reading_of old true ignore) q old.dtype field) r
+quoted_inside old new ignore q field text r well is h =
+    let cells : softened ignore (quoted_cell (reading_of old true ignore) q old.dtype text) ≡ quoted_field_cell (reading_of old true ignore) q old.dtype field =
+    ap (λ (t : List ℕ). softened ignore (quoted_cell (reading_of old true ignore) q old.dtype t)) is
+    ∙ (λ j. if sym well j then softened ignore (quoted_cell (reading_of old true ignore) q old.dtype (inside field)) else Err fault.Escape) in
+    subst (λ (c : Cell). Answers old new c r) cells h

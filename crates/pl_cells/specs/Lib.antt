@@ -1,4 +1,5 @@
 pub mod Booleans
+pub mod BufferState
 pub mod Buffers
 pub mod Cells
 pub mod Dates

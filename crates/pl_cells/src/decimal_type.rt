@@ -1,5 +1,5 @@
 //! The type whose values are decimals.
-ghost use Rattle.std.specs.Prelude.{◌≡◌, true, Some};
+ghost use Rattle.std.specs.Prelude.{◌≡◌, refl, true, Some};
 ghost use Rattle.pl_frame.specs.declared.data_type.DataType.TheVariants as dtype;
 ghost use Rattle.pl_frame.specs.Columns.{HoldsType, number_cells};
 ghost use Rattle.pl_frame.specs.Frame.{Number};
@@ -26,6 +26,8 @@ impl ValueType for Decimal {
     ghost dtype = { λ kind. dtype.Decimal kind.precision (Some kind.scale) };
 
     ghost scalar = { Number };
+
+    ghost no_text = { λ _. refl };
 
     #[inline]
     fn data_type(&self) -> DataType {

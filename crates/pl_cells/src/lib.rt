@@ -2,6 +2,8 @@
 #![tactic(auto)]
 
 pub mod booleans;
+pub mod buffer;
+pub mod buffers;
 pub mod cell_fault;
 pub mod column_settings;
 pub mod dates;

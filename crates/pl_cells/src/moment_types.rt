@@ -1,5 +1,5 @@
 //! Types whose values are days, times and datetimes.
-ghost use Rattle.std.specs.Prelude.{◌≡◌};
+ghost use Rattle.std.specs.Prelude.{◌≡◌, refl};
 ghost use Rattle.pl_frame.specs.declared.data_type.DataType.TheVariants as dtype;
 ghost use Rattle.pl_frame.specs.Columns.{HoldsType, number_cells};
 ghost use Rattle.pl_frame.specs.Frame.{Number};
@@ -22,6 +22,8 @@ impl ValueType for Date {
     ghost dtype = { λ _. dtype.Date };
 
     ghost scalar = { Number };
+
+    ghost no_text = { λ _. refl };
 
     #[inline]
     fn data_type(&self) -> DataType {
@@ -56,6 +58,8 @@ impl ValueType for Time {
     ghost dtype = { λ _. dtype.Time };
 
     ghost scalar = { Number };
+
+    ghost no_text = { λ _. refl };
 
     #[inline]
     fn data_type(&self) -> DataType {
@@ -92,6 +96,8 @@ impl ValueType for Datetime {
     ghost dtype = { λ kind. dtype.Datetime kind.unit };
 
     ghost scalar = { Number };
+
+    ghost no_text = { λ _. refl };
 
     #[inline]
     fn data_type(&self) -> DataType {

@@ -155,7 +155,7 @@ impl<L: TextType> TextBuffer<L> {
         quote: u8,
         ignore_errors: bool,
     ) -> Result<(), CellFault>
-        ensures { (missing : Bool) → Answers self.old self.new (softened ignore_errors (quoted_cell (reading_of self.old missing ignore_errors) quote self.old.dtype text.now)) result }
+        ensures { Answers self.old self.new (softened ignore_errors (quoted_cell (reading_of self.old true ignore_errors) quote self.old.dtype text.now)) result }
     {
         let alloc = *self.scratch.allocator();
         let encoding = self.settings.encoding;

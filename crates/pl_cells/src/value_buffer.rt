@@ -1,7 +1,7 @@
 //! Buffers of truth values and of numbers.
-ghost use Rattle.std.specs.Prelude.{◌≡◌, ℕ, Bool, false, [], length, OnOk, OnErr, None};
+ghost use Rattle.std.specs.Prelude.{◌≡◌, true, [], length, OnOk, OnErr, None};
 ghost use Rattle.pl_frame.specs.Types.{is_text};
-ghost use Rattle.pl_cells.specs.Buffers.{Answers, with_value, reading_of, column_of};
+ghost use Rattle.pl_cells.specs.Buffers.{Answers, with_value, missing_value, reading_of, column_of};
 ghost use Rattle.pl_cells.specs.Cells.{plain_field_cell, quoted_cell, softened, value_or_null, counted_text};
 ghost use Rattle.pl_cells.specs.Integers.{without_blanks};
 
@@ -54,8 +54,7 @@ fn skip_blanks(text: &[u8]) -> &[u8]
 // What counts of a text of a type.
 #[inline]
 fn counted<'a, K: ValueType>(kind: &K, text: &'a [u8]) -> &'a [u8]
-    ensures text { result.now ≡ counted_text (K.dtype kind.now) text.now }
-    ensures no_text { is_text (K.dtype kind.now) ≡ false }
+    ensures { result.now ≡ counted_text (K.dtype kind.now) text.now }
 {
     if kind.skips_blanks() {
         skip_blanks(text)
@@ -106,10 +105,10 @@ impl<K: ValueType> ValueBuffer<K> {
         self.values.reserve(additional)
     }
 
-    /// Puts a null at the end. Refuses only want of memory, and is then as it was.
+    /// Puts the cell of a missing text at the end, which is a null. Refuses only want of memory, and is then as it was.
     #[inline]
-    pub fn add_null(&mut self) -> Result<(), AllocError>
-        ensures ok { OnOk result (self.new ≡ with_value self.old None) }
+    pub fn add_missing(&mut self, _is_null: bool) -> Result<(), AllocError>
+        ensures ok { OnOk result (self.new ≡ with_value self.old (missing_value _is_null self.old.dtype)) }
         ensures err { OnErr result (self.new ≡ self.old) }
     {
         self.values.push_null()
@@ -132,12 +131,30 @@ impl<K: ValueType> ValueBuffer<K> {
         Ok(())
     }
 
-    /// Puts the cell of a plain text at the end, or of what stands between quotes. Refuses a text without a value
-    /// (`Value`), where errors are not ignored, and want of memory; the buffer is then as it was.
+    /// Puts the cell of a plain text at the end. Refuses a text without a value (`Value`), where errors are not ignored,
+    /// and want of memory; the buffer is then as it was.
     #[inline]
-    pub fn add(&mut self, text: &[u8], ignore_errors: bool) -> Result<(), CellFault>
-        ensures plain { (missing : Bool) → Answers self.old self.new (plain_field_cell (reading_of self.old missing ignore_errors) self.old.dtype text.now) result }
-        ensures quoted { (missing : Bool) → (q : ℕ) → Answers self.old self.new (softened ignore_errors (quoted_cell (reading_of self.old missing ignore_errors) q self.old.dtype text.now)) result }
+    pub fn add_plain(
+        &mut self,
+        text: &[u8],
+        ignore_errors: bool,
+        missing_is_null: bool,
+    ) -> Result<(), CellFault>
+        ensures { Answers self.old self.new (plain_field_cell (reading_of self.old missing_is_null ignore_errors) self.old.dtype text.now) result }
+    {
+        let text = counted(&self.kind, text);
+        self.add_value(text, ignore_errors)
+    }
+
+    /// Puts the cell of what stands between quotes at the end, which is that of a plain text. Refuses as `add_plain` does.
+    #[inline]
+    pub fn add_quoted(
+        &mut self,
+        text: &[u8],
+        quote: u8,
+        ignore_errors: bool,
+    ) -> Result<(), CellFault>
+        ensures { Answers self.old self.new (softened ignore_errors (quoted_cell (reading_of self.old true ignore_errors) quote self.old.dtype text.now)) result }
     {
         let text = counted(&self.kind, text);
         self.add_value(text, ignore_errors)

@@ -1,5 +1,5 @@
 //! The types whose cells are truth values or numbers, each with the values that texts have.
-ghost use Rattle.std.specs.Prelude.{◌≡◌, List, Option, map, true, false, IfSome};
+ghost use Rattle.std.specs.Prelude.{◌≡◌, refl, List, Option, map, true, false, IfSome};
 ghost use Rattle.std.specs.Option.{option_map};
 ghost use Rattle.pl_frame.specs.declared.data_type.DataType.{DataType};
 ghost use Rattle.pl_frame.specs.declared.data_type.DataType.TheVariants as dtype;
@@ -29,8 +29,7 @@ pub trait ValueType {
 
     /// Whether spaces and tabs in front of a text don't count: they don't in front of whole numbers.
     fn skips_blanks(&self) -> bool
-        ensures blanks { result ≡ is_whole_number (dtype self.now) }
-        ensures no_text { is_text (dtype self.now) ≡ false };
+        ensures { result ≡ is_whole_number (dtype self.now) };
 
     /// The value that a text has, which is one of the type.
     fn parse(&self, text: &[u8]) -> Option<Self::Kept>
@@ -41,6 +40,8 @@ pub trait ValueType {
     fn column(self, name: PlSmallStr, values: Numbers<Self::Kept>) -> Column
         requires { HoldsType (dtype self) (map (option_map scalar) values) }
         ensures { result ≡ record { name = name; dtype = dtype self; values = map (option_map scalar) values } };
+
+    ghost no_text: { (kind : Self) → is_text (dtype kind) ≡ false };
 }
 
 /// `true` and `false`.
@@ -53,6 +54,8 @@ impl ValueType for Boolean {
     ghost dtype = { λ _. dtype.Boolean };
 
     ghost scalar = { Truth };
+
+    ghost no_text = { λ _. refl };
 
     #[inline]
     fn data_type(&self) -> DataType {

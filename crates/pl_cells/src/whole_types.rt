@@ -1,5 +1,5 @@
 //! Types whose values are whole numbers: those of so many bits with a sign, and those without one.
-ghost use Rattle.std.specs.Prelude.{◌≡◌};
+ghost use Rattle.std.specs.Prelude.{◌≡◌, refl};
 ghost use Rattle.pl_frame.specs.declared.data_type.DataType.TheVariants as dtype;
 ghost use Rattle.pl_frame.specs.Columns.{HoldsType, number_cells};
 ghost use Rattle.pl_frame.specs.Frame.{Number};
@@ -23,6 +23,8 @@ impl ValueType for Int8 {
     ghost dtype = { λ _. dtype.Int8 };
 
     ghost scalar = { Number };
+
+    ghost no_text = { λ _. refl };
 
     #[inline]
     fn data_type(&self) -> DataType {
@@ -58,6 +60,8 @@ impl ValueType for Int16 {
 
     ghost scalar = { Number };
 
+    ghost no_text = { λ _. refl };
+
     #[inline]
     fn data_type(&self) -> DataType {
         DataType::Int16
@@ -91,6 +95,8 @@ impl ValueType for Int32 {
     ghost dtype = { λ _. dtype.Int32 };
 
     ghost scalar = { Number };
+
+    ghost no_text = { λ _. refl };
 
     #[inline]
     fn data_type(&self) -> DataType {
@@ -126,6 +132,8 @@ impl ValueType for Int64 {
 
     ghost scalar = { Number };
 
+    ghost no_text = { λ _. refl };
+
     #[inline]
     fn data_type(&self) -> DataType {
         DataType::Int64
@@ -159,6 +167,8 @@ impl ValueType for Int128 {
     ghost dtype = { λ _. dtype.Int128 };
 
     ghost scalar = { Number };
+
+    ghost no_text = { λ _. refl };
 
     #[inline]
     fn data_type(&self) -> DataType {
@@ -194,6 +204,8 @@ impl ValueType for UInt8 {
 
     ghost scalar = { Number };
 
+    ghost no_text = { λ _. refl };
+
     #[inline]
     fn data_type(&self) -> DataType {
         DataType::UInt8
@@ -227,6 +239,8 @@ impl ValueType for UInt16 {
     ghost dtype = { λ _. dtype.UInt16 };
 
     ghost scalar = { Number };
+
+    ghost no_text = { λ _. refl };
 
     #[inline]
     fn data_type(&self) -> DataType {
@@ -262,6 +276,8 @@ impl ValueType for UInt32 {
 
     ghost scalar = { Number };
 
+    ghost no_text = { λ _. refl };
+
     #[inline]
     fn data_type(&self) -> DataType {
         DataType::UInt32
@@ -295,6 +311,8 @@ impl ValueType for UInt64 {
     ghost dtype = { λ _. dtype.UInt64 };
 
     ghost scalar = { Number };
+
+    ghost no_text = { λ _. refl };
 
     #[inline]
     fn data_type(&self) -> DataType {

@@ -1,6 +1,9 @@
+pub mod BufferLaws
 pub mod DateLaws
 pub mod DecimalLaws
+pub mod EnumLaws
 pub mod IntegerLaws
+pub mod PlaceLaws
 pub mod QuotingLaws
 mod Rows
 pub mod TimeLaws

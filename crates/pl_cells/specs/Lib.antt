@@ -1,4 +1,6 @@
 pub mod Booleans
+pub mod BufferState
+pub mod Buffers
 pub mod Cells
 pub mod Dates
 pub mod Decimals

@@ -2,9 +2,21 @@
 #![tactic(auto)]
 
 pub mod booleans;
+pub mod buffer;
+pub mod buffers;
+pub mod cell_fault;
+pub mod column_settings;
 pub mod dates;
+pub mod decimal_type;
 pub mod decimals;
+pub mod enum_texts;
 pub mod integers;
+pub mod moment_types;
 pub mod quoting;
+pub mod text_buffer;
+pub mod text_types;
 pub mod times;
 pub mod utf8;
+pub mod value_buffer;
+pub mod value_types;
+pub mod whole_types;

@@ -17,7 +17,7 @@ use Rattle.pl_frame.proofs.OptionalLaws.{AllUtf8-push, AllUtf8-at}
 use Rattle.pl_frame.proofs.SchemaLaws.{none_passes, position-map}
 
 -- the text for which a code stands
-abbrev text_for : List (List ℕ) → Option ℕ → Option (List ℕ)
+abbrev pub text_for : List (List ℕ) → Option ℕ → Option (List ℕ)
 text_for d c = option_map (λ code. get_or d code []) c
 
 dictionary-push : (values : List (Option (List ℕ))) (v : Option (List ℕ)) → dictionary_of (values ++ v ∷ []) ≡ with_text (dictionary_of values) v

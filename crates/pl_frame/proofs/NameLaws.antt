@@ -1,12 +1,14 @@
 -- Laws of names that stand twice.
-use Rattle.std.proofs.Common.{◌≡◌, ◌≢◌, ℕ, zero, suc, ◌+◌, ◌<◌, Bool, true, false, ◌||◌, cond, List, [], ◌∷◌, length, take, map, get_or, Option, Some, None, refl, sym, ◌∙◌, ap, subst, arith, AllPairs, find}
+use Rattle.std.proofs.Common.{◌≡◌, ◌≢◌, ℕ, zero, suc, ◌+◌, ◌<◌, Bool, true, false, ◌||◌, cond, List, [], ◌∷◌, length, take, map, position, get_or, Option, Some, None, refl, sym, ◌∙◌, ap, subst, arith, AllPairs, find}
 use Rattle.std.specs.List.{list_any, range_with_len}
 use Rattle.std.specs.Str.{bytes_eq}
 use Rattle.std.proofs.lemmas.List.{take-map, get_or-map, get_or-take, get_or_default, length-take}
 use Rattle.std.proofs.lemmas.List.Folds.{list_any_at}
+use Rattle.std.proofs.lemmas.Bool.{false_from_ne_true}
 use Rattle.std.proofs.lemmas.Option.{none-some}
 use Rattle.std.proofs.lemmas.Slice.Eq.{bytes_eq-Decides}
 use Rattle.pl_frame.specs.Names.{is_repeat, first_repeat}
+use Rattle.pl_frame.proofs.ColumnLaws.{position-nowhere}
 
 list_any-map : {X Y : Type 0} (p : Y → Bool) (f : X → Y) (xs : List X) → list_any p (map f xs) ≡ list_any (λ x. p (f x)) xs
 list_any-map p f [] = refl
@@ -87,3 +89,12 @@ distinct_from_first_repeat names none i j d l m same =
     list_any_at (λ earlier. bytes_eq earlier (get_or names j [])) (take j names) i d before
     ((bytes_eq-Decides (get_or (take j names) i d) (get_or names j [])).1 equal) in
     cc
+
+-- among names of which none stands twice, none is among those before it
+pub absent_before : (names : List (List ℕ)) (i : ℕ) (name : List ℕ) → first_repeat names ≡ None → i < length names → get_or names i [] ≡ name →
+    position (bytes_eq name) (take i names) ≡ None
+absent_before names i name none l at =
+    position-nowhere (bytes_eq name) (take i names) []
+    (λ k h. let below : k < i = let n = length-take i names in omega (arith, h, n) in
+    false_from_ne_true _ (λ e. distinct_from_first_repeat names none k i [] below l
+    (sym (get_or-take i names k [] below) ∙ sym ((bytes_eq-Decides _ _).0 e) ∙ sym at)))

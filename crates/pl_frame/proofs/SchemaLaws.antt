@@ -1,6 +1,6 @@
 -- Names that stand both in a list of fields and as the keys of a set.
 use Rattle.std.proofs.Common.{◌≡◌, ℕ, ◌+◌, ◌<◌, ◌≤◌, Bool, ◌||◌, not, cond, if◌then◌else◌, nat_lt, true, false, List, [], ◌∷◌, ◌++◌, length, map, position, slice_get, slice_set, get_or, Option, None, Some, refl, sym, ◌∙◌, ap, subst, arith}
-use Rattle.std.specs.List.{prefix_len, position_or_len, list_any, IsDistinct, AllByRecursion}
+use Rattle.std.specs.List.{prefix_len, position_or_len, list_any, IsDistinct, AllByRecursion, AllZip}
 use Rattle.std.specs.Option.{option_map, option_map_or, option_and_then}
 use Rattle.std.specs.Str.{bytes_eq}
 use Rattle.indexmap.specs.IndexSet.{insert_key}
@@ -147,3 +147,10 @@ place_of-at entries n i distinct within at =
     (λ k h. false_from_ne_true _ (λ e. distinct k i [] h within (sym ((bytes_eq-Decides _ _).0 e) ∙ sym at)))
     (λ _. (bytes_eq-Decides _ _).1 (sym at)) in
     ap (λ k. cond (nat_lt k (length names)) (Some k) None) first ∙ ap (λ b. cond b (Some i) None) (lt-ltb i (length names) within)
+
+-- the keys of a set and of its clone
+pub keys_cloned : {K : Type 0} (bytes : K → List ℕ) (xs ys : List K) → AllZip (λ x y. bytes y ≡ bytes x) xs ys → map bytes ys ≡ map bytes xs
+keys_cloned bytes [] [] h = refl
+keys_cloned bytes [] (y ∷ ys) h = absurd h
+keys_cloned bytes (x ∷ xs) [] h = absurd h
+keys_cloned bytes (x ∷ xs) (y ∷ ys) h = λ j. h.0 j ∷ keys_cloned bytes xs ys h.1 j

@@ -1,8 +1,11 @@
+pub mod Casts
 pub mod Categories
 pub mod Causes
 pub mod ColumnData
 pub mod Columns
 pub mod Dialect
+pub mod Equal
+pub mod EqualLaws
 pub mod Frame
 pub mod Names
 pub mod Opening

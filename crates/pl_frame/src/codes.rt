@@ -1,9 +1,10 @@
 //! Texts as codes beside a dictionary.
-ghost use Rattle.std.specs.Prelude.{◌≡◌, ◌<◌, [], ◌∷◌, ◌++◌, length, ◌==◌, OnOk, OnErr, IfSome, IfNone, None, Some, slice_get, count_by, is_none, position, unwrap_or};
+ghost use Rattle.std.specs.Prelude.{◌≡◌, ◌<◌, [], ◌∷◌, ◌++◌, length, ◌==◌, OnOk, OnErr, IfOk, IfSome, IfNone, None, Some, slice_get, count_by, is_none, position, unwrap_or};
 ghost use Rattle.std.specs.Str.{bytes_eq};
 ghost use Rattle.pl_frame.specs.Categories.{code_of, dictionary_of};
 ghost use Rattle.pl_frame.specs.Optional.{AreAllUtf8};
 
+use crate::data_type::copy_texts;
 use crate::name::PlSmallStr;
 use crate::numbers::Numbers;
 use indexmap::IndexSet;
@@ -48,6 +49,17 @@ impl Codes {
         ensures utf8 { AreAllUtf8 self.now }
     {
         self.codes.len()
+    }
+
+    /// Equal texts. Refuses only want of memory.
+    pub fn try_clone(&self) -> Result<Self, AllocError>
+        ensures { IfOk result (λ texts. texts ≡ self.now) }
+    {
+        let codes = self.codes.try_clone()?;
+        match copy_texts(*self.dictionary.allocator(), &self.dictionary) {
+            Ok(dictionary) => Ok(Codes { codes, dictionary }),
+            Err(_) => Err(AllocError),
+        }
     }
 
     /// The texts that occur, each once, in order of first appearance, without taking memory.

@@ -1,12 +1,14 @@
 //! Columns: a name, a type and values of that type.
-ghost use Rattle.std.specs.Prelude.{◌≡◌, ◌<◌, true, length, IfOk, IsOk, count_by, is_none, replicate, slice_get, slice_index_or, unwrap_or, [], None};
+ghost use Rattle.std.specs.Prelude.{◌≡◌, ◌<◌, true, length, IfOk, IfSome, IsOk, IsOkUnless, count_by, is_none, replicate, slice_get, slice_index_or, unwrap_or, [], None};
 ghost use Rattle.std.specs.Option.{option_map};
 ghost use Rattle.pl_frame.specs.Categories.{AreCodes, decoded};
 ghost use Rattle.pl_frame.specs.Columns.{scalar_of, truth_cells, number_cells, text_cells, is_number, is_coded, is_enum, categories_of, HoldsType, dictionary, code_at};
 ghost use Rattle.pl_frame.specs.Frame.{Truth, Number, Letters, cell_at};
+ghost use Rattle.pl_frame.specs.declared.error.PolarsError.TheVariants as error;
 
 use crate::codes::Codes;
 use crate::data_type::DataType;
+use crate::error::{PolarsError, PolarsResult};
 use crate::name::PlSmallStr;
 use crate::numbers::Numbers;
 use crate::texts::Texts;
@@ -177,6 +179,19 @@ impl Column {
         })
     }
 
+    /// An equal column. Refuses only want of memory.
+    pub fn try_clone(&self) -> PolarsResult<Column>
+        ensures equal { IfOk result (λ column. column ≡ self.now) }
+        ensures refused { IsOkUnless result error.OutOfMemory }
+    {
+        let name = self.name.try_clone()?;
+        let dtype = self.dtype.try_clone()?;
+        match copy_kept(&self.kept) {
+            Ok(kept) => Ok(Column { name, dtype, kept }),
+            Err(_) => Err(PolarsError::OutOfMemory),
+        }
+    }
+
     /// The name, without taking memory.
     pub fn name(&self) -> &str
         ensures { result.now ≡ self.now.name }
@@ -239,6 +254,17 @@ impl Column {
         }
     }
 
+    // The numbers, where they are kept in 64 bits.
+    #[inline]
+    pub(crate) fn narrow_numbers(&self) -> Option<&Numbers<i64>>
+        ensures { IfSome result (λ numbers. number_cells numbers.now ≡ self.now.values) }
+    {
+        match &self.kept {
+            Data::Narrow(numbers) => Some(numbers),
+            _ => None,
+        }
+    }
+
     /// The dictionary, without taking memory: of an enum its categories, and of a `Categorical` column its texts, each
     /// once, in order of first appearance.
     pub fn categories(&self) -> &[PlSmallStr]
@@ -265,6 +291,21 @@ impl Column {
             _ => None,
         }
     }
+}
+
+// Equal values, kept in the same way.
+fn copy_kept(kept: &Data) -> Result<Data, AllocError>
+    ensures { IfOk result (λ copy. copy ≡ kept.now) }
+{
+    Ok(match kept {
+        Data::Boolean(truths) => Data::Boolean(truths.try_clone()?),
+        Data::Narrow(numbers) => Data::Narrow(numbers.try_clone()?),
+        Data::Wide(numbers) => Data::Wide(numbers.try_clone()?),
+        Data::String(texts) => Data::String(texts.try_clone()?),
+        Data::Categories(texts) => Data::Categories(texts.try_clone()?),
+        Data::Enum(places) => Data::Enum(places.try_clone()?),
+        Data::Null(len) => Data::Null(*len),
+    })
 }
 
 #[inline]

@@ -83,8 +83,8 @@ impl Categories {
     }
 }
 
-// Equal texts.
-fn copy_texts(alloc: Global, texts: &[PlSmallStr]) -> PolarsResult<Vec<PlSmallStr>>
+/// Equal texts. Refuses only want of memory.
+pub(crate) fn copy_texts(alloc: Global, texts: &[PlSmallStr]) -> PolarsResult<Vec<PlSmallStr>>
     ensures equal { IfOk result (λ copies. copies.items ≡ texts.now) }
     ensures refused { IsOkUnless result error.OutOfMemory }
 {

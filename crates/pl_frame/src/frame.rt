@@ -1,9 +1,16 @@
 //! Frames: columns of one height with distinct names.
-ghost use Rattle.std.specs.Prelude.{◌≡◌, ◌<◌, length, IfSome, IfOk, OnOk, IfErr, None, Some, slice_index_or, []};
+ghost use Rattle.std.specs.Prelude.{◌≡◌, ◌<◌, length, IfSome, IfOk, OnOk, OnErr, IfErr, true, IsOkUnless, None, Some, slice_index_or, []};
+ghost use Rattle.std.specs.Bool.{Decides};
+ghost use Rattle.std.specs.Cmp.{partial_equiv_from_equiv};
+ghost use Rattle.std.specs.Cmp.Lexicographic.{lists_equiv, lists_per, pointwise};
+ghost use Rattle.pl_frame.specs.Casts.{can_cast, with_cast};
+ghost use Rattle.pl_frame.specs.Equal.{columns_equal};
+ghost use Rattle.pl_frame.specs.declared.error.PolarsError.TheVariants as error;
 ghost use Rattle.pl_frame.specs.Frame.{HaveHeight, IsFrame, height_of, names_of};
 ghost use Rattle.pl_frame.specs.Names.{IsRepeatFault, first_repeat, repeated_name};
 
 use crate::column::Column;
+use crate::data_type::DataType;
 use crate::error::{NamePlace, PolarsError, PolarsResult};
 use crate::name::{Named, PlSmallStr, find_repeat};
 use std::alloc::Global;
@@ -58,6 +65,38 @@ impl DataFrame {
         DataFrame { columns }
     }
 
+    /// An equal frame. Refuses only want of memory.
+    pub fn try_clone(&self) -> PolarsResult<DataFrame>
+        ensures equal { IfOk result (λ frame. frame ≡ self.now) }
+        ensures refused { IsOkUnless result error.OutOfMemory }
+    {
+        let columns = copy_columns(*self.columns.allocator(), &self.columns)?;
+        Ok(DataFrame { columns })
+    }
+
+    /// Whether another frame is the same: equal columns in the same order. Takes no memory.
+    pub fn equals(&self, other: &DataFrame) -> bool
+        ensures { Decides result (self.now ≡ other.now) }
+    {
+        self == other
+    }
+
+    /// Casts the column at a place to another type: each value stays where it is one of that type, and becomes null where
+    /// it is none. `DataType::casts_to` tells which types go together. Refuses only want of memory, and is then as it was.
+    pub fn cast(&mut self, column: usize, to: &DataType) -> PolarsResult<()>
+        requires { can_cast self.old column to.now ≡ true }
+        ensures cast { OnOk result (self.new ≡ with_cast self.old column to.now) }
+        ensures unchanged { OnErr result (self.new ≡ self.old) }
+        ensures refused { IsOkUnless result error.OutOfMemory }
+    {
+        if self.columns[column].dtype() == to {
+            return Ok(());
+        }
+        let cast = self.columns[column].cast(*self.columns.allocator(), to)?;
+        self.columns[column] = cast;
+        Ok(())
+    }
+
     /// The number of rows, without taking memory.
     pub fn height(&self) -> usize
         ensures { result ≡ height_of self.now }
@@ -82,6 +121,40 @@ impl DataFrame {
     {
         &self.columns
     }
+}
+
+// By its columns in order.
+impl PartialEq for DataFrame {
+    ghost use Rattle.pl_frame.specs.EqualLaws.{columns_equiv};
+
+    ghost eq = { pointwise columns_equal };
+
+    ghost laws = { lists_per (partial_equiv_from_equiv columns_equiv) };
+
+    fn eq(&self, other: &DataFrame) -> bool {
+        self.columns == other.columns
+    }
+}
+
+impl Eq for DataFrame {
+    ghost use Rattle.pl_frame.specs.EqualLaws.{columns_equiv};
+
+    ghost laws = { lists_equiv columns_equiv };
+}
+
+// Equal columns.
+fn copy_columns(alloc: Global, columns: &[Column]) -> PolarsResult<Vec<Column>>
+    ensures equal { IfOk result (λ copies. copies.items ≡ columns.now) }
+    ensures refused { IsOkUnless result error.OutOfMemory }
+{
+    let mut copies = Vec::new(alloc);
+    for column in columns {
+        let copy = column.try_clone()?;
+        if copies.push(copy).is_err() {
+            return Err(PolarsError::OutOfMemory);
+        }
+    }
+    Ok(copies)
 }
 
 // The refusal of a name that stands twice.

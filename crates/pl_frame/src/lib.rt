@@ -2,15 +2,18 @@
 //! sources and sinks of bytes.
 #![tactic(auto)]
 
+pub mod cast;
 pub mod codes;
 pub mod column;
 pub mod data_type;
+pub mod equal;
 pub mod error;
 pub mod frame;
 pub mod made;
 pub mod name;
 pub mod numbers;
 pub mod opener;
+pub mod places;
 pub mod range;
 pub mod schema;
 pub mod sink;

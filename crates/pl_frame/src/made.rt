@@ -1,17 +1,18 @@
 //! Columns that are made of given values.
 ghost use Rattle.std.specs.Prelude.{◌≡◌, ◌<◌, [], ◌∷◌, ◌++◌, true, false, not, length, IfOk, OnOk, IfErr, position, None, Some, IsOkUnless};
 ghost use Rattle.std.specs.Option.{option_map};
-ghost use Rattle.std.specs.Str.{bytes_eq};
 ghost use Rattle.pl_frame.specs.Categories.{AreCodes, decoded};
 ghost use Rattle.pl_frame.specs.Columns.{truth_cells, number_cells, text_cells, is_number, is_enum, categories_of, misfits, first_misfit, IsFirstFault};
 ghost use Rattle.pl_frame.specs.Frame.{Letters};
+ghost use Rattle.pl_frame.specs.Names.{first_repeat};
 ghost use Rattle.pl_frame.specs.Types.{is_readable, is_text, is_outside, signed_range};
 
 use crate::codes::{Codes, CodesBuilder};
 use crate::column::{Column, ColumnFault};
-use crate::data_type::DataType;
+use crate::data_type::{Categories, DataType};
 use crate::name::PlSmallStr;
 use crate::numbers::Numbers;
+use crate::places::Places;
 use crate::texts::Texts;
 use std::alloc::{AllocError, Global};
 
@@ -72,7 +73,7 @@ impl Column {
     {
         match &dtype {
             DataType::Enum(Some(categories)) => {
-                match collect_places(alloc, categories.texts(), &values) {
+                match places_of(alloc, categories, &values) {
                     Ok(places) => Ok(Column::from_enum(name, dtype, places)),
                     Err(fault) => Err(fault),
                 }
@@ -119,7 +120,7 @@ fn collect_narrow(alloc: Global, values: &[Option<i128>]) -> Result<Numbers<i64>
 
 // Puts a number that fits 64 bits at the end.
 #[inline]
-fn push_narrow(numbers: &mut Numbers<i64>, value: Option<i128>) -> Result<(), AllocError>
+pub(crate) fn push_narrow(numbers: &mut Numbers<i64>, value: Option<i128>) -> Result<(), AllocError>
     requires { is_outside (signed_range 64) value ≡ false }
     ensures { OnOk result (numbers.new ≡ numbers.old ++ value ∷ []) }
 {
@@ -167,9 +168,25 @@ fn collect_codes(alloc: Global, values: &[Option<PlSmallStr>]) -> Result<Codes, 
 }
 
 // The places of texts among categories of which none stands twice, up to the first text that is none of them.
+fn places_of(
+    alloc: Global,
+    categories: &Categories,
+    values: &[Option<PlSmallStr>],
+) -> Result<Numbers<u64>, ColumnFault>
+    requires { first_repeat categories.now ≡ None }
+    ensures decoded { IfOk result (λ places. decoded categories.now places ≡ values.now) }
+    ensures places { IfOk result (λ places. AreCodes categories.now places) }
+    ensures in_range { OnOk result (first_misfit (DataType.Enum (Some categories.now)) (text_cells values.now) ≡ None) }
+    ensures refused { IfErr result (IsFirstFault (first_misfit (DataType.Enum (Some categories.now)) (text_cells values.now))) }
+{
+    let categories = Places::new(alloc, categories.texts())?;
+    collect_places(alloc, &categories, values)
+}
+
+// The same, where the places of the categories are known.
 fn collect_places(
     alloc: Global,
-    categories: &[PlSmallStr],
+    categories: &Places,
     values: &[Option<PlSmallStr>],
 ) -> Result<Numbers<u64>, ColumnFault>
     ensures decoded { IfOk result (λ places. decoded categories.now places ≡ values.now) }
@@ -190,7 +207,7 @@ fn collect_places(
 // Puts the place of a text at the end, and says whether it has one.
 fn push_place(
     places: &mut Numbers<u64>,
-    categories: &[PlSmallStr],
+    categories: &Places,
     value: &Option<PlSmallStr>,
 ) -> Result<bool, AllocError>
     requires { AreCodes categories.now places.old }
@@ -200,7 +217,7 @@ fn push_place(
 {
     match value {
         None => places.push_null()?,
-        Some(text) => match place_of(categories, text.as_str()) {
+        Some(text) => match categories.find(text.as_str()) {
             Some(place) => places.push(place as u64)?,
             None => return Ok(false),
         },
@@ -208,18 +225,11 @@ fn push_place(
     Ok(true)
 }
 
-// The first place of a text.
-fn place_of(texts: &[PlSmallStr], text: &str) -> Option<usize>
-    ensures { result ≡ position (bytes_eq text.now) texts.now }
-{
-    texts.iter().position(|other| text == other.as_str())
-}
-
 #[cfg(test)]
 mod tests {
     use super::*;
     use crate::column::Value;
-    use crate::data_type::{Categories, TimeUnit};
+    use crate::data_type::TimeUnit;
     use std::test::Fail;
 
     // The row that is refused of three numbers.

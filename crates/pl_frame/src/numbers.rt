@@ -1,5 +1,5 @@
 //! Numbers, some of which are missing.
-ghost use Rattle.std.specs.Prelude.{◌≡◌, ◌<◌, [], ◌∷◌, ◌++◌, length, ◌==◌, OnOk, OnErr, slice_get, count_by, is_none};
+ghost use Rattle.std.specs.Prelude.{◌≡◌, ◌<◌, [], ◌∷◌, ◌++◌, length, ◌==◌, OnOk, OnErr, IfOk, slice_get, count_by, is_none};
 
 use std::alloc::{AllocError, Global};
 use std::marker::Model;
@@ -85,6 +85,17 @@ impl<T: Copy + Default> Numbers<T> {
         Ok(())
     }
 
+    /// Equal numbers. Refuses only want of memory.
+    pub fn try_clone(&self) -> Result<Self, AllocError>
+        ensures { IfOk result (λ numbers. numbers ≡ self.now) }
+    {
+        let alloc = *self.values.allocator();
+        Ok(Numbers {
+            values: copy_of(alloc, &self.values)?,
+            present: copy_of(alloc, &self.present)?,
+        })
+    }
+
     /// The number at a place, or a null, without taking memory.
     #[inline]
     pub fn get(&self, i: usize) -> Option<T>
@@ -104,6 +115,15 @@ impl<T: Copy + Default> Numbers<T> {
     {
         self.present.iter().filter(|flag| !**flag).count()
     }
+}
+
+/// A copy of these items. Refuses only want of memory.
+pub(crate) fn copy_of<T: Copy>(alloc: Global, items: &[T]) -> Result<Vec<T>, AllocError>
+    ensures { IfOk result (λ copy. copy.items ≡ items.now) }
+{
+    let mut copy = Vec::new(alloc);
+    copy.extend_from_slice(items)?;
+    Ok(copy)
 }
 
 #[cfg(test)]

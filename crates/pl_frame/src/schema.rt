@@ -1,5 +1,7 @@
 //! Schemas: ordered lists of distinct names with types.
 ghost use Rattle.std.specs.Prelude.{◌≡◌, ◌≢◌, ◌++◌, ◌∷◌, [], length, slice_get, None, Some, IfOk, IfErr, OnOk, OnErr, IsOkUnless, IsNone};
+ghost use Rattle.std.specs.Cmp.{partial_equiv_from_equiv};
+ghost use Rattle.std.specs.Cmp.Lexicographic.{lists_equiv, lists_per, pointwise};
 ghost use Rattle.std.specs.Option.{option_map};
 ghost use Rattle.pl_frame.specs.declared.error.PolarsError.TheVariants as error;
 
@@ -12,10 +14,38 @@ use std::marker::Model;
 use std::mem;
 
 /// A name with a type.
-#[derive(Debug, Drop)]
+#[derive(Debug, Drop, PartialEq, Eq)]
 pub struct Field {
     pub name: PlSmallStr,
     pub dtype: DataType,
+}
+
+impl Field {
+    /// An equal name with an equal type. Refuses only want of memory.
+    pub fn try_clone(&self) -> PolarsResult<Field>
+        ensures equal { IfOk result (λ field. field ≡ self.now) }
+        ensures refused { IsOkUnless result error.OutOfMemory }
+    {
+        Ok(Field {
+            name: self.name.try_clone()?,
+            dtype: self.dtype.try_clone()?,
+        })
+    }
+}
+
+// Equal fields.
+fn copy_fields(alloc: Global, fields: &[Field]) -> PolarsResult<Vec<Field>>
+    ensures equal { IfOk result (λ copies. copies.items ≡ fields.now) }
+    ensures refused { IsOkUnless result error.OutOfMemory }
+{
+    let mut copies = Vec::new(alloc);
+    for field in fields {
+        let copy = field.try_clone()?;
+        if copies.push(copy).is_err() {
+            return Err(PolarsError::OutOfMemory);
+        }
+    }
+    Ok(copies)
 }
 
 /// An ordered list of distinct names with types.
@@ -47,6 +77,18 @@ impl Schema {
         Schema {
             fields: Vec::new(alloc),
             places: IndexSet::new(alloc),
+        }
+    }
+
+    /// An equal schema. Refuses only want of memory.
+    pub fn try_clone(&self) -> PolarsResult<Schema>
+        ensures equal { IfOk result (λ schema. schema ≡ self.now) }
+        ensures refused { IsOkUnless result error.OutOfMemory }
+    {
+        let fields = copy_fields(*self.fields.allocator(), &self.fields)?;
+        match self.places.clone() {
+            Ok(places) => Ok(Schema { fields, places }),
+            Err(_) => Err(PolarsError::OutOfMemory),
         }
     }
 
@@ -137,6 +179,26 @@ impl Schema {
         self.fields.push_reserved(Field { name, dtype });
         Ok(())
     }
+}
+
+// By its names and types in order.
+impl PartialEq for Schema {
+    ghost use Rattle.pl_frame.specs.Equal.{entries_equal};
+    ghost use Rattle.pl_frame.specs.EqualLaws.{entries_equiv};
+
+    ghost eq = { pointwise entries_equal };
+
+    ghost laws = { lists_per (partial_equiv_from_equiv entries_equiv) };
+
+    fn eq(&self, other: &Schema) -> bool {
+        self.fields == other.fields
+    }
+}
+
+impl Eq for Schema {
+    ghost use Rattle.pl_frame.specs.EqualLaws.{entries_equiv};
+
+    ghost laws = { lists_equiv entries_equiv };
 }
 
 #[cfg(test)]

@@ -1,7 +1,8 @@
 //! Texts, some of which are missing.
-ghost use Rattle.std.specs.Prelude.{◌≡◌, ◌<◌, [], ◌∷◌, ◌++◌, length, ◌==◌, OnOk, OnErr, IfSome, IfNone, ◌≤◌, IsUtf8, slice_range, slice_index, slice_get, count_by, is_none};
+ghost use Rattle.std.specs.Prelude.{◌≡◌, ◌<◌, [], ◌∷◌, ◌++◌, length, ◌==◌, OnOk, OnErr, IfOk, IfSome, IfNone, ◌≤◌, IsUtf8, slice_range, slice_index, slice_get, count_by, is_none};
 ghost use Rattle.pl_frame.specs.Optional.{AreAllUtf8};
 
+use crate::numbers::copy_of;
 use std::alloc::{AllocError, Global};
 use std::marker::Model;
 
@@ -89,6 +90,18 @@ impl Texts {
         self.ends.push_reserved(self.bytes.len());
         self.present.push_reserved(false);
         Ok(())
+    }
+
+    /// Equal texts. Refuses only want of memory.
+    pub fn try_clone(&self) -> Result<Self, AllocError>
+        ensures { IfOk result (λ texts. texts ≡ self.now) }
+    {
+        let alloc = *self.bytes.allocator();
+        Ok(Texts {
+            bytes: copy_of(alloc, &self.bytes)?,
+            ends: copy_of(alloc, &self.ends)?,
+            present: copy_of(alloc, &self.present)?,
+        })
     }
 
     /// The text at a place, or a null, without taking memory.

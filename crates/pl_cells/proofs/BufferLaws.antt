@@ -1,0 +1,298 @@
+-- Laws of cells by the kind of their type.
+use Rattle.std.proofs.Common.{◌≡◌, ℕ, ◌==◌, Bool, true, false, if◌then◌else◌, List, [], ◌∷◌, ◌++◌, length, Option, Some, None, Result, Ok, Err, refl, sym, ◌∙◌, ap, subst}
+use Rattle.pl_frame.specs.declared.data_type.DataType.{DataType}
+use Rattle.pl_frame.specs.declared.data_type.DataType.TheVariants as dtype
+use Rattle.pl_frame.specs.Types.{is_text}
+use Rattle.pl_frame.specs.declared.error.FaultKind.{FaultKind}
+use Rattle.pl_frame.specs.declared.error.FaultKind.TheVariants as fault
+use Rattle.pl_cells.specs.declared.cell_fault.CellFault.{CellFault}
+use Rattle.pl_cells.specs.declared.cell_fault.CellFault.TheVariants as cell_fault
+use Rattle.pl_cells.specs.Quoting.{is_well_quoted, inside, undouble}
+use Rattle.std.specs.Option.{option_map}
+use Rattle.std.specs.Str.{is_utf8}
+use Rattle.std.proofs.lemmas.List.{map-append}
+use Rattle.std.proofs.lemmas.Str.{utf8_lossy-IsUtf8, IsUtf8-from_is_utf8}
+use Rattle.pl_frame.specs.Columns.{text_cells}
+use Rattle.pl_frame.specs.Frame.{Scalar, Letters}
+use Rattle.pl_cells.specs.declared.utf8.CsvEncoding.{CsvEncoding}
+use Rattle.pl_cells.specs.declared.utf8.CsvEncoding.TheVariants as encodings
+use Rattle.pl_cells.specs.Buffers.{BufferValue, Answers, given_cell, AddsValue, ListAnswers, IsCellFault, is_ignored, missing_value, reading_of, reading_with}
+use Rattle.pl_cells.specs.Cells.{Cell, Reading, plain_cell, quoted_cell, plain_field_cell, quoted_field_cell, field_cell, softened, value_or_null, counted_text, string_cell, text_cell, missing_cell}
+
+abbrev record_of : List ℕ → DataType → Option ℕ → CsvEncoding → List (Option Scalar) → BufferValue
+record_of name type quote encoding values = record { name = name; dtype = type; quote_char = quote; encoding = encoding; values = values }
+
+-- the cell of a type that holds no texts is its value or a null, in quotes or not
+pub plain_value : (reading : Reading) (type : DataType) (text : List ℕ) → is_text type ≡ false → plain_cell reading type text ≡ value_or_null type (counted_text type text)
+plain_value reading dtype.Boolean [] h = refl
+plain_value reading dtype.Boolean (x ∷ xs) h = refl
+plain_value reading dtype.Int8 [] h = refl
+plain_value reading dtype.Int8 (x ∷ xs) h = refl
+plain_value reading dtype.Int16 [] h = refl
+plain_value reading dtype.Int16 (x ∷ xs) h = refl
+plain_value reading dtype.Int32 [] h = refl
+plain_value reading dtype.Int32 (x ∷ xs) h = refl
+plain_value reading dtype.Int64 [] h = refl
+plain_value reading dtype.Int64 (x ∷ xs) h = refl
+plain_value reading dtype.Int128 [] h = refl
+plain_value reading dtype.Int128 (x ∷ xs) h = refl
+plain_value reading dtype.UInt8 [] h = refl
+plain_value reading dtype.UInt8 (x ∷ xs) h = refl
+plain_value reading dtype.UInt16 [] h = refl
+plain_value reading dtype.UInt16 (x ∷ xs) h = refl
+plain_value reading dtype.UInt32 [] h = refl
+plain_value reading dtype.UInt32 (x ∷ xs) h = refl
+plain_value reading dtype.UInt64 [] h = refl
+plain_value reading dtype.UInt64 (x ∷ xs) h = refl
+plain_value reading dtype.Date [] h = refl
+plain_value reading dtype.Date (x ∷ xs) h = refl
+plain_value reading dtype.Time [] h = refl
+plain_value reading dtype.Time (x ∷ xs) h = refl
+plain_value reading dtype.Null [] h = refl
+plain_value reading dtype.Null (x ∷ xs) h = refl
+plain_value reading (dtype.Datetime u) [] h = refl
+plain_value reading (dtype.Datetime u) (x ∷ xs) h = refl
+plain_value reading (dtype.Decimal p s) [] h = refl
+plain_value reading (dtype.Decimal p s) (x ∷ xs) h = refl
+plain_value reading dtype.String text h = absurd (cc)
+plain_value reading dtype.Categorical text h = absurd (cc)
+plain_value reading (dtype.Enum c) text h = absurd (cc)
+
+pub quoted_value : (reading : Reading) (q : ℕ) (type : DataType) (text : List ℕ) → is_text type ≡ false → quoted_cell reading q type text ≡ value_or_null type (counted_text type text)
+quoted_value reading q dtype.Boolean text h = refl
+quoted_value reading q dtype.Int8 text h = refl
+quoted_value reading q dtype.Int16 text h = refl
+quoted_value reading q dtype.Int32 text h = refl
+quoted_value reading q dtype.Int64 text h = refl
+quoted_value reading q dtype.Int128 text h = refl
+quoted_value reading q dtype.UInt8 text h = refl
+quoted_value reading q dtype.UInt16 text h = refl
+quoted_value reading q dtype.UInt32 text h = refl
+quoted_value reading q dtype.UInt64 text h = refl
+quoted_value reading q dtype.Date text h = refl
+quoted_value reading q dtype.Time text h = refl
+quoted_value reading q dtype.Null text h = refl
+quoted_value reading q (dtype.Datetime u) text h = refl
+quoted_value reading q (dtype.Decimal p s) text h = refl
+quoted_value reading q dtype.String text h = absurd (cc)
+quoted_value reading q dtype.Categorical text h = absurd (cc)
+quoted_value reading q (dtype.Enum c) text h = absurd (cc)
+
+-- what a buffer of values answers for a plain text, and for one between quotes
+pub answers_plain : {T : Type 0} (old new : BufferValue) (type : DataType) (text counted : List ℕ) (ignore missing : Bool) (r : Result T CellFault) → type ≡ old.dtype
+    → counted ≡ counted_text type text → is_text type ≡ false → Answers old new (softened ignore (value_or_null old.dtype counted)) r
+    → Answers old new (plain_field_cell (reading_of old missing ignore) old.dtype text) r
+answers_plain old new type text counted ignore missing r is counted_is no_text h =
+    let here : is_text old.dtype ≡ false = subst (λ (t : DataType). is_text t ≡ false) is no_text in
+    let same = ap (value_or_null old.dtype) (counted_is ∙ ap (λ (t : DataType). counted_text t text) is) ∙ sym (plain_value (reading_of old missing ignore) old.dtype text here) in
+    subst (λ (c : Cell). Answers old new (softened ignore c) r) same h
+
+pub answers_quoted : {T : Type 0} (old new : BufferValue) (type : DataType) (text counted : List ℕ) (ignore missing : Bool) (q : ℕ) (r : Result T CellFault) → type ≡ old.dtype
+    → counted ≡ counted_text type text → is_text type ≡ false → Answers old new (softened ignore (value_or_null old.dtype counted)) r
+    → Answers old new (softened ignore (quoted_cell (reading_of old missing ignore) q old.dtype text)) r
+answers_quoted old new type text counted ignore missing q r is counted_is no_text h =
+    let here : is_text old.dtype ≡ false = subst (λ (t : DataType). is_text t ≡ false) is no_text in
+    let same = ap (value_or_null old.dtype) (counted_is ∙ ap (λ (t : DataType). counted_text t text) is) ∙ sym (quoted_value (reading_of old missing ignore) q old.dtype text here) in
+    subst (λ (c : Cell). Answers old new (softened ignore c) r) same h
+
+-- ---- texts
+
+-- UTF-8 is read as it is, under either encoding
+pub string_valid : (encoding : CsvEncoding) (text : List ℕ) → is_utf8 text ≡ true → string_cell encoding text ≡ Ok (Some (Letters text))
+string_valid encodings.Utf8 text e = rw e refl
+string_valid encodings.LossyUtf8 text e = ap (λ (t : List ℕ). Ok (Some (Letters t))) (utf8_lossy-IsUtf8 text (IsUtf8-from_is_utf8 text e))
+
+-- a list of texts with one more
+pub added_text : (old new : List (Option (List ℕ))) (text t : List ℕ) (c : Cell) → new ≡ old ++ Some t ∷ [] → t ≡ text → c ≡ Ok (Some (Letters text)) → AddsValue (text_cells old) (text_cells new) c
+added_text old new text t c pushed same is = record {
+  value = Some (Letters text);
+  is = is;
+  pushed = ap text_cells pushed ∙ map-append (option_map Letters) old (Some t ∷ []) ∙ ap (λ (l : List ℕ). text_cells old ++ Some (Letters l) ∷ []) same;
+}
+
+-- a text that is missing and to be null
+pub missing_null : (type : DataType) → missing_value true type ≡ None
+missing_null dtype.Boolean = refl
+missing_null dtype.Int8 = refl
+missing_null dtype.Int16 = refl
+missing_null dtype.Int32 = refl
+missing_null dtype.Int64 = refl
+missing_null dtype.Int128 = refl
+missing_null dtype.UInt8 = refl
+missing_null dtype.UInt16 = refl
+missing_null dtype.UInt32 = refl
+missing_null dtype.UInt64 = refl
+missing_null dtype.String = refl
+missing_null dtype.Categorical = refl
+missing_null dtype.Date = refl
+missing_null dtype.Time = refl
+missing_null dtype.Null = refl
+missing_null (dtype.Enum c) = refl
+missing_null (dtype.Datetime u) = refl
+missing_null (dtype.Decimal p s) = refl
+
+string_missing : (encoding : CsvEncoding) (ignore is_null : Bool) → missing_cell (reading_with encoding is_null ignore) dtype.String ≡ Ok (missing_value is_null dtype.String)
+string_missing encoding ignore true = refl
+string_missing encoding ignore false = refl
+
+pub missing_is : (reading : Reading) (type : DataType) → missing_cell reading type ≡ Ok (missing_value reading.missing_is_null type)
+missing_is reading dtype.Boolean = refl
+missing_is reading dtype.Int8 = refl
+missing_is reading dtype.Int16 = refl
+missing_is reading dtype.Int32 = refl
+missing_is reading dtype.Int64 = refl
+missing_is reading dtype.Int128 = refl
+missing_is reading dtype.UInt8 = refl
+missing_is reading dtype.UInt16 = refl
+missing_is reading dtype.UInt32 = refl
+missing_is reading dtype.UInt64 = refl
+missing_is reading dtype.String = string_missing reading.encoding reading.ignore_errors reading.missing_is_null
+missing_is reading dtype.Categorical = refl
+missing_is reading dtype.Date = refl
+missing_is reading dtype.Time = refl
+missing_is reading dtype.Null = refl
+missing_is reading (dtype.Enum c) = refl
+missing_is reading (dtype.Datetime u) = refl
+missing_is reading (dtype.Decimal p s) = refl
+
+-- what is not missing is read by its text
+pub plain_some : (reading : Reading) (type : DataType) (text : List ℕ) → (length text == 0) ≡ false → plain_cell reading type text ≡ text_cell reading type text
+plain_some reading type [] e = absurd (cc)
+plain_some reading type (x ∷ xs) e = refl
+
+-- between quotes a text is undoubled
+pub quoted_text : (reading : Reading) (q : ℕ) (type : DataType) (text : List ℕ) → is_text type ≡ true → quoted_cell reading q type text ≡ text_cell reading type (undouble q text)
+quoted_text reading q type text is = rw is refl
+
+-- ---- faults that are ignored
+
+softened_ok : (ignore : Bool) (c : Cell) (value : Option Scalar) → c ≡ Ok value → softened ignore c ≡ Ok value
+softened_ok true c value e = rw e refl
+softened_ok false c value e = rw e refl
+
+softened_fault : (ignore : Bool) (c : Cell) (kind : FaultKind) → c ≡ Err kind → softened ignore (Err kind) ≡ Err kind → softened ignore c ≡ Err kind
+softened_fault ignore c kind e same = ap (softened ignore) e ∙ same
+
+pub fault_kept : (ignore : Bool) (wrong : CellFault) (c : Cell) → IsCellFault wrong c → is_ignored ignore wrong ≡ false → IsCellFault wrong (softened ignore c)
+fault_kept true cell_fault.Escape c e h = softened_fault true c fault.Escape e refl
+fault_kept true cell_fault.Utf8 c e h = absurd (cc)
+fault_kept true cell_fault.Value c e h = absurd (cc)
+fault_kept true cell_fault.OutOfMemory c e h = tt
+fault_kept false cell_fault.Escape c e h = softened_fault false c fault.Escape e refl
+fault_kept false cell_fault.Utf8 c e h = softened_fault false c fault.Utf8 e refl
+fault_kept false cell_fault.Value c e h = softened_fault false c fault.Value e refl
+fault_kept false cell_fault.OutOfMemory c e h = tt
+
+pub fault_ignored : (ignore : Bool) (wrong : CellFault) (c : Cell) → IsCellFault wrong c → is_ignored ignore wrong ≡ true → softened ignore c ≡ Ok None
+fault_ignored true cell_fault.Escape c e h = absurd (cc)
+fault_ignored true cell_fault.Utf8 c e h = ap (softened true) e
+fault_ignored true cell_fault.Value c e h = ap (softened true) e
+fault_ignored true cell_fault.OutOfMemory c e h = absurd (cc)
+fault_ignored false cell_fault.Escape c e h = absurd (cc)
+fault_ignored false cell_fault.Utf8 c e h = absurd (cc)
+fault_ignored false cell_fault.Value c e h = absurd (cc)
+fault_ignored false cell_fault.OutOfMemory c e h = absurd (cc)
+
+pub value_kept : (ignore : Bool) (old new : List (Option Scalar)) (c : Cell) → AddsValue old new c → AddsValue old new (softened ignore c)
+value_kept ignore old new c added = record { value = added.value; is = softened_ok ignore c added.value added.is; pushed = added.pushed }
+
+pub fault_null : (ignore : Bool) (wrong : CellFault) (type : DataType) (old now new : List (Option Scalar)) (c : Cell) → IsCellFault wrong c → is_ignored ignore wrong ≡ true → now ≡ old
+    → new ≡ now ++ missing_value true type ∷ [] → AddsValue old new (softened ignore c)
+fault_null ignore wrong type old now new c e h same pushed = record {
+  value = None;
+  is = fault_ignored ignore wrong c e h;
+  pushed = pushed ∙ (λ j. same j ++ missing_null type j ∷ []);
+}
+
+-- ---- from a list to its buffer
+
+-- a buffer whose list answered
+pub buffer_answers : {T : Type 0} (old : BufferValue) (name : List ℕ) (type type' : DataType) (quote : Option ℕ) (encoding : CsvEncoding) (values values' : List (Option Scalar)) (c c' : Cell)
+    (r : Result T CellFault)
+    → record_of name type quote encoding values ≡ old → type' ≡ type → c ≡ c' → ListAnswers values values' c r → Answers old (record_of name type' quote encoding values') c' r
+buffer_answers {T = T} old name type type' quote encoding values values' c c' r is same cells h =
+    subst (λ (o : BufferValue). Answers o (record_of name type' quote encoding values') c' r) is (subst (λ (d : Cell). Answers (record_of name type quote encoding values) (record_of name type' quote encoding values') d r) cells (by r h))
+  where
+    by : (s : Result T CellFault) → ListAnswers values values' c s → Answers (record_of name type quote encoding values) (record_of name type' quote encoding values') c s
+    by (Ok done) added = record { value = added.value; is = added.is; pushed = (λ j. record_of name (same j) quote encoding (added.pushed j)) }
+    by (Err wrong) (e, unchanged) = (e, (λ j. record_of name (same j) quote encoding (unchanged j)))
+
+-- the cell of a text of a buffer, by how its list reads it
+pub plain_same : (view old : BufferValue) (missing ignore : Bool) (text : List ℕ) → view ≡ old → (length text == 0) ≡ false
+    → softened ignore (text_cell (reading_of view missing ignore) view.dtype text) ≡ plain_field_cell (reading_of old missing ignore) old.dtype text
+plain_same view old missing ignore text is some =
+    ap (softened ignore) (sym (plain_some (reading_of view missing ignore) view.dtype text some)) ∙ ap (λ (b : BufferValue). plain_field_cell (reading_of b missing ignore) b.dtype text) is
+
+pub quoted_same : (view old : BufferValue) (missing ignore : Bool) (q : ℕ) (text t : List ℕ) → view ≡ old → t ≡ undouble q text → is_text view.dtype ≡ true
+    → softened ignore (text_cell (reading_of view missing ignore) view.dtype t) ≡ softened ignore (quoted_cell (reading_of old missing ignore) q old.dtype text)
+quoted_same view old missing ignore q text t is same texts =
+    ap (softened ignore) (ap (text_cell (reading_of view missing ignore) view.dtype) same ∙ sym (quoted_text (reading_of view missing ignore) q view.dtype text texts))
+    ∙ ap (λ (b : BufferValue). softened ignore (quoted_cell (reading_of b missing ignore) q b.dtype text)) is
+
+-- a type that holds no texts has no missing text but the null
+pub missing_no_text : (is_null : Bool) (type : DataType) → is_text type ≡ false → missing_value is_null type ≡ None
+missing_no_text is_null dtype.Boolean h = refl
+missing_no_text is_null dtype.Int8 h = refl
+missing_no_text is_null dtype.Int16 h = refl
+missing_no_text is_null dtype.Int32 h = refl
+missing_no_text is_null dtype.Int64 h = refl
+missing_no_text is_null dtype.Int128 h = refl
+missing_no_text is_null dtype.UInt8 h = refl
+missing_no_text is_null dtype.UInt16 h = refl
+missing_no_text is_null dtype.UInt32 h = refl
+missing_no_text is_null dtype.UInt64 h = refl
+missing_no_text is_null dtype.Categorical h = refl
+missing_no_text is_null dtype.Date h = refl
+missing_no_text is_null dtype.Time h = refl
+missing_no_text is_null dtype.Null h = refl
+missing_no_text is_null (dtype.Enum c) h = refl
+missing_no_text is_null (dtype.Datetime u) h = refl
+missing_no_text is_null (dtype.Decimal p s) h = refl
+missing_no_text is_null dtype.String h = absurd (cc)
+
+-- ---- fields
+
+-- whether a missing text is null does not matter to a text
+text_any : (encoding : CsvEncoding) (a b ignore : Bool) (type : DataType) (text : List ℕ) → text_cell (reading_with encoding a ignore) type text ≡ text_cell (reading_with encoding b ignore) type text
+text_any encoding a b ignore dtype.Boolean text = refl
+text_any encoding a b ignore dtype.Int8 text = refl
+text_any encoding a b ignore dtype.Int16 text = refl
+text_any encoding a b ignore dtype.Int32 text = refl
+text_any encoding a b ignore dtype.Int64 text = refl
+text_any encoding a b ignore dtype.Int128 text = refl
+text_any encoding a b ignore dtype.UInt8 text = refl
+text_any encoding a b ignore dtype.UInt16 text = refl
+text_any encoding a b ignore dtype.UInt32 text = refl
+text_any encoding a b ignore dtype.UInt64 text = refl
+text_any encoding a b ignore dtype.String text = refl
+text_any encoding a b ignore dtype.Categorical text = refl
+text_any encoding a b ignore dtype.Date text = refl
+text_any encoding a b ignore dtype.Time text = refl
+text_any encoding a b ignore dtype.Null text = refl
+text_any encoding a b ignore (dtype.Enum None) text = refl
+text_any encoding a b ignore (dtype.Enum (Some c)) text = refl
+text_any encoding a b ignore (dtype.Datetime u) text = refl
+text_any encoding a b ignore (dtype.Decimal p s) text = refl
+
+quoted_any : (encoding : CsvEncoding) (a b ignore : Bool) (q : ℕ) (type : DataType) (field : List ℕ)
+    → quoted_field_cell (reading_with encoding a ignore) q type field ≡ quoted_field_cell (reading_with encoding b ignore) q type field
+quoted_any encoding a b ignore q type field =
+    let doubled = text_any encoding a b ignore type (undouble q (inside field)) in
+    let same = text_any encoding a b ignore type (inside field) in
+    (λ j. if is_well_quoted q field then softened ignore (if is_text type then doubled j else same j) else Err fault.Escape)
+
+-- a field that begins with the quote
+pub given_quoted : {T : Type 0} (old new : BufferValue) (quote : Option ℕ) (q : ℕ) (missing ignore is_quoted : Bool) (field : List ℕ) (r : Result T CellFault) → quote ≡ old.quote_char → quote ≡ Some q → is_quoted ≡ true
+    → Answers old new (quoted_field_cell (reading_of old true ignore) q old.dtype field) r → Answers old new (given_cell (reading_of old missing ignore) old.quote_char old.dtype is_quoted field) r
+given_quoted old new quote q missing ignore is_quoted field r same is begins h =
+    subst (λ (o : Option ℕ). Answers old new (given_cell (reading_of old missing ignore) o old.dtype is_quoted field) r) (sym is ∙ same)
+    (subst (λ (b : Bool). Answers old new (field_cell (reading_of old missing ignore) q old.dtype b field) r) (sym begins)
+    (subst (λ (c : Cell). Answers old new c r) (quoted_any old.encoding true missing ignore q old.dtype field) h))
+
+pub quoted_inside : {T : Type 0} (old new : BufferValue) (ignore : Bool) (q : ℕ) (field text : List ℕ) (r : Result T CellFault) → is_well_quoted q field ≡ true → text ≡ inside field
+    → Answers old new (softened ignore (quoted_cell (reading_of old true ignore) q old.dtype text)) r → Answers old new (quoted_field_cell (reading_of old true ignore) q old.dtype field) r
+quoted_inside old new ignore q field text r well is h =
+    let cells : softened ignore (quoted_cell (reading_of old true ignore) q old.dtype text) ≡ quoted_field_cell (reading_of old true ignore) q old.dtype field =
+    ap (λ (t : List ℕ). softened ignore (quoted_cell (reading_of old true ignore) q old.dtype t)) is
+    ∙ (λ j. if sym well j then softened ignore (quoted_cell (reading_of old true ignore) q old.dtype (inside field)) else Err fault.Escape) in
+    subst (λ (c : Cell). Answers old new c r) cells h

@@ -1,0 +1,356 @@
+//! Buffers into which cells are read, one variant for each type that can be read.
+ghost use Rattle.std.specs.Prelude.{◌≡◌, Bool, [], true, not, length, IfOk, IsOk, OnOk, OnErr, IsOkUnless};
+ghost use Rattle.pl_frame.specs.declared.error.PolarsError.TheVariants as error;
+ghost use Rattle.pl_frame.specs.Types.{is_readable, is_readable_decimal};
+ghost use Rattle.pl_cells.specs.Buffers.{Answers, with_value, missing_value, reading_of, column_of, given_cell};
+ghost use Rattle.pl_cells.specs.BufferState.{state_of, empty_buffer};
+ghost use Rattle.pl_cells.specs.Cells.{plain_field_cell, quoted_cell, quoted_field_cell, softened};
+
+use crate::cell_fault::CellFault;
+use crate::column_settings::ColumnSettings;
+use crate::decimal_type::Decimal;
+use crate::enum_texts::EnumTexts;
+use crate::moment_types::{Date, Datetime, Time};
+use crate::quoting::between_quotes;
+use crate::text_buffer::TextBuffer;
+use crate::value_buffer::ValueBuffer;
+use crate::value_types::Boolean;
+use crate::whole_types::{Int8, Int16, Int32, Int64, Int128, UInt8, UInt16, UInt32, UInt64};
+use pl_frame::codes::CodesBuilder;
+use pl_frame::column::Series;
+use pl_frame::data_type::DataType;
+use pl_frame::error::{PolarsError, PolarsResult};
+use pl_frame::texts::Texts;
+use std::alloc::{AllocError, Global};
+
+/// The cells of a column that is being read.
+#[derive(Drop)]
+pub enum Buffer {
+    Boolean(ValueBuffer<Boolean>),
+    Int8(ValueBuffer<Int8>),
+    Int16(ValueBuffer<Int16>),
+    Int32(ValueBuffer<Int32>),
+    Int64(ValueBuffer<Int64>),
+    Int128(ValueBuffer<Int128>),
+    UInt8(ValueBuffer<UInt8>),
+    UInt16(ValueBuffer<UInt16>),
+    UInt32(ValueBuffer<UInt32>),
+    UInt64(ValueBuffer<UInt64>),
+    String(TextBuffer<Texts>),
+    Categorical(TextBuffer<CodesBuilder>),
+    Enum(TextBuffer<EnumTexts>),
+    Date(ValueBuffer<Date>),
+    Time(ValueBuffer<Time>),
+    Datetime(ValueBuffer<Datetime>),
+    Decimal(ValueBuffer<Decimal>),
+}
+
+impl Buffer {
+    // An empty buffer for a type that can be read.
+    pub fn new(alloc: Global, settings: ColumnSettings, dtype: &DataType) -> PolarsResult<Buffer>
+        requires { is_readable dtype.now ≡ true }
+        ensures empty { IfOk result (λ buffer. state_of buffer ≡ empty_buffer settings.quote_char settings.encoding (settings.name, dtype.now)) }
+        ensures refused { IsOkUnless result error.OutOfMemory }
+    {
+        Ok(match dtype {
+            DataType::Boolean => Buffer::Boolean(ValueBuffer::new(alloc, settings, Boolean)),
+            DataType::Int8 => Buffer::Int8(ValueBuffer::new(alloc, settings, Int8)),
+            DataType::Int16 => Buffer::Int16(ValueBuffer::new(alloc, settings, Int16)),
+            DataType::Int32 => Buffer::Int32(ValueBuffer::new(alloc, settings, Int32)),
+            DataType::Int64 => Buffer::Int64(ValueBuffer::new(alloc, settings, Int64)),
+            DataType::Int128 => Buffer::Int128(ValueBuffer::new(alloc, settings, Int128)),
+            DataType::UInt8 => Buffer::UInt8(ValueBuffer::new(alloc, settings, UInt8)),
+            DataType::UInt16 => Buffer::UInt16(ValueBuffer::new(alloc, settings, UInt16)),
+            DataType::UInt32 => Buffer::UInt32(ValueBuffer::new(alloc, settings, UInt32)),
+            DataType::UInt64 => Buffer::UInt64(ValueBuffer::new(alloc, settings, UInt64)),
+            DataType::String => Buffer::String(TextBuffer::new(alloc, settings, Texts::new(alloc))),
+            DataType::Categorical => Buffer::Categorical(TextBuffer::new(
+                alloc,
+                settings,
+                CodesBuilder::new(alloc),
+            )),
+            DataType::Enum(Some(categories)) => {
+                let texts = EnumTexts::new(alloc, categories.try_clone()?);
+                Buffer::Enum(TextBuffer::new(alloc, settings, texts))
+            }
+            DataType::Date => Buffer::Date(ValueBuffer::new(alloc, settings, Date)),
+            DataType::Time => Buffer::Time(ValueBuffer::new(alloc, settings, Time)),
+            DataType::Datetime(unit) => {
+                Buffer::Datetime(ValueBuffer::new(alloc, settings, Datetime { unit: *unit }))
+            }
+            DataType::Decimal(precision, Some(scale)) => {
+                let kind = Decimal {
+                    precision: *precision,
+                    scale: *scale,
+                };
+                Buffer::Decimal(ValueBuffer::new(alloc, settings, kind))
+            }
+            DataType::Enum(None) | DataType::Decimal(_, None) | DataType::Null => unreachable!(),
+        })
+    }
+
+    // The quote, if there is one.
+    #[inline]
+    fn quote_char(&self) -> Option<u8>
+        ensures { result ≡ (state_of self.now).quote_char }
+    {
+        match self {
+            Buffer::Boolean(buffer) => buffer.quote_char(),
+            Buffer::Int8(buffer) => buffer.quote_char(),
+            Buffer::Int16(buffer) => buffer.quote_char(),
+            Buffer::Int32(buffer) => buffer.quote_char(),
+            Buffer::Int64(buffer) => buffer.quote_char(),
+            Buffer::Int128(buffer) => buffer.quote_char(),
+            Buffer::UInt8(buffer) => buffer.quote_char(),
+            Buffer::UInt16(buffer) => buffer.quote_char(),
+            Buffer::UInt32(buffer) => buffer.quote_char(),
+            Buffer::UInt64(buffer) => buffer.quote_char(),
+            Buffer::String(buffer) => buffer.quote_char(),
+            Buffer::Categorical(buffer) => buffer.quote_char(),
+            Buffer::Enum(buffer) => buffer.quote_char(),
+            Buffer::Date(buffer) => buffer.quote_char(),
+            Buffer::Time(buffer) => buffer.quote_char(),
+            Buffer::Datetime(buffer) => buffer.quote_char(),
+            Buffer::Decimal(buffer) => buffer.quote_char(),
+        }
+    }
+
+    // Puts the cell of a plain field at the end.
+    #[inline]
+    fn add_plain(
+        &mut self,
+        text: &[u8],
+        ignore_errors: bool,
+        missing_is_null: bool,
+    ) -> Result<(), CellFault>
+        ensures { Answers (state_of self.old) (state_of self.new) (plain_field_cell (reading_of (state_of self.old) missing_is_null ignore_errors) (state_of self.old).dtype text.now) result }
+    {
+        match self {
+            Buffer::Boolean(buffer) => buffer.add_plain(text, ignore_errors, missing_is_null),
+            Buffer::Int8(buffer) => buffer.add_plain(text, ignore_errors, missing_is_null),
+            Buffer::Int16(buffer) => buffer.add_plain(text, ignore_errors, missing_is_null),
+            Buffer::Int32(buffer) => buffer.add_plain(text, ignore_errors, missing_is_null),
+            Buffer::Int64(buffer) => buffer.add_plain(text, ignore_errors, missing_is_null),
+            Buffer::Int128(buffer) => buffer.add_plain(text, ignore_errors, missing_is_null),
+            Buffer::UInt8(buffer) => buffer.add_plain(text, ignore_errors, missing_is_null),
+            Buffer::UInt16(buffer) => buffer.add_plain(text, ignore_errors, missing_is_null),
+            Buffer::UInt32(buffer) => buffer.add_plain(text, ignore_errors, missing_is_null),
+            Buffer::UInt64(buffer) => buffer.add_plain(text, ignore_errors, missing_is_null),
+            Buffer::String(buffer) => buffer.add_plain(text, ignore_errors, missing_is_null),
+            Buffer::Categorical(buffer) => buffer.add_plain(text, ignore_errors, missing_is_null),
+            Buffer::Enum(buffer) => buffer.add_plain(text, ignore_errors, missing_is_null),
+            Buffer::Date(buffer) => buffer.add_plain(text, ignore_errors, missing_is_null),
+            Buffer::Time(buffer) => buffer.add_plain(text, ignore_errors, missing_is_null),
+            Buffer::Datetime(buffer) => buffer.add_plain(text, ignore_errors, missing_is_null),
+            Buffer::Decimal(buffer) => buffer.add_plain(text, ignore_errors, missing_is_null),
+        }
+    }
+
+    // Puts the cell of what stands between quotes at the end.
+    fn add_quoted(&mut self, text: &[u8], quote: u8, ignore_errors: bool) -> Result<(), CellFault>
+        ensures { Answers (state_of self.old) (state_of self.new) (softened ignore_errors (quoted_cell (reading_of (state_of self.old) true ignore_errors) quote (state_of self.old).dtype text.now)) result }
+    {
+        match self {
+            Buffer::Boolean(buffer) => buffer.add_quoted(text, quote, ignore_errors),
+            Buffer::Int8(buffer) => buffer.add_quoted(text, quote, ignore_errors),
+            Buffer::Int16(buffer) => buffer.add_quoted(text, quote, ignore_errors),
+            Buffer::Int32(buffer) => buffer.add_quoted(text, quote, ignore_errors),
+            Buffer::Int64(buffer) => buffer.add_quoted(text, quote, ignore_errors),
+            Buffer::Int128(buffer) => buffer.add_quoted(text, quote, ignore_errors),
+            Buffer::UInt8(buffer) => buffer.add_quoted(text, quote, ignore_errors),
+            Buffer::UInt16(buffer) => buffer.add_quoted(text, quote, ignore_errors),
+            Buffer::UInt32(buffer) => buffer.add_quoted(text, quote, ignore_errors),
+            Buffer::UInt64(buffer) => buffer.add_quoted(text, quote, ignore_errors),
+            Buffer::String(buffer) => buffer.add_quoted(text, quote, ignore_errors),
+            Buffer::Categorical(buffer) => buffer.add_quoted(text, quote, ignore_errors),
+            Buffer::Enum(buffer) => buffer.add_quoted(text, quote, ignore_errors),
+            Buffer::Date(buffer) => buffer.add_quoted(text, quote, ignore_errors),
+            Buffer::Time(buffer) => buffer.add_quoted(text, quote, ignore_errors),
+            Buffer::Datetime(buffer) => buffer.add_quoted(text, quote, ignore_errors),
+            Buffer::Decimal(buffer) => buffer.add_quoted(text, quote, ignore_errors),
+        }
+    }
+
+    // Puts the cell of a field at the end that begins with the quote.
+    fn add_quoted_field(
+        &mut self,
+        field: &[u8],
+        quote: u8,
+        ignore_errors: bool,
+    ) -> Result<(), CellFault>
+        ensures { Answers (state_of self.old) (state_of self.new) (quoted_field_cell (reading_of (state_of self.old) true ignore_errors) quote (state_of self.old).dtype field.now) result }
+    {
+        match between_quotes(field, quote) {
+            Some(text) => self.add_quoted(text, quote, ignore_errors),
+            None => Err(CellFault::Escape),
+        }
+    }
+
+    /// Puts the cell of a field at the end. The field has lost its carriage return and is none of the null texts.
+    /// `needs_escaping` says whether it begins with the quote; where there is no quote it is taken for plain.
+    ///
+    /// Refuses a field that begins with the quote and does not end with another (`Escape`), and, where errors are not
+    /// ignored, a text that is not UTF-8 (`Utf8`) and one without a value of the type (`Value`), and want of memory. The
+    /// buffer is then as it was.
+    #[inline]
+    pub fn add(
+        &mut self,
+        bytes: &[u8],
+        ignore_errors: bool,
+        needs_escaping: bool,
+        missing_is_null: bool,
+    ) -> Result<(), CellFault>
+        ensures { Answers (state_of self.old) (state_of self.new) (given_cell (reading_of (state_of self.old) missing_is_null ignore_errors) (state_of self.old).quote_char (state_of self.old).dtype needs_escaping bytes.now) result }
+    {
+        if !needs_escaping {
+            return self.add_plain(bytes, ignore_errors, missing_is_null);
+        }
+        match self.quote_char() {
+            Some(quote) => self.add_quoted_field(bytes, quote, ignore_errors),
+            None => self.add_plain(bytes, ignore_errors, missing_is_null),
+        }
+    }
+
+    /// Puts a null at the end, or, where it is `valid` and the column holds strings, the empty text. Refuses only want of
+    /// memory, and is then as it was.
+    #[inline]
+    pub fn add_null(&mut self, valid: bool) -> PolarsResult<()>
+        ensures ok { OnOk result (state_of self.new ≡ with_value (state_of self.old) (missing_value (not valid) (state_of self.old).dtype)) }
+        ensures unchanged { OnErr result (state_of self.new ≡ state_of self.old) }
+        ensures refused { IsOkUnless result error.OutOfMemory }
+    {
+        match self.add_missing(!valid) {
+            Ok(()) => Ok(()),
+            Err(_) => Err(PolarsError::OutOfMemory),
+        }
+    }
+
+    // Puts the value of a missing text at the end.
+    #[inline]
+    fn add_missing(&mut self, is_null: bool) -> Result<(), AllocError>
+        ensures ok { OnOk result (state_of self.new ≡ with_value (state_of self.old) (missing_value is_null (state_of self.old).dtype)) }
+        ensures err { OnErr result (state_of self.new ≡ state_of self.old) }
+    {
+        match self {
+            Buffer::Boolean(buffer) => buffer.add_missing(is_null),
+            Buffer::Int8(buffer) => buffer.add_missing(is_null),
+            Buffer::Int16(buffer) => buffer.add_missing(is_null),
+            Buffer::Int32(buffer) => buffer.add_missing(is_null),
+            Buffer::Int64(buffer) => buffer.add_missing(is_null),
+            Buffer::Int128(buffer) => buffer.add_missing(is_null),
+            Buffer::UInt8(buffer) => buffer.add_missing(is_null),
+            Buffer::UInt16(buffer) => buffer.add_missing(is_null),
+            Buffer::UInt32(buffer) => buffer.add_missing(is_null),
+            Buffer::UInt64(buffer) => buffer.add_missing(is_null),
+            Buffer::String(buffer) => buffer.add_missing(is_null),
+            Buffer::Categorical(buffer) => buffer.add_missing(is_null),
+            Buffer::Enum(buffer) => buffer.add_missing(is_null),
+            Buffer::Date(buffer) => buffer.add_missing(is_null),
+            Buffer::Time(buffer) => buffer.add_missing(is_null),
+            Buffer::Datetime(buffer) => buffer.add_missing(is_null),
+            Buffer::Decimal(buffer) => buffer.add_missing(is_null),
+        }
+    }
+
+    /// Makes room for so many more cells. Refuses only want of memory; the cells stay as they are.
+    pub fn reserve(&mut self, additional: usize) -> Result<(), AllocError>
+        ensures { state_of self.new ≡ state_of self.old }
+    {
+        match self {
+            Buffer::Boolean(buffer) => buffer.reserve(additional),
+            Buffer::Int8(buffer) => buffer.reserve(additional),
+            Buffer::Int16(buffer) => buffer.reserve(additional),
+            Buffer::Int32(buffer) => buffer.reserve(additional),
+            Buffer::Int64(buffer) => buffer.reserve(additional),
+            Buffer::Int128(buffer) => buffer.reserve(additional),
+            Buffer::UInt8(buffer) => buffer.reserve(additional),
+            Buffer::UInt16(buffer) => buffer.reserve(additional),
+            Buffer::UInt32(buffer) => buffer.reserve(additional),
+            Buffer::UInt64(buffer) => buffer.reserve(additional),
+            Buffer::String(buffer) => buffer.reserve(additional),
+            Buffer::Categorical(buffer) => buffer.reserve(additional),
+            Buffer::Enum(buffer) => buffer.reserve(additional),
+            Buffer::Date(buffer) => buffer.reserve(additional),
+            Buffer::Time(buffer) => buffer.reserve(additional),
+            Buffer::Datetime(buffer) => buffer.reserve(additional),
+            Buffer::Decimal(buffer) => buffer.reserve(additional),
+        }
+    }
+
+    /// The type of the column. Refuses only want of memory.
+    pub fn dtype(&self) -> PolarsResult<DataType>
+        ensures is { IfOk result (λ dtype. dtype ≡ (state_of self.now).dtype) }
+        ensures refused { IsOkUnless result error.OutOfMemory }
+    {
+        match self {
+            Buffer::Boolean(buffer) => Ok(buffer.dtype()),
+            Buffer::Int8(buffer) => Ok(buffer.dtype()),
+            Buffer::Int16(buffer) => Ok(buffer.dtype()),
+            Buffer::Int32(buffer) => Ok(buffer.dtype()),
+            Buffer::Int64(buffer) => Ok(buffer.dtype()),
+            Buffer::Int128(buffer) => Ok(buffer.dtype()),
+            Buffer::UInt8(buffer) => Ok(buffer.dtype()),
+            Buffer::UInt16(buffer) => Ok(buffer.dtype()),
+            Buffer::UInt32(buffer) => Ok(buffer.dtype()),
+            Buffer::UInt64(buffer) => Ok(buffer.dtype()),
+            Buffer::String(buffer) => buffer.dtype(),
+            Buffer::Categorical(buffer) => buffer.dtype(),
+            Buffer::Enum(buffer) => buffer.dtype(),
+            Buffer::Date(buffer) => Ok(buffer.dtype()),
+            Buffer::Time(buffer) => Ok(buffer.dtype()),
+            Buffer::Datetime(buffer) => Ok(buffer.dtype()),
+            Buffer::Decimal(buffer) => Ok(buffer.dtype()),
+        }
+    }
+
+    /// How many cells there are, without taking memory.
+    #[inline]
+    pub fn len(&self) -> usize
+        ensures { result ≡ length (state_of self.now).values }
+    {
+        match self {
+            Buffer::Boolean(buffer) => buffer.len(),
+            Buffer::Int8(buffer) => buffer.len(),
+            Buffer::Int16(buffer) => buffer.len(),
+            Buffer::Int32(buffer) => buffer.len(),
+            Buffer::Int64(buffer) => buffer.len(),
+            Buffer::Int128(buffer) => buffer.len(),
+            Buffer::UInt8(buffer) => buffer.len(),
+            Buffer::UInt16(buffer) => buffer.len(),
+            Buffer::UInt32(buffer) => buffer.len(),
+            Buffer::UInt64(buffer) => buffer.len(),
+            Buffer::String(buffer) => buffer.len(),
+            Buffer::Categorical(buffer) => buffer.len(),
+            Buffer::Enum(buffer) => buffer.len(),
+            Buffer::Date(buffer) => buffer.len(),
+            Buffer::Time(buffer) => buffer.len(),
+            Buffer::Datetime(buffer) => buffer.len(),
+            Buffer::Decimal(buffer) => buffer.len(),
+        }
+    }
+
+    /// The column, without taking memory.
+    pub fn into_series(self) -> PolarsResult<Series>
+        ensures { IfOk result (λ column. column ≡ column_of (state_of self)) × IsOk result }
+    {
+        Ok(match self {
+            Buffer::Boolean(buffer) => buffer.into_series(),
+            Buffer::Int8(buffer) => buffer.into_series(),
+            Buffer::Int16(buffer) => buffer.into_series(),
+            Buffer::Int32(buffer) => buffer.into_series(),
+            Buffer::Int64(buffer) => buffer.into_series(),
+            Buffer::Int128(buffer) => buffer.into_series(),
+            Buffer::UInt8(buffer) => buffer.into_series(),
+            Buffer::UInt16(buffer) => buffer.into_series(),
+            Buffer::UInt32(buffer) => buffer.into_series(),
+            Buffer::UInt64(buffer) => buffer.into_series(),
+            Buffer::String(buffer) => buffer.into_series(),
+            Buffer::Categorical(buffer) => buffer.into_series(),
+            Buffer::Enum(buffer) => buffer.into_series(),
+            Buffer::Date(buffer) => buffer.into_series(),
+            Buffer::Time(buffer) => buffer.into_series(),
+            Buffer::Datetime(buffer) => buffer.into_series(),
+            Buffer::Decimal(buffer) => buffer.into_series(),
+        })
+    }
+}

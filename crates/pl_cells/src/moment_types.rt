@@ -1,0 +1,123 @@
+//! Types whose values are days, times and datetimes.
+ghost use Rattle.std.specs.Prelude.{◌≡◌, refl};
+ghost use Rattle.pl_frame.specs.declared.data_type.DataType.TheVariants as dtype;
+ghost use Rattle.pl_frame.specs.Columns.{HoldsType, number_cells};
+ghost use Rattle.pl_frame.specs.Frame.{Number};
+
+use crate::dates::parse_date;
+use crate::times::{parse_datetime, parse_time};
+use crate::value_types::ValueType;
+use pl_frame::column::Column;
+use pl_frame::data_type::{DataType, TimeUnit};
+use pl_frame::name::PlSmallStr;
+use pl_frame::numbers::Numbers;
+
+/// Days from 1970-01-01, of the years 0000 to 9999.
+#[derive(Clone, Copy, Drop)]
+pub struct Date;
+
+impl ValueType for Date {
+    type Kept = i64;
+
+    ghost dtype = { λ _. dtype.Date };
+
+    ghost scalar = { Number };
+
+    ghost no_text = { λ _. refl };
+
+    #[inline]
+    fn data_type(&self) -> DataType {
+        DataType::Date
+    }
+
+    #[inline]
+    fn skips_blanks(&self) -> bool {
+        false
+    }
+
+    #[inline]
+    fn parse(&self, text: &[u8]) -> Option<i64> {
+        parse_date(text)
+    }
+
+    fn column(self, name: PlSmallStr, values: Numbers<i64>) -> Column
+        requires { HoldsType dtype.Date (number_cells values) }
+        ensures { result ≡ record { name = name; dtype = dtype.Date; values = number_cells values } }
+    {
+        Column::from_narrow(name, DataType::Date, values)
+    }
+}
+
+/// Nanoseconds of the day.
+#[derive(Clone, Copy, Drop)]
+pub struct Time;
+
+impl ValueType for Time {
+    type Kept = i64;
+
+    ghost dtype = { λ _. dtype.Time };
+
+    ghost scalar = { Number };
+
+    ghost no_text = { λ _. refl };
+
+    #[inline]
+    fn data_type(&self) -> DataType {
+        DataType::Time
+    }
+
+    #[inline]
+    fn skips_blanks(&self) -> bool {
+        false
+    }
+
+    #[inline]
+    fn parse(&self, text: &[u8]) -> Option<i64> {
+        parse_time(text)
+    }
+
+    fn column(self, name: PlSmallStr, values: Numbers<i64>) -> Column
+        requires { HoldsType dtype.Time (number_cells values) }
+        ensures { result ≡ record { name = name; dtype = dtype.Time; values = number_cells values } }
+    {
+        Column::from_narrow(name, DataType::Time, values)
+    }
+}
+
+/// Units from 1970-01-01T00:00:00, of the years 0000 to 9999.
+#[derive(Clone, Copy, Drop)]
+pub struct Datetime {
+    pub unit: TimeUnit,
+}
+
+impl ValueType for Datetime {
+    type Kept = i64;
+
+    ghost dtype = { λ kind. dtype.Datetime kind.unit };
+
+    ghost scalar = { Number };
+
+    ghost no_text = { λ _. refl };
+
+    #[inline]
+    fn data_type(&self) -> DataType {
+        DataType::Datetime(self.unit)
+    }
+
+    #[inline]
+    fn skips_blanks(&self) -> bool {
+        false
+    }
+
+    #[inline]
+    fn parse(&self, text: &[u8]) -> Option<i64> {
+        parse_datetime(text, self.unit)
+    }
+
+    fn column(self, name: PlSmallStr, values: Numbers<i64>) -> Column
+        requires { HoldsType (dtype.Datetime self.unit) (number_cells values) }
+        ensures { result ≡ record { name = name; dtype = dtype.Datetime self.unit; values = number_cells values } }
+    {
+        Column::from_narrow(name, DataType::Datetime(self.unit), values)
+    }
+}

@@ -1,0 +1,177 @@
+//! Lists of texts, one for each type whose cells are texts.
+ghost use Rattle.std.specs.Prelude.{◌≡◌, ◌++◌, ◌∷◌, [], Bool, List, Option, true, false, length, map, OnOk, OnErr, IfOk, IsOkUnless, MatchOption};
+ghost use Rattle.std.specs.Str.{is_utf8};
+ghost use Rattle.std.specs.Str.Lossy.{utf8_lossy};
+ghost use Rattle.std.specs.Option.{option_map};
+ghost use Rattle.pl_frame.specs.declared.data_type.DataType.{DataType};
+ghost use Rattle.pl_frame.specs.declared.data_type.DataType.TheVariants as dtype;
+ghost use Rattle.pl_frame.specs.declared.error.PolarsError.TheVariants as error;
+ghost use Rattle.pl_frame.specs.Columns.{text_cells};
+ghost use Rattle.pl_frame.specs.Frame.{Scalar, Letters};
+ghost use Rattle.pl_frame.specs.Types.{is_text};
+ghost use Rattle.pl_cells.specs.Buffers.{ListAnswers, missing_value, reading_with};
+ghost use Rattle.pl_cells.specs.Cells.{text_cell};
+
+use crate::cell_fault::CellFault;
+use crate::utf8::CsvEncoding;
+use pl_frame::codes::CodesBuilder;
+use pl_frame::column::Column;
+use pl_frame::data_type::DataType;
+use pl_frame::error::PolarsResult;
+use pl_frame::name::PlSmallStr;
+use pl_frame::texts::Texts;
+use std::alloc::{AllocError, Global};
+
+/// A list of texts of a type, with nulls.
+pub trait TextType {
+    ghost dtype: { Self → DataType };
+
+    ghost values: { Self → List (Option Scalar) };
+
+    /// The type as a column has it. Refuses only want of memory.
+    fn data_type(&self) -> PolarsResult<DataType>
+        ensures is { IfOk result (λ type. type ≡ dtype self.now) }
+        ensures refused { IsOkUnless result error.OutOfMemory };
+
+    /// How many values there are, nulls among them, without taking memory.
+    fn count(&self) -> usize
+        ensures { result ≡ length (values self.now) };
+
+    /// Makes room for so many more. Refuses only want of memory; the values stay as they are.
+    fn make_room(&mut self, additional: usize) -> Result<(), AllocError>
+        ensures same { values self.new ≡ values self.old }
+        ensures dtype { dtype self.new ≡ dtype self.old };
+
+    /// Puts the value of a missing text at the end. Refuses only want of memory, and is then as it was.
+    fn add_missing(&mut self, is_null: bool) -> Result<(), AllocError>
+        ensures ok { OnOk result (values self.new ≡ values self.old ++ missing_value is_null (dtype self.old) ∷ []) }
+        ensures err { OnErr result (values self.new ≡ values self.old) }
+        ensures dtype { dtype self.new ≡ dtype self.old };
+
+    /// Puts the cell of a text at the end. Refuses a text that is not UTF-8 (`Utf8`) or not one of the type (`Value`),
+    /// and want of memory, and is then as it was.
+    fn add_text(
+        &mut self,
+        alloc: Global,
+        text: &[u8],
+        encoding: CsvEncoding,
+    ) -> Result<(), CellFault>
+        ensures answers { (missing : Bool) → (ignore : Bool) → ListAnswers (values self.old) (values self.new) (text_cell (reading_with encoding missing ignore) (dtype self.old) text.now) result }
+        ensures dtype { dtype self.new ≡ dtype self.old }
+        ensures is_text { is_text (dtype self.old) ≡ true };
+
+    /// The column of a name, without taking memory.
+    fn column(self, name: PlSmallStr) -> Column
+        ensures { result ≡ record { name = name; dtype = dtype self; values = values self } };
+}
+
+// The bytes as text, where they are UTF-8.
+#[inline]
+pub fn as_text(bytes: &[u8]) -> Option<&str>
+    ensures { MatchOption result (is_utf8 bytes.now ≡ false) (λ text. (is_utf8 bytes.now ≡ true) × (text.now ≡ bytes.now)) }
+{
+    match simdutf8::basic::from_utf8(bytes) {
+        Ok(text) => Some(text),
+        Err(_) => None,
+    }
+}
+
+// Puts the lossy reading of bytes at the end.
+fn push_lossy(texts: &mut Texts, alloc: Global, bytes: &[u8]) -> Result<(), AllocError>
+    ensures ok { OnOk result (texts.new ≡ texts.old ++ Some (utf8_lossy bytes.now) ∷ []) }
+    ensures err { OnErr result (texts.new ≡ texts.old) }
+{
+    let text = String::from_utf8_lossy(alloc, bytes)?;
+    texts.push(text.as_str())
+}
+
+// Strings.
+impl TextType for Texts {
+    ghost dtype = { λ _. dtype.String };
+
+    ghost values = { text_cells };
+
+    fn data_type(&self) -> PolarsResult<DataType> {
+        Ok(DataType::String)
+    }
+
+    #[inline]
+    fn count(&self) -> usize {
+        self.len()
+    }
+
+    fn make_room(&mut self, additional: usize) -> Result<(), AllocError> {
+        self.reserve(additional, 0)
+    }
+
+    #[inline]
+    fn add_missing(&mut self, is_null: bool) -> Result<(), AllocError> {
+        if is_null {
+            self.push_null()
+        } else {
+            self.push("")
+        }
+    }
+
+    #[inline]
+    fn add_text(
+        &mut self,
+        alloc: Global,
+        text: &[u8],
+        encoding: CsvEncoding,
+    ) -> Result<(), CellFault> {
+        match as_text(text) {
+            Some(text) => self.push(text)?,
+            None if encoding == CsvEncoding::Utf8 => return Err(CellFault::Utf8),
+            None => push_lossy(self, alloc, text)?,
+        }
+        Ok(())
+    }
+
+    fn column(self, name: PlSmallStr) -> Column {
+        Column::from_string(name, self)
+    }
+}
+
+// Categories.
+impl TextType for CodesBuilder {
+    ghost dtype = { λ _. dtype.Categorical };
+
+    ghost values = { text_cells };
+
+    fn data_type(&self) -> PolarsResult<DataType> {
+        Ok(DataType::Categorical)
+    }
+
+    #[inline]
+    fn count(&self) -> usize {
+        self.len()
+    }
+
+    fn make_room(&mut self, _additional: usize) -> Result<(), AllocError> {
+        Ok(())
+    }
+
+    #[inline]
+    fn add_missing(&mut self, _is_null: bool) -> Result<(), AllocError> {
+        self.push_null()
+    }
+
+    #[inline]
+    fn add_text(
+        &mut self,
+        _alloc: Global,
+        text: &[u8],
+        _encoding: CsvEncoding,
+    ) -> Result<(), CellFault> {
+        match as_text(text) {
+            Some(text) => self.push(text)?,
+            None => return Err(CellFault::Utf8),
+        }
+        Ok(())
+    }
+
+    fn column(self, name: PlSmallStr) -> Column {
+        Column::from_categories(name, self.into_codes())
+    }
+}

@@ -1,0 +1,174 @@
+//! Buffers of truth values and of numbers.
+ghost use Rattle.std.specs.Prelude.{◌≡◌, true, [], length, OnOk, OnErr, None};
+ghost use Rattle.pl_frame.specs.Types.{is_text};
+ghost use Rattle.pl_cells.specs.Buffers.{Answers, with_value, missing_value, reading_of, column_of};
+ghost use Rattle.pl_cells.specs.Cells.{plain_field_cell, quoted_cell, softened, value_or_null, counted_text};
+ghost use Rattle.pl_cells.specs.Integers.{without_blanks};
+
+use crate::cell_fault::CellFault;
+use crate::column_settings::ColumnSettings;
+use crate::value_types::ValueType;
+use pl_frame::column::Series;
+use pl_frame::data_type::DataType;
+use pl_frame::numbers::Numbers;
+use std::alloc::{AllocError, Global};
+use std::marker::Model;
+
+/// The cells of a column of truth values or numbers.
+#[derive(Drop)]
+pub struct ValueBuffer<K: ValueType> {
+    settings: ColumnSettings,
+    kind: K,
+    values: Numbers<K::Kept>,
+}
+
+impl<K: ValueType> Model for ValueBuffer<K> {
+    ghost use Rattle.std.specs.Prelude.{map};
+    ghost use Rattle.std.specs.Option.{option_map};
+    ghost use Rattle.pl_frame.specs.Columns.{HoldsType};
+    ghost use Rattle.pl_cells.specs.Buffers.{BufferValue};
+
+    ghost Value = { BufferValue };
+
+    ghost view = { λ b. record { name = b.settings.name; dtype = K.dtype b.kind; quote_char = b.settings.quote_char; encoding = b.settings.encoding; values = map (option_map K.scalar) b.values } };
+
+    // Each value is one of the type.
+    ghost invariant = { λ b. HoldsType (K.dtype b.kind) (map (option_map K.scalar) b.values) };
+}
+
+// Without the spaces and tabs in front.
+#[inline]
+fn skip_blanks(text: &[u8]) -> &[u8]
+    ensures { result.now ≡ without_blanks text.now }
+{
+    let mut rest = text;
+    while let [first, behind @ ..] = rest {
+        if *first != b' ' && *first != b'\t' {
+            return rest;
+        }
+        rest = behind;
+    }
+    rest
+}
+
+// What counts of a text of a type.
+#[inline]
+fn counted<'a, K: ValueType>(kind: &K, text: &'a [u8]) -> &'a [u8]
+    ensures { result.now ≡ counted_text (K.dtype kind.now) text.now }
+{
+    if kind.skips_blanks() {
+        skip_blanks(text)
+    } else {
+        text
+    }
+}
+
+impl<K: ValueType> ValueBuffer<K> {
+    /// No cells, without taking memory.
+    pub fn new(alloc: Global, settings: ColumnSettings, kind: K) -> Self
+        ensures { result ≡ record { name = settings.name; dtype = K.dtype kind; quote_char = settings.quote_char; encoding = settings.encoding; values = [] } }
+    {
+        ValueBuffer {
+            settings,
+            kind,
+            values: Numbers::new(alloc),
+        }
+    }
+
+    /// The quote, if there is one.
+    #[inline]
+    pub fn quote_char(&self) -> Option<u8>
+        ensures { result ≡ self.now.quote_char }
+    {
+        self.settings.quote_char
+    }
+
+    /// The type of the column, without taking memory.
+    pub fn dtype(&self) -> DataType
+        ensures { result ≡ self.now.dtype }
+    {
+        self.kind.data_type()
+    }
+
+    /// How many cells there are, without taking memory.
+    #[inline]
+    pub fn len(&self) -> usize
+        ensures { result ≡ length self.now.values }
+    {
+        self.values.len()
+    }
+
+    /// Makes room for so many more cells. Refuses only want of memory; the cells stay as they are.
+    pub fn reserve(&mut self, additional: usize) -> Result<(), AllocError>
+        ensures { self.new ≡ self.old }
+    {
+        self.values.reserve(additional)
+    }
+
+    /// Puts the cell of a missing text at the end, which is a null. Refuses only want of memory, and is then as it was.
+    #[inline]
+    pub fn add_missing(&mut self, _is_null: bool) -> Result<(), AllocError>
+        ensures ok { OnOk result (self.new ≡ with_value self.old (missing_value _is_null self.old.dtype)) }
+        ensures err { OnErr result (self.new ≡ self.old) }
+    {
+        self.values.push_null()
+    }
+
+    // Puts the value of a text at the end, which is not empty.
+    #[inline]
+    fn add_value(&mut self, text: &[u8], ignore_errors: bool) -> Result<(), CellFault>
+        ensures { Answers self.old self.new (softened ignore_errors (value_or_null self.old.dtype text.now)) result }
+    {
+        if text.is_empty() {
+            self.values.push_null()?;
+            return Ok(());
+        }
+        match self.kind.parse(text) {
+            Some(value) => self.values.push(value)?,
+            None if ignore_errors => self.values.push_null()?,
+            None => return Err(CellFault::Value),
+        }
+        Ok(())
+    }
+
+    /// Puts the cell of a plain text at the end. Refuses a text without a value (`Value`), where errors are not ignored,
+    /// and want of memory; the buffer is then as it was.
+    #[inline]
+    pub fn add_plain(
+        &mut self,
+        text: &[u8],
+        ignore_errors: bool,
+        missing_is_null: bool,
+    ) -> Result<(), CellFault>
+        ensures { Answers self.old self.new (plain_field_cell (reading_of self.old missing_is_null ignore_errors) self.old.dtype text.now) result }
+    {
+        let text = counted(&self.kind, text);
+        self.add_value(text, ignore_errors)
+    }
+
+    /// Puts the cell of what stands between quotes at the end, which is that of a plain text. Refuses as `add_plain` does.
+    #[inline]
+    pub fn add_quoted(
+        &mut self,
+        text: &[u8],
+        quote: u8,
+        ignore_errors: bool,
+    ) -> Result<(), CellFault>
+        ensures { Answers self.old self.new (softened ignore_errors (quoted_cell (reading_of self.old true ignore_errors) quote self.old.dtype text.now)) result }
+    {
+        let text = counted(&self.kind, text);
+        self.add_value(text, ignore_errors)
+    }
+
+    /// The column, without taking memory.
+    pub fn into_series(self) -> Series
+        ensures { result ≡ column_of self }
+    {
+        let ValueBuffer {
+            settings,
+            kind,
+            values,
+        } = self;
+        kind.column(settings.name, values)
+    }
+}

@@ -1,0 +1,63 @@
+-- Laws of frames of which one column is another.
+use Rattle.std.proofs.Common.{◌≡◌, ◌≢◌, ℕ, zero, suc, ◌<◌, Bool, true, false, List, [], ◌∷◌, length, map, get_or, slice_get, slice_set, Option, None, Some, AllPairs, refl, sym, ◌∙◌, ap, subst, arith, true≢false}
+use Rattle.pl_frame.specs.declared.data_type.DataType.{DataType}
+use Rattle.pl_frame.specs.Casts.{is_cast, can_cast, with_cast, cast_column}
+use Rattle.pl_frame.specs.Frame.{ColumnValue, IsFrame, HaveHeight, height_of, names_of}
+use Rattle.std.specs.Option.{option_map_or}
+use Rattle.std.proofs.lemmas.List.{length-map}
+use Rattle.std.proofs.lemmas.Option.{slice_get-get_or}
+
+none-some : {X : Type 0} (x : X) → None ≡ Some x → ⊥
+none-some x e = cc
+
+some_same : {X : Type 0} (x y : X) → Some x ≡ Some y → x ≡ y
+some_same x y e = cc
+
+module _ (column new : ColumnValue) (height : length new.values ≡ length column.values) (name : new.name ≡ column.name) where
+  heights_set : (n : ℕ) (columns : List ColumnValue) (i : ℕ) → slice_get columns i ≡ Some column → HaveHeight n columns → HaveHeight n (slice_set columns i new)
+  heights_set n [] i at h = h
+  heights_set n (x ∷ xs) zero at h = (height ∙ ap (λ c. length c.values) (some_same _ _ (sym at)) ∙ h.0, h.1)
+  heights_set n (x ∷ xs) (suc i) at h = (h.0, heights_set n xs i at h.1)
+
+  height_of-set : (columns : List ColumnValue) (i : ℕ) → slice_get columns i ≡ Some column → height_of (slice_set columns i new) ≡ height_of columns
+  height_of-set [] i at = refl
+  height_of-set (x ∷ xs) zero at = height ∙ ap (λ c. length c.values) (some_same _ _ (sym at))
+  height_of-set (x ∷ xs) (suc i) at = refl
+
+  names_set : (columns : List ColumnValue) (i : ℕ) → slice_get columns i ≡ Some column → names_of (slice_set columns i new) ≡ names_of columns
+  names_set [] i at = refl
+  names_set (x ∷ xs) zero at = λ j. (name ∙ ap (λ c. c.name) (some_same _ _ (sym at))) j ∷ names_of xs
+  names_set (x ∷ xs) (suc i) at = ap (λ l. x.name ∷ l) (names_set xs i at)
+
+  -- a column of the same name and height
+  pub frame_set : (columns : List ColumnValue) (i : ℕ) → slice_get columns i ≡ Some column → IsFrame columns → IsFrame (slice_set columns i new)
+  frame_set columns i at frame = record {
+    one_height = subst (λ n. HaveHeight n (slice_set columns i new)) (sym (height_of-set columns i at)) (heights_set (height_of columns) columns i at frame.one_height);
+    distinct = subst (AllPairs (λ a b. a ≢ b)) (sym (names_set columns i at)) frame.distinct;
+  }
+
+pub read_at : {X : Type 0} (xs : List X) (i : ℕ) (x : X) → i < length xs → x ≡ get_or xs i x → slice_get xs i ≡ Some x
+read_at xs i x l e = slice_get-get_or xs i x l ∙ ap Some (sym e)
+
+-- the column stands where the cast is asked
+pub cast_at : (columns : List ColumnValue) (i : ℕ) (to : DataType) (column : ColumnValue) → slice_get columns i ≡ Some column → can_cast columns i to ≡ is_cast column.dtype to
+cast_at columns i to column at = ap (λ o. option_map_or (λ c. is_cast c.dtype to) o false) at
+
+pub with_cast-at : (columns : List ColumnValue) (i : ℕ) (to : DataType) (column : ColumnValue) → slice_get columns i ≡ Some column → with_cast columns i to ≡ slice_set columns i (cast_column column to)
+with_cast-at columns i to column at = ap (λ o. option_map_or (λ c. slice_set columns i (cast_column c to)) o columns) at
+
+pub cast_within : (columns : List ColumnValue) (i : ℕ) (to : DataType) → can_cast columns i to ≡ true → i < length columns
+cast_within [] i to h = absurd (true≢false (sym h))
+cast_within (x ∷ xs) zero to h = omega arith
+cast_within (x ∷ xs) (suc i) to h = let l = cast_within xs i to h in omega (arith, l)
+
+set_itself : {X : Type 0} (xs : List X) (i : ℕ) (x : X) → slice_get xs i ≡ Some x → slice_set xs i x ≡ xs
+set_itself [] i x at = refl
+set_itself (y ∷ ys) zero x at = ap (λ z. z ∷ ys) (some_same _ _ (sym at))
+set_itself (y ∷ ys) (suc i) x at = ap (λ l. y ∷ l) (set_itself ys i x at)
+
+pub with_cast-same : (columns : List ColumnValue) (i : ℕ) (to : DataType) (column : ColumnValue) → slice_get columns i ≡ Some column → column ≡ cast_column column to → with_cast columns i to ≡ columns
+with_cast-same columns i to column at same = with_cast-at columns i to column at ∙ ap (slice_set columns i) (sym same) ∙ set_itself columns i column at
+
+pub frame_cast : (columns : List ColumnValue) (i : ℕ) (to : DataType) (column : ColumnValue) → slice_get columns i ≡ Some column → IsFrame columns → IsFrame (slice_set columns i (cast_column column to))
+frame_cast columns i to column at frame = frame_set column (cast_column column to) (length-map column.values _) refl columns i at frame

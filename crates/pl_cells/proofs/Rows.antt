@@ -1,5 +1,5 @@
 -- Worked rows of the definitions, each by computing.
-use Rattle.std.proofs.Common.{◌≡◌, ℕ, pos, neg_ℤ, true, false, List, [], ◌∷◌, None, Some, Ok, Err, refl}
+use Rattle.std.proofs.Common.{◌≡◌, ℕ, pos, neg_ℤ, Bool, true, false, List, [], ◌∷◌, None, Some, Ok, Err, refl}
 use Rattle.std.specs.Prelude.{codes}
 use Rattle.std.specs.Str.{is_utf8, chars}
 use Rattle.std.specs.Char.{encode_utf8}
@@ -10,6 +10,8 @@ use Rattle.pl_frame.specs.Frame.{Truth, Number, Letters}
 use Rattle.pl_cells.specs.declared.utf8.CsvEncoding.TheVariants as encoding
 use Rattle.pl_cells.specs.Values.{value_of_text}
 use Rattle.pl_cells.specs.Cells.{Cell, Reading, cell}
+use Rattle.pl_cells.specs.NullValues.{is_null_text, compiled_for}
+use Rattle.pl_cells.specs.declared.null_values.NullValues.TheVariants as values
 
 -- ---- values of texts
 
@@ -58,7 +60,7 @@ abbrev ignoring : Reading
 ignoring = record { encoding = encoding.LossyUtf8; missing_is_null = true; ignore_errors = true }
 
 abbrev in_quotes : Reading → DataType → List ℕ → Cell
-in_quotes reading type field = cell reading (Some 34) type field
+in_quotes reading type field = cell reading (λ text. false) (Some 34) type field
 
 lone_quote : in_quotes ignoring dtype.Date (34 ∷ []) ≡ Err fault.Escape
 lone_quote = refl
@@ -107,3 +109,31 @@ category_not_utf8 = refl
 
 date_with_return : in_quotes plain dtype.Date (codes "\"\"\r") ≡ Ok None
 date_with_return = refl
+
+-- ---- null texts
+
+-- `NA` means null in the column `a`, and no text is given for the column `b`
+abbrev in_column_a : List ℕ → Bool
+in_column_a = is_null_text (compiled_for (values.Named ((codes "a", codes "-") ∷ (codes "a", codes "NA") ∷ [])) ((codes "a", dtype.String) ∷ (codes "b", dtype.String) ∷ [])) 0
+
+abbrev in_column_b : List ℕ → Bool
+in_column_b = is_null_text (compiled_for (values.Named ((codes "a", codes "NA") ∷ [])) ((codes "a", dtype.String) ∷ (codes "b", dtype.String) ∷ [])) 1
+
+null_of_a : cell plain in_column_a (Some 34) dtype.String (codes "NA\r") ≡ Ok None
+null_of_a = refl
+
+null_in_quotes : cell plain in_column_a (Some 34) dtype.String (codes "\"NA\"") ≡ Ok None
+null_in_quotes = refl
+
+earlier_entry : cell plain in_column_a (Some 34) dtype.String (codes "-") ≡ Ok (Some (Letters (codes "-")))
+unfolding is_utf8 chars encode_utf8
+earlier_entry = refl
+
+empty_means_null : cell plain in_column_b (Some 34) dtype.String (codes "\"\"") ≡ Ok None
+empty_means_null = refl
+
+missing_stays_empty : cell keeping in_column_b (Some 34) dtype.String [] ≡ Ok (Some (Letters []))
+missing_stays_empty = refl
+
+escape_comes_first : cell ignoring in_column_b (Some 34) dtype.String (34 ∷ []) ≡ Err fault.Escape
+escape_comes_first = refl

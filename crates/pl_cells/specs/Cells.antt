@@ -1,5 +1,5 @@
 -- The cell of a field, for each type: a value, a null or a fault (docs/types.md, "Cells").
-use Rattle.std.specs.Prelude.{ℕ, Bool, true, if◌then◌else◌, List, [], ◌∷◌, Option, None, Some, Result, Ok, Err}
+use Rattle.std.specs.Prelude.{ℕ, Bool, true, ◌&&◌, if◌then◌else◌, List, [], ◌∷◌, Option, None, Some, Result, Ok, Err}
 use Rattle.std.specs.Str.{is_utf8}
 use Rattle.std.specs.Str.Lossy.{utf8_lossy}
 use Rattle.pl_frame.specs.declared.data_type.DataType.{DataType}
@@ -83,12 +83,12 @@ softened true (Err fault.Utf8) = Ok None
 softened true (Err fault.Value) = Ok None
 softened _ c = c
 
--- a quoted field must end with another quote, whatever is ignored. A test for null texts would stand between the two cases
+-- a quoted field must end with another quote, whatever is ignored
 abbrev pub quoted_field_cell : Reading → ℕ → DataType → List ℕ → Cell
 quoted_field_cell reading q type field =
     if is_well_quoted q field then softened reading.ignore_errors (quoted_cell reading q type (inside field)) else Err fault.Escape
 
--- and before this one
+-- a field that does not begin with the quote
 abbrev pub plain_field_cell : Reading → DataType → List ℕ → Cell
 plain_field_cell reading type field = softened reading.ignore_errors (plain_cell reading type field)
 
@@ -96,10 +96,35 @@ plain_field_cell reading type field = softened reading.ignore_errors (plain_cell
 abbrev pub field_cell : Reading → ℕ → DataType → Bool → List ℕ → Cell
 field_cell reading q type is_quoted field = if is_quoted then quoted_field_cell reading q type field else plain_field_cell reading type field
 
+-- ---- the cell of a field of a column in which some texts mean null
+
+-- which texts mean null
+abbrev pub NullTest : Type 0
+NullTest = List ℕ → Bool
+
+-- a plain field that means null; the missing text is what it is without such a meaning
+abbrev pub null_cell : Reading → DataType → List ℕ → Cell
+null_cell reading type [] = missing_cell reading type
+null_cell reading type (x ∷ xs) = Ok None
+
+-- a plain field is tested as it stands
+abbrev pub tested_plain_cell : Reading → NullTest → DataType → List ℕ → Cell
+tested_plain_cell reading is_null type field = if is_null field then null_cell reading type field else plain_field_cell reading type field
+
+-- of a field between quotes what stands between them is tested, doubled quotes and all
+abbrev pub tested_quoted_cell : Reading → NullTest → ℕ → DataType → List ℕ → Cell
+tested_quoted_cell reading is_null q type field =
+    if is_well_quoted q field && is_null (inside field) then Ok None else quoted_field_cell reading q type field
+
+-- the cell of a field without its carriage return, given whether it begins with the quote
+abbrev pub tested_cell : Reading → NullTest → ℕ → DataType → Bool → List ℕ → Cell
+tested_cell reading is_null q type is_quoted field =
+    if is_quoted then tested_quoted_cell reading is_null q type field else tested_plain_cell reading is_null type field
+
 -- the cell of a field, of which one carriage return at the end does not count
-abbrev pub cell : Reading → Option ℕ → DataType → List ℕ → Cell
-cell reading None type field = plain_field_cell reading type (strip field)
-cell reading (Some q) type field = field_cell reading q type (begins_quoted (Some q) field) (strip field)
+abbrev pub cell : Reading → NullTest → Option ℕ → DataType → List ℕ → Cell
+cell reading is_null None type field = tested_plain_cell reading is_null type (strip field)
+cell reading is_null (Some q) type field = tested_cell reading is_null q type (begins_quoted (Some q) field) (strip field)
 
 -- the value of a cell without a fault
 abbrev pub value_of : Cell → Option Scalar

@@ -5,6 +5,7 @@ pub mod Cells
 pub mod Dates
 pub mod Decimals
 pub mod Integers
+pub mod NullValues
 pub mod Quoting
 pub mod Times
 pub mod Values

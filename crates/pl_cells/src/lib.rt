@@ -11,6 +11,7 @@ pub mod decimal_type;
 pub mod decimals;
 pub mod enum_texts;
 pub mod integers;
+pub mod null_values;
 pub mod moment_types;
 pub mod quoting;
 pub mod text_buffer;

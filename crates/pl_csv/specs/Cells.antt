@@ -1,14 +1,24 @@
--- How this crate reads cells (docs/types.md, "Cells").
-use Rattle.std.specs.Prelude.{ℕ, true, false, List, Option}
+-- How the fields of rows are read as cells (docs/types.md, "Cells").
+use Rattle.std.specs.Prelude.{ℕ, Bool, false, List, Option, None, Some}
 use Rattle.pl_frame.specs.declared.data_type.DataType.{DataType}
-use Rattle.pl_cells.specs.declared.utf8.CsvEncoding.TheVariants as encoding
-use Rattle.pl_cells.specs.Cells as cells
+use Rattle.pl_cells.specs.declared.null_values.NullValuesCompiled.{NullValuesCompiled}
 use Rattle.pl_cells.specs.Cells.{Cell, Reading}
+use Rattle.pl_cells.specs.Cells as cells
+use Rattle.pl_cells.specs.NullValues.{is_null_text}
 
--- texts are UTF-8, a missing one is null, and no fault is ignored
-abbrev pub plain_reading : Reading
-plain_reading = record { encoding = encoding.Utf8; missing_is_null = true; ignore_errors = false }
+-- how rows are read: the quote, if there is one; what is done with texts of each kind; which texts mean null; and whether
+-- more fields than columns are passed over
+pub record RowRules : Type 0 where
+  pub quote_char : Option ℕ
+  pub reading : Reading
+  pub nulls : Option NullValuesCompiled
+  pub truncate_ragged_lines : Bool
 
--- the cell of a field
-abbrev pub cell : Option ℕ → DataType → List ℕ → Cell
-cell quote type field = cells.cell plain_reading quote type field
+-- the text means null in a column
+abbrev pub means_null : Option NullValuesCompiled → ℕ → List ℕ → Bool
+means_null None column text = false
+means_null (Some nulls) column text = is_null_text nulls column text
+
+-- the cell of a field in a column
+abbrev pub cell : RowRules → ℕ → DataType → List ℕ → Cell
+cell rules column type field = cells.cell rules.reading (means_null rules.nulls column) rules.quote_char type field

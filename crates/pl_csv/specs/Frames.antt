@@ -1,15 +1,16 @@
 -- From a schema to buffers, and from buffers to columns.
-use Rattle.std.specs.Prelude.{List, [], ◌∷◌, map}
+use Rattle.std.specs.Prelude.{ℕ, List, map}
+use Rattle.std.specs.List.{enumerate_from}
 use Rattle.pl_frame.specs.Frame.{ColumnValue}
-use Rattle.pl_csv.specs.Buffers.{State}
+use Rattle.pl_cells.specs.BufferState.{empty_buffer}
+use Rattle.pl_cells.specs.Buffers.{BufferValue, column_of}
+use Rattle.pl_csv.specs.Cells.{RowRules}
 use Rattle.pl_csv.specs.Settings.{SchemaValue}
 
--- each column's type, without cells
-abbrev pub empty_states : SchemaValue → List State
-empty_states schema = map (λ column. (column.1, [])) schema
+-- each column, without cells
+abbrev pub empty_columns : RowRules → SchemaValue → List BufferValue
+empty_columns rules schema = map (empty_buffer rules.quote_char rules.reading.encoding) schema
 
--- each column's name with its type and cells
-abbrev pub columns_of : SchemaValue → List State → List ColumnValue
-columns_of [] given = []
-columns_of (column ∷ schema) [] = []
-columns_of (column ∷ schema) (state ∷ given) = record { name = column.0; dtype = state.0; values = state.1 } ∷ columns_of schema given
+-- the columns that buffers are, once all is read
+abbrev pub columns_of : List BufferValue → List ColumnValue
+columns_of buffers = map column_of buffers

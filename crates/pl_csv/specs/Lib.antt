@@ -1,8 +1,8 @@
-pub mod Buffers
 pub mod Came
 pub mod Cells
 pub mod Reading
 pub mod Rows
+pub mod SchemaText
 pub mod Settings
 pub mod Frames
 pub mod Words

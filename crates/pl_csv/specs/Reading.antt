@@ -1,20 +1,25 @@
 -- The reference read: the frame that an input means (docs/grammar.md, docs/types.md).
-use Rattle.std.specs.Prelude.{◌≡◌, ℕ, zero, suc, ◌+◌, ◌<◌, ◌≤◌, Bool, true, false, not, ◌&&◌, ◌==◌, nat_eq, nat_lt, if◌then◌else◌, List, [], ◌∷◌, length, drop, map, Option, None, Some, unwrap_or, is_some, slice_get}
+use Rattle.std.specs.Prelude.{◌≡◌, ℕ, zero, suc, ◌+◌, ◌<◌, Bool, true, false, not, ◌&&◌, ◌==◌, nat_eq, nat_lt, if◌then◌else◌, List, [], ◌∷◌, length, drop, map, position, Option, None, Some, unwrap_or, is_none, slice_get}
 use Rattle.std.specs.List.{filter_map, list_any, enumerate_from, starts_with}
+use Rattle.std.specs.Option.{option_map, option_and_then}
 use Rattle.pl_frame.specs.declared.data_type.DataType.{DataType}
 use Rattle.pl_frame.specs.declared.error.FaultKind.{FaultKind}
 use Rattle.pl_frame.specs.declared.error.FaultKind.TheVariants as fault
 use Rattle.pl_frame.specs.Dialect.{Marks, IsDialect}
 use Rattle.pl_frame.specs.Frame.{ColumnValue}
+use Rattle.pl_frame.specs.Types.{is_readable}
 use Rattle.pl_scan.specs.Fields.{fields, extent}
 use Rattle.pl_scan.specs.Items.{Entry, CommentText, RecordText, text_of, item}
-use Rattle.pl_scan.specs.Start.{SkipsTwice, CanStart, data_left}
+use Rattle.pl_scan.specs.Start.{data_left}
+use Rattle.pl_cells.specs.NullValues.{unknown_name}
+use Rattle.pl_csv.specs.declared.reading.Cause.{Cause}
+use Rattle.pl_csv.specs.declared.reading.Cause.TheVariants as cause
 use Rattle.pl_csv.specs.declared.reading.ReadFault.{ReadFault}
 use Rattle.pl_csv.specs.declared.reading.ReadFault.TheVariants as read_fault
 use Rattle.pl_csv.specs.declared.settings.Settings.{Settings}
-use Rattle.pl_csv.specs.Settings.{SchemaValue, marks_of, comment_of, skips_of, keeps_ends}
+use Rattle.pl_csv.specs.Settings.{SchemaValue, marks_of, comment_of, skips_of, keeps_ends, rules_of}
 use Rattle.pl_cells.specs.Cells.{value_of, fault_of}
-use Rattle.pl_csv.specs.Cells.{cell}
+use Rattle.pl_csv.specs.Cells.{RowRules, cell}
 
 abbrev pub types_of : SchemaValue → List DataType
 types_of schema = map (λ column. column.1) schema
@@ -59,17 +64,17 @@ abbrev pub field_at : List (List ℕ) → ℕ → List ℕ
 field_at fs column = unwrap_or (slice_get fs column) []
 
 -- the fault of a column's cell, if it has one
-abbrev pub column_fault : Option ℕ → List (List ℕ) → ℕ × DataType → Option (ℕ × FaultKind)
-column_fault q fs (column, type) = elim (fault_of (cell q type (field_at fs column))) [ None ↦ None | Some kind ↦ Some (column, kind) ]
+abbrev pub column_fault : RowRules → List (List ℕ) → ℕ × DataType → Option (ℕ × FaultKind)
+column_fault rules fs (column, type) = elim (fault_of (cell rules column type (field_at fs column))) [ None ↦ None | Some kind ↦ Some (column, kind) ]
 
 -- one field too many, empty, whose separator is the last byte of the input
 abbrev pub is_forgiven : ℕ → Row → Bool
 is_forgiven columns row = row.is_end && (length row.fields == columns + 1 && length (field_at row.fields columns) == 0)
 
--- more fields than columns
-abbrev pub excess_fault : ℕ → Row → Option (ℕ × FaultKind)
-excess_fault columns row =
-    if nat_lt columns (length row.fields) && not (is_forgiven columns row) then Some (columns, fault.Fields) else None
+-- more fields than columns, where they are not passed over
+abbrev pub excess_fault : Bool → ℕ → Row → Option (ℕ × FaultKind)
+excess_fault truncate columns row =
+    if not truncate && (nat_lt columns (length row.fields) && not (is_forgiven columns row)) then Some (columns, fault.Fields) else None
 
 -- the first element, or else another
 abbrev pub first_or : {X : Type 0} → Option X → List X → Option X
@@ -77,25 +82,30 @@ first_or other [] = other
 first_or other (x ∷ xs) = Some x
 
 -- the least column whose cell has a fault, or else more fields than columns
-abbrev pub first_fault : Option ℕ → List DataType → Row → Option (ℕ × FaultKind)
-first_fault q types row = first_or (excess_fault (length types) row) (filter_map (column_fault q row.fields) (enumerate_from 0 types))
+abbrev pub first_fault : RowRules → List DataType → Row → Option (ℕ × FaultKind)
+first_fault rules types row =
+    first_or (excess_fault rules.truncate_ragged_lines (length types) row) (filter_map (column_fault rules row.fields) (enumerate_from 0 types))
 
--- some row has a fault
-abbrev pub has_fault : Option ℕ → List DataType → List Row → Bool
-has_fault q types given = list_any (λ row. is_some (first_fault q types row)) given
+-- the least row with a fault, counted from a number on, and its first fault
+abbrev pub first_faulty : RowRules → List DataType → ℕ → List Row → Option (ℕ × (ℕ × FaultKind))
+first_faulty rules types number [] = None
+first_faulty rules types number (row ∷ others) = elim (first_fault rules types row) [
+  | Some found ↦ Some (number, found)
+  | None ↦ first_faulty rules types (number + 1) others
+]
 
 -- ---- the frame
 
-abbrev pub read_column : Option ℕ → List Row → ℕ × (List ℕ × DataType) → ColumnValue
-read_column q given (column, (name, type)) = record {
+abbrev pub read_column : RowRules → List Row → ℕ × (List ℕ × DataType) → ColumnValue
+read_column rules given (column, (name, type)) = record {
   name = name;
   dtype = type;
-  values = map (λ row. value_of (cell q type (field_at row.fields column))) given;
+  values = map (λ row. value_of (cell rules column type (field_at row.fields column))) given;
 }
 
 -- the columns of a schema, each cell from its field
-abbrev pub frame_of_rows : Option ℕ → SchemaValue → List Row → List ColumnValue
-frame_of_rows q schema given = map (read_column q given) (enumerate_from 0 schema)
+abbrev pub frame_of_rows : RowRules → SchemaValue → List Row → List ColumnValue
+frame_of_rows rules schema given = map (read_column rules given) (enumerate_from 0 schema)
 
 -- ---- the input
 
@@ -114,19 +124,71 @@ data_of s input = data_left (skips_of s) (keeps_ends s) (marks_of s) (comment_of
 abbrev pub data_rows : Settings → List ℕ → List Row
 data_rows s records = rows (marks_of s) (comment_of s) records
 
--- some row of the data has a fault
-abbrev pub is_faulty : Settings → List ℕ → Bool
-is_faulty s records = has_fault s.quote_char (types_of s.schema) (data_rows s records)
+-- the frame of the rows from the starting point on
+abbrev pub frame_of : Settings → List ℕ → List ColumnValue
+frame_of s input = frame_of_rows (rules_of s) s.schema (data_rows s (unwrap_or (data_of s input) []))
 
--- The reference read: the frame that an input means. There is none where the marks are no dialect, where lines and rows
--- are both to be skipped, where the input is compressed, where there are too few items, or where a row has a fault.
-pub record IsRead (s : Settings) (input : List ℕ) (frame : List ColumnValue) : Type 0 where
-  pub can_start : CanStart (skips_of s) (marks_of s) (comment_of s)
-  pub no_mark : is_compressed input ≡ false
-  pub records : List ℕ
-  pub place : data_of s input ≡ Some records
-  pub whole : is_faulty s records ≡ false
-  pub is : frame ≡ frame_of_rows s.quote_char s.schema (data_rows s records)
+-- ---- why an input has no frame
+
+-- a cause, where something holds
+abbrev pub when : Bool → Cause → Option Cause
+when holds given = if holds then Some given else None
+
+-- the quote with which the frame is written is not ASCII
+abbrev pub quote_cause : Settings → Option Cause
+quote_cause s = when (not (nat_lt s.write.serialize_options.quote_char 128)) cause.Quote
+
+-- lines and rows before the header are both to be skipped
+abbrev pub skips_twice : Settings → Bool
+skips_twice s = nat_lt 0 s.skip_lines && nat_lt 0 s.skip_rows
+
+-- the least column whose type can't be read
+abbrev pub first_unreadable : SchemaValue → Option ℕ
+first_unreadable schema = position (λ type. not (is_readable type)) (types_of schema)
+
+-- the first name of the null values that the schema doesn't have
+abbrev pub unknown_null : Settings → Option (List ℕ)
+unknown_null s = option_and_then (unknown_name s.schema) s.null_values
+
+-- the least row with a fault
+abbrev pub faulty_record : Settings → List ℕ → Option Cause
+faulty_record s records =
+    option_map (λ found. cause.Record found.0 found.1.0 found.1.1) (first_faulty (rules_of s) (types_of s.schema) 0 (data_rows s records))
+
+-- the causes against a frame in their order, given whether the marks are a dialect, and what is said of the quote of the output
+abbrev pub causes : Option Cause → Bool → Settings → List ℕ → List (Option Cause)
+causes quote is_dialect s input =
+    when (not is_dialect) cause.Dialect
+    ∷ when (skips_twice s) cause.Option
+    ∷ quote
+    ∷ when (is_compressed input) cause.Compressed
+    ∷ option_map cause.Dtype (first_unreadable s.schema)
+    ∷ option_map cause.NotFound (unknown_null s)
+    ∷ when (is_none (data_of s input)) cause.Skip
+    ∷ option_and_then (faulty_record s) (data_of s input)
+    ∷ []
+
+-- the first that is there
+abbrev pub first_some : {X : Type 0} → List (Option X) → Option X
+first_some [] = None
+first_some (None ∷ others) = first_some others
+first_some (Some x ∷ others) = Some x
+
+-- a truth value tells whether something holds
+abbrev pub Tells : Bool → Type 0 → Type 0
+Tells true holds = holds
+Tells false holds = ¬ holds
+
+-- the first cause against a frame of an input, or none
+pub record IsRefusal (quote : Option Cause) (s : Settings) (input : List ℕ) (first : Option Cause) : Type 0 where
+  pub is_dialect : Bool
+  pub tells : Tells is_dialect (IsDialect (marks_of s) (comment_of s))
+  pub is : first ≡ first_some (causes quote is_dialect s input)
+
+-- The reference read: the frame that an input means. There is none where a cause stands against it; the quote of the output
+-- is none.
+abbrev pub IsRead : Settings → List ℕ → List ColumnValue → Type 0
+IsRead s input frame = IsRefusal None s input None × (frame ≡ frame_of s input)
 
 -- the quote with which the frame is written is ASCII
 abbrev pub HasAsciiQuote : Settings → Type 0
@@ -136,18 +198,11 @@ HasAsciiQuote s = s.write.serialize_options.quote_char < 128
 abbrev pub IsValidRead : Settings → List ℕ → List ColumnValue → Type 0
 IsValidRead s input frame = HasAsciiQuote s × IsRead s input frame
 
--- nothing but the bytes of the input stands in the way of a frame: the marks are a dialect, lines and rows are not both to be
--- skipped, and the quote with which the frame is written is ASCII
-abbrev pub HasSoundSettings : Settings → Type 0
-HasSoundSettings s = CanStart (skips_of s) (marks_of s) (comment_of s) × HasAsciiQuote s
+-- the first cause for which an input has no frame that can be written
+abbrev pub IsCause : Settings → List ℕ → Cause → Type 0
+IsCause s input given = IsRefusal (quote_cause s) s input (Some given)
 
--- the first cause for which an input has no frame that can be written; want of memory says nothing
+-- the first cause, where there is one; want of memory says nothing
 abbrev pub IsReadFault : Settings → List ℕ → ReadFault → Type 0
-IsReadFault s input read_fault.Dialect = ¬ IsDialect (marks_of s) (comment_of s)
-IsReadFault s input read_fault.Option = IsDialect (marks_of s) (comment_of s) × SkipsTwice (skips_of s)
-IsReadFault s input read_fault.Quote = CanStart (skips_of s) (marks_of s) (comment_of s) × (128 ≤ s.write.serialize_options.quote_char)
-IsReadFault s input read_fault.Compressed = HasSoundSettings s × (is_compressed input ≡ true)
-IsReadFault s input read_fault.Skip = HasSoundSettings s × (is_compressed input ≡ false) × (data_of s input ≡ None)
-IsReadFault s input read_fault.Record =
-    HasSoundSettings s × (is_compressed input ≡ false) × (records : List ℕ) × (data_of s input ≡ Some records) × (is_faulty s records ≡ true)
+IsReadFault s input (read_fault.Refused given) = IsCause s input given
 IsReadFault s input read_fault.OutOfMemory = Unit {0}

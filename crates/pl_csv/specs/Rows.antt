@@ -1,21 +1,41 @@
 -- How far a row was read, and what its cells add to the buffers.
-use Rattle.std.specs.Prelude.{◌≡◌, ◌≢◌, ℕ, List, [], ◌∷◌, ◌++◌, drop, map, Option, None, Some}
+use Rattle.std.specs.Prelude.{◌≡◌, ◌≢◌, ℕ, ◌+◌, Bool, ◌&&◌, if◌then◌else◌, List, [], ◌∷◌, drop, map, Option, None, Some}
+use Rattle.std.specs.Borrow.{Bor}
+use Rattle.std.specs.List.{AllByRecursion}
+use Rattle.std.specs.Option.{option_map}
 use Rattle.pl_frame.specs.declared.data_type.DataType.{DataType}
 use Rattle.pl_frame.specs.declared.error.FaultKind.{FaultKind}
+use Rattle.pl_frame.specs.declared.error.FaultKind.TheVariants as fault
 use Rattle.pl_frame.specs.Dialect.{Marks}
 use Rattle.pl_scan.specs.Fields.{fields, extent, behind}
-use Rattle.pl_csv.specs.declared.buffer.Buffer.{Buffer}
+use Rattle.pl_cells.specs.declared.buffer.Buffer.{Buffer}
+use Rattle.pl_cells.specs.declared.cell_fault.CellFault.{CellFault}
+use Rattle.pl_cells.specs.declared.cell_fault.CellFault.TheVariants as cell_fault
+use Rattle.pl_cells.specs.BufferState.{state_of}
+use Rattle.pl_cells.specs.Buffers.{BufferValue, with_value}
+use Rattle.pl_cells.specs.Cells.{value_of}
+use Rattle.pl_cells.specs.NullValues.{is_null_text, HasColumns}
+use Rattle.pl_cells.specs.Quoting.{is_well_quoted, inside}
+use Rattle.pl_cells.specs.declared.null_values.NullValuesCompiled.{NullValuesCompiled}
+use Rattle.pl_cells.specs.declared.utf8.CsvEncoding.{CsvEncoding}
 use Rattle.pl_csv.specs.declared.rows.RowRest.{RowRest}
 use Rattle.pl_csv.specs.declared.rows.RowRest.TheVariants as rest
 use Rattle.pl_csv.specs.declared.rows.RowFault.{RowFault}
 use Rattle.pl_csv.specs.declared.rows.RowFault.TheVariants as row_fault
-use Rattle.pl_csv.specs.declared.buffer.CellFault.{CellFault}
-use Rattle.pl_csv.specs.declared.buffer.CellFault.TheVariants as cell_fault
-use Rattle.pl_frame.specs.declared.error.FaultKind.TheVariants as fault
-use Rattle.pl_cells.specs.Cells.{value_of}
-use Rattle.pl_csv.specs.Cells.{cell}
+use Rattle.pl_csv.specs.declared.rows.RecordFault.{RecordFault}
+use Rattle.pl_csv.specs.declared.rows.RecordFault.TheVariants as record_fault
+use Rattle.pl_csv.specs.declared.rows.RowOptions.{RowOptions}
+use Rattle.pl_csv.specs.Cells.{RowRules, cell}
 use Rattle.pl_csv.specs.Reading.{Row, field_at}
-use Rattle.pl_csv.specs.Buffers.{State, state_of}
+
+-- the rules that a quote and the options of a reading state
+abbrev pub stated_rules : Option ℕ → RowOptions → RowRules
+stated_rules quote options = record {
+  quote_char = quote;
+  reading = record { encoding = options.encoding; missing_is_null = options.missing_is_null; ignore_errors = options.ignore_errors };
+  nulls = option_map (λ nulls. nulls.now) options.null_values;
+  truncate_ragged_lines = options.truncate_ragged_lines;
+}
 
 -- the fields that are left of a row
 abbrev pub fields_left : Marks → RowRest → List (List ℕ)
@@ -32,26 +52,57 @@ abbrev pub IsBehind : ℕ → List ℕ → RowRest → Type 0
 IsBehind separator others (rest.Fields bytes) = behind separator others ≡ Some (bytes.now)
 IsBehind separator others (rest.End bytes) = (behind separator others ≡ None) × (bytes.now ≡ others)
 
-abbrev pub states : List Buffer → List State
+-- what buffers hold
+abbrev pub states : List Buffer → List BufferValue
 states buffers = map state_of buffers
 
-abbrev pub state_types : List State → List DataType
-state_types given = map (λ state. state.0) given
+abbrev pub state_types : List BufferValue → List DataType
+state_types given = map (λ buffer. buffer.dtype) given
 
--- each column with the cell of its field at the end, where a missing field counts as the empty one
-abbrev pub with_row : Option ℕ → List (List ℕ) → List State → List State
-with_row q fs [] = []
-with_row q fs ((type, values) ∷ others) = (type, values ++ value_of (cell q type (field_at fs 0)) ∷ []) ∷ with_row q (drop 1 fs) others
+-- the buffer reads texts by the rules
+abbrev pub FollowsRules : RowRules → BufferValue → Type 0
+FollowsRules rules buffer = (buffer.quote_char ≡ rules.quote_char) × (buffer.encoding ≡ rules.reading.encoding)
+
+-- each of the buffers does
+abbrev pub FollowRules : RowRules → List BufferValue → Type 0
+FollowRules rules given = AllByRecursion (FollowsRules rules) given
+
+-- so many columns have their null texts, where there are such
+abbrev pub HaveTexts : Option (Bor NullValuesCompiled) → ℕ → Type 0
+HaveTexts None columns = Unit {0}
+HaveTexts (Some nulls) columns = HasColumns nulls.now columns
+
+-- a field without its carriage return means null, given whether it begins with the quote: between quotes what they enclose does
+abbrev pub field_means_null : NullValuesCompiled → Option ℕ → ℕ → Bool → List ℕ → Bool
+field_means_null nulls None column is_quoted field = is_null_text nulls column field
+field_means_null nulls (Some q) column is_quoted field =
+    if is_quoted then is_well_quoted q field && is_null_text nulls column (inside field) else is_null_text nulls column field
+
+-- each column, from a number on, with the cell of its field at the end, where a missing field counts as the empty one
+abbrev pub with_row : RowRules → ℕ → List (List ℕ) → List BufferValue → List BufferValue
+with_row rules column fs [] = []
+with_row rules column fs (buffer ∷ others) =
+    with_value buffer (value_of (cell rules column buffer.dtype (field_at fs 0))) ∷ with_row rules (column + 1) (drop 1 fs) others
 
 -- the same of many rows, in order
-abbrev pub with_rows : Option ℕ → List Row → List State → List State
-with_rows q [] given = given
-with_rows q (row ∷ others) given = with_rows q others (with_row q row.fields given)
+abbrev pub with_rows : RowRules → List Row → List BufferValue → List BufferValue
+with_rows rules [] given = given
+with_rows rules (row ∷ others) given = with_rows rules others (with_row rules 0 row.fields given)
 
 -- the fault is this one; want of memory says nothing
 abbrev pub IsRowFault : RowFault → Option (ℕ × FaultKind) → Type 0
 IsRowFault (row_fault.Record column kind) first = first ≡ Some (column, kind)
 IsRowFault row_fault.OutOfMemory first = Unit {0}
+
+-- the fault is this one, with the number of its row; want of memory says nothing
+abbrev pub IsRecordFault : RecordFault → Option (ℕ × (ℕ × FaultKind)) → Type 0
+IsRecordFault (record_fault.Record row column kind) first = first ≡ Some (row, (column, kind))
+IsRecordFault record_fault.OutOfMemory first = Unit {0}
+
+-- a fault of the row with a number
+abbrev pub record_fault_of : ℕ → RowFault → RecordFault
+record_fault_of row (row_fault.Record column kind) = record_fault.Record row column kind
+record_fault_of row row_fault.OutOfMemory = record_fault.OutOfMemory
 
 -- the fault of a column's cell
 abbrev pub row_fault_of : ℕ → CellFault → RowFault

@@ -1,17 +1,19 @@
 -- What a run has done, by its status (docs/command-line.md).
-use Rattle.std.specs.Prelude.{◌≡◌, ◌≢◌, ℕ, ◌^◌, ◌<◌, ◌≤◌, ◌==◌, ◌⊎◌, if◌then◌else◌, Bool, List, [], ◌∷◌, length, codes, Option, None, Some, IsSome}
+use Rattle.std.specs.Prelude.{◌≡◌, ℕ, ◌^◌, ◌<◌, ◌≤◌, ◌==◌, ◌⊎◌, Bool, true, false, List, [], ◌∷◌, ◌++◌, length, codes, decimal, Option, None, Some, IsSome}
 use Rattle.std.specs.Io.KnownBytes.{Consumes, IsAtEnd, Appends, Keeps}
 use Rattle.std.specs.List.{list_any}
 use Rattle.pl_frame.specs.Causes.{Rose}
+use Rattle.pl_frame.specs.declared.error.FaultKind.{FaultKind}
+use Rattle.pl_frame.specs.declared.error.FaultKind.TheVariants as fault
 use Rattle.pl_frame.specs.Frame.{ColumnValue}
 use Rattle.pl_frame.specs.Text.{text_of_frame}
 use Rattle.pl_csv.specs.declared.run.Refusal.{Refusal}
 use Rattle.pl_csv.specs.declared.run.Refusal.TheVariants as refusal
 use Rattle.pl_csv.specs.Came.{Came}
-use Rattle.pl_csv.specs.declared.reading.ReadFault.{ReadFault}
-use Rattle.pl_csv.specs.declared.reading.ReadFault.TheVariants as read_fault
+use Rattle.pl_csv.specs.declared.reading.Cause.{Cause}
+use Rattle.pl_csv.specs.declared.reading.Cause.TheVariants as cause
 use Rattle.pl_csv.specs.declared.settings.Settings.{Settings}
-use Rattle.pl_csv.specs.Reading.{IsValidRead, IsReadFault}
+use Rattle.pl_csv.specs.Reading.{IsValidRead, IsCause}
 use Rattle.pl_csv.specs.Words.{settings_of_words}
 use Rattle.pl_write.specs.Options.{frame_options}
 use Rattle.pl_write.specs.Writing.{AppendsPrefix}
@@ -45,36 +47,26 @@ pub record ConvertedPart (words : List (List ℕ)) (left left_now received recei
   pub written : AppendsPrefix received received_now text
 
 -- the input has no reference read that can be written, first for this cause
-pub record HasCause (words : List (List ℕ)) (left left_now : Option (List ℕ)) (fault : ReadFault) : Type 0 where
+pub record HasCause (words : List (List ℕ)) (left left_now : Option (List ℕ)) (first : Cause) : Type 0 where
   pub read : HasRead words left left_now
-  pub is : IsReadFault read.settings read.input fault
+  pub is : IsCause read.settings read.input first
 
 -- more than 2 ^ 36 bytes came
 abbrev pub IsTooLong : Option (List ℕ) → Option (List ℕ) → Type 0
 IsTooLong left left_now = Came left left_now (λ bytes. 2 ^ 36 < length bytes)
 
--- the line that the error sink is told at a status
-abbrev pub fault_line : ℕ → List ℕ
-fault_line status =
-    if status == 2 then codes "words\n"
-    else if status == 3 then codes "source\n"
-    else if status == 4 then codes "sink\n"
-    else if status == 5 then codes "memory\n"
-    else if status == 6 then codes "too long\n"
-    else if status == 11 then codes "refusal 1 dialect\n"
-    else if status == 12 then codes "refusal 2 option\n"
-    else if status == 13 then codes "refusal 3 quote\n"
-    else if status == 14 then codes "refusal 4 compressed\n"
-    else if status == 20 then codes "refusal 10 skip\n"
-    else if status == 24 then codes "refusal 14 record\n"
-    else []
+-- ---- statuses and fault lines
 
--- a sink received a line, or a prefix of it where one of its counts rose
-abbrev pub IsTold : List ℕ → Option (List ℕ) → Option (List ℕ) → ℕ → ℕ → ℕ → ℕ → Type 0
-IsTold line received received_now faults faults_now wants wants_now =
-    Appends received received_now line ⊎ (AppendsPrefix received received_now line × (Rose faults faults_now ⊎ Rose wants wants_now))
-
--- ---- what a conversion answers
+-- the status of a cause for which an input has no reference read that can be written
+abbrev pub status_of_cause : Cause → ℕ
+status_of_cause cause.Dialect = 11
+status_of_cause cause.Option = 12
+status_of_cause cause.Quote = 13
+status_of_cause cause.Compressed = 14
+status_of_cause (cause.Dtype column) = 18
+status_of_cause (cause.NotFound name) = 19
+status_of_cause cause.Skip = 20
+status_of_cause (cause.Record row column kind) = 24
 
 abbrev pub status_of : Refusal → ℕ
 status_of refusal.Words = 2
@@ -82,12 +74,62 @@ status_of refusal.Source = 3
 status_of refusal.Sink = 4
 status_of refusal.OutOfMemory = 5
 status_of refusal.TooLong = 6
-status_of refusal.Dialect = 11
-status_of refusal.Option = 12
-status_of refusal.Quote = 13
-status_of refusal.Compressed = 14
-status_of refusal.Skip = 20
-status_of refusal.Record = 24
+status_of (refusal.Input first) = status_of_cause first
+
+-- how the kind of a record's fault is called
+abbrev pub kind_name : FaultKind → List ℕ
+kind_name fault.Escape = codes "escape"
+kind_name fault.Utf8 = codes "utf8"
+kind_name fault.Value = codes "value"
+kind_name fault.Fields = codes "fields"
+
+-- a cause, with its place
+abbrev pub cause_text : Cause → List ℕ
+cause_text cause.Dialect = codes "refusal 1 dialect"
+cause_text cause.Option = codes "refusal 2 option"
+cause_text cause.Quote = codes "refusal 3 quote"
+cause_text cause.Compressed = codes "refusal 4 compressed"
+cause_text (cause.Dtype column) = codes "refusal 8 dtype column " ++ decimal column
+cause_text (cause.NotFound name) = codes "refusal 9 not found " ++ name
+cause_text cause.Skip = codes "refusal 10 skip"
+cause_text (cause.Record row column kind) = codes "refusal 14 record " ++ decimal row ++ codes " column " ++ decimal column ++ codes " " ++ kind_name kind
+
+-- the line that the error sink is told, without its line end
+abbrev pub refusal_text : Refusal → List ℕ
+refusal_text refusal.Words = codes "words"
+refusal_text refusal.Source = codes "source"
+refusal_text refusal.Sink = codes "sink"
+refusal_text refusal.OutOfMemory = codes "memory"
+refusal_text refusal.TooLong = codes "too long"
+refusal_text (refusal.Input first) = cause_text first
+
+abbrev pub fault_line : Refusal → List ℕ
+fault_line given = refusal_text given ++ codes "\n"
+
+-- where a refusal is one of the input, its cause is the first that the input has
+abbrev pub IsOfInput : List (List ℕ) → Option (List ℕ) → Option (List ℕ) → Refusal → Type 0
+IsOfInput words left left_now (refusal.Input first) = HasCause words left left_now first
+IsOfInput words left left_now given = Unit {0}
+
+-- the line of a refusal with a status; none at status 0
+abbrev pub IsLine : List (List ℕ) → Option (List ℕ) → Option (List ℕ) → ℕ → List ℕ → Type 0
+IsLine words left left_now status line =
+    ((status ≡ 0) × (line ≡ []))
+    ⊎ ((given : Refusal) × (status ≡ status_of given) × IsOfInput words left left_now given × (line ≡ fault_line given))
+
+-- a sink received a line, or a prefix of it where one of its counts rose
+abbrev pub IsTold : List ℕ → Option (List ℕ) → Option (List ℕ) → ℕ → ℕ → ℕ → ℕ → Type 0
+IsTold line received received_now faults faults_now wants wants_now =
+    Appends received received_now line ⊎ (AppendsPrefix received received_now line × (Rose faults faults_now ⊎ Rose wants wants_now))
+
+-- a sink received a text, or a prefix of it where one of its counts rose; an answer tells which
+abbrev pub IsTelling : Bool → List ℕ → Option (List ℕ) → Option (List ℕ) → ℕ → ℕ → ℕ → ℕ → Type 0
+IsTelling true text received received_now faults faults_now wants wants_now =
+    Appends received received_now text × (faults ≤ faults_now) × (wants ≤ wants_now)
+IsTelling false text received received_now faults faults_now wants wants_now =
+    AppendsPrefix received received_now text × (Rose faults faults_now ⊎ Rose wants wants_now)
+
+-- ---- what a conversion answers
 
 -- why a conversion was refused, and what the sink then received
 pub record Views : Type 0 where
@@ -102,12 +144,7 @@ IsRefused words before now refusal.Source = IsSome (settings_of_words words) × 
 IsRefused words before now refusal.Sink = Rose before.sink_faults now.sink_faults × ConvertedPart words before.left now.left before.received now.received
 IsRefused words before now refusal.OutOfMemory = Keeps before.received now.received ⊎ ConvertedPart words before.left now.left before.received now.received
 IsRefused words before now refusal.TooLong = IsSome (settings_of_words words) × IsTooLong before.left now.left × Keeps before.received now.received
-IsRefused words before now refusal.Dialect = HasCause words before.left now.left read_fault.Dialect × Keeps before.received now.received
-IsRefused words before now refusal.Option = HasCause words before.left now.left read_fault.Option × Keeps before.received now.received
-IsRefused words before now refusal.Quote = HasCause words before.left now.left read_fault.Quote × Keeps before.received now.received
-IsRefused words before now refusal.Compressed = HasCause words before.left now.left read_fault.Compressed × Keeps before.received now.received
-IsRefused words before now refusal.Skip = HasCause words before.left now.left read_fault.Skip × Keeps before.received now.received
-IsRefused words before now refusal.Record = HasCause words before.left now.left read_fault.Record × Keeps before.received now.received
+IsRefused words before now (refusal.Input first) = HasCause words before.left now.left first × Keeps before.received now.received
 
 abbrev pub views : Option (List ℕ) → Option (List ℕ) → ℕ → ℕ → Views
 views left received source_faults sink_faults = record { left = left; received = received; source_faults = source_faults; sink_faults = sink_faults }
@@ -125,18 +162,13 @@ IsReadRefused words left left_now faults faults_now refusal.Source = IsSome (set
 IsReadRefused words left left_now faults faults_now refusal.Sink = ⊥
 IsReadRefused words left left_now faults faults_now refusal.OutOfMemory = Unit {0}
 IsReadRefused words left left_now faults faults_now refusal.TooLong = IsSome (settings_of_words words) × IsTooLong left left_now
-IsReadRefused words left left_now faults faults_now refusal.Dialect = HasCause words left left_now read_fault.Dialect
-IsReadRefused words left left_now faults faults_now refusal.Option = HasCause words left left_now read_fault.Option
-IsReadRefused words left left_now faults faults_now refusal.Quote = HasCause words left left_now read_fault.Quote
-IsReadRefused words left left_now faults faults_now refusal.Compressed = HasCause words left left_now read_fault.Compressed
-IsReadRefused words left left_now faults faults_now refusal.Skip = HasCause words left left_now read_fault.Skip
-IsReadRefused words left left_now faults faults_now refusal.Record = HasCause words left left_now read_fault.Record
+IsReadRefused words left left_now faults faults_now (refusal.Input first) = HasCause words left left_now first
 
 -- ---- the status
 
 -- the statuses at which a run ends
 abbrev pub is_status : ℕ → Bool
-is_status status = list_any (λ known. status == known) (0 ∷ 2 ∷ 3 ∷ 4 ∷ 5 ∷ 6 ∷ 11 ∷ 12 ∷ 13 ∷ 14 ∷ 20 ∷ 24 ∷ [])
+is_status status = list_any (λ known. status == known) (0 ∷ 2 ∷ 3 ∷ 4 ∷ 5 ∷ 6 ∷ 11 ∷ 12 ∷ 13 ∷ 14 ∷ 18 ∷ 19 ∷ 20 ∷ 24 ∷ [])
 
 -- the words mean settings under which an input of at most 2 ^ 36 bytes has a reference read, which can be written
 pub record IsValid (words : List (List ℕ)) (input : List ℕ) : Type 0 where
@@ -148,22 +180,11 @@ pub record IsValid (words : List (List ℕ)) (input : List ℕ) : Type 0 where
 
 -- the words mean settings under which an input of at most 2 ^ 36 bytes has no reference read that can be written, first for
 -- this cause
-pub record IsInvalid (words : List (List ℕ)) (input : List ℕ) (fault : ReadFault) : Type 0 where
+pub record IsInvalid (words : List (List ℕ)) (input : List ℕ) (first : Cause) : Type 0 where
   pub settings : Settings
   pub meaning : settings_of_words words ≡ Some settings
   pub within : length input ≤ 2 ^ 36
-  pub cause : IsReadFault settings input fault
-  pub known : fault ≢ read_fault.OutOfMemory
-
--- the status of a cause for which an input has no reference read that can be written
-abbrev pub status_of_fault : ReadFault → ℕ
-status_of_fault read_fault.Dialect = 11
-status_of_fault read_fault.Option = 12
-status_of_fault read_fault.Quote = 13
-status_of_fault read_fault.Compressed = 14
-status_of_fault read_fault.Skip = 20
-status_of_fault read_fault.Record = 24
-status_of_fault read_fault.OutOfMemory = 5
+  pub is : IsCause settings input first
 
 -- The status that is due to words and a whole input: 2 where the words have no meaning, 6 where the input is too long,
 -- 0 where it has a reference read that can be written, and else that of the first cause for which it has none.
@@ -172,7 +193,7 @@ IsDue words input status =
     ((settings_of_words words ≡ None) × (status ≡ 2))
     ⊎ (IsSome (settings_of_words words) × (2 ^ 36 < length input) × (status ≡ 6))
     ⊎ (IsValid words input × (status ≡ 0))
-    ⊎ ((fault : ReadFault) × IsInvalid words input fault × (status ≡ status_of_fault fault))
+    ⊎ ((first : Cause) × IsInvalid words input first × (status ≡ status_of_cause first))
 
 -- the status that is due, or want of memory, or a fault of the source, or of the sink where a text is due; of the two only
 -- one whose count rose

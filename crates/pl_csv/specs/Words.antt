@@ -10,52 +10,18 @@ use Rattle.pl_scan.specs.Comment.{prefix_from}
 use Rattle.pl_csv.specs.declared.settings.Settings.{Settings}
 use Rattle.pl_csv.specs.declared.options.Given.{Given}
 use Rattle.pl_csv.specs.declared.output.GivenOutput.{GivenOutput}
-use Rattle.pl_csv.specs.Buffers.{is_carried}
 use Rattle.pl_cells.specs.Integers.{is_digits, number_of}
-use Rattle.pl_csv.specs.Reading.{types_of}
+use Rattle.pl_cells.specs.NullValues.{NamedTexts}
+use Rattle.pl_cells.specs.declared.null_values.NullValues.{NullValues}
+use Rattle.pl_cells.specs.declared.null_values.NullValues.TheVariants as values
+use Rattle.pl_cells.specs.declared.utf8.CsvEncoding.{CsvEncoding}
+use Rattle.pl_cells.specs.declared.utf8.CsvEncoding.TheVariants as encoding
+use Rattle.pl_csv.specs.SchemaText.{is_comma, all_of, schema_of}
 use Rattle.pl_csv.specs.Settings.{SchemaValue, default_settings}
 use Rattle.pl_write.specs.Options.{default_cells, default_options}
 use Rattle.pl_write.specs.declared.options.CsvWriterOptions.{CsvWriterOptions}
 use Rattle.pl_write.specs.declared.options.QuoteStyle.{QuoteStyle}
 use Rattle.pl_write.specs.declared.options.QuoteStyle.TheVariants as style
-
--- the type that a text names
-abbrev pub named_type : List ℕ → Option DataType
-named_type text =
-    if bytes_eq text (codes "int64") then Some dtype.Int64
-    else if bytes_eq text (codes "string") then Some dtype.String
-    else None
-
-abbrev pub is_colon : ℕ → Bool
-is_colon x = x == 58
-
-abbrev pub is_comma : ℕ → Bool
-is_comma x = x == 44
-
--- NAME:TYPE, cut at the first colon; the name may be empty
-abbrev pub entry_of : List ℕ → Option (List ℕ × DataType)
-entry_of part = option_map (λ type. (before_first is_colon part, type)) (named_type (after_first is_colon part))
-
--- all of the values, where none is missing
-abbrev pub all_of : {X : Type 0} → List (Option X) → Option (List X)
-all_of [] = Some []
-all_of (None ∷ others) = None
-all_of (Some x ∷ others) = option_map (λ xs. x ∷ xs) (all_of others)
-
--- no name stands twice
-abbrev pub are_distinct : List (List ℕ) → Bool
-are_distinct [] = true
-are_distinct (name ∷ names) = not (list_any (bytes_eq name) names) && are_distinct names
-
--- the schema of a text: between commas stands an entry each, and no name stands twice
-abbrev pub schema_of : List ℕ → Option SchemaValue
-schema_of text =
-    option_and_then (λ entries. if are_distinct (names_in entries) then Some entries else None)
-    (all_of (map entry_of (slice_split is_comma text)))
-
--- the schema, where there is one, has types of which cells can be read
-abbrev pub IsCarriedSchema : Option SchemaValue → Type 0
-IsCarriedSchema schema = MatchOption schema (Unit {0}) (λ schema. list_all is_carried (types_of schema) ≡ true)
 
 -- the word behind an option is not empty and does not begin with a minus
 abbrev pub is_value : List ℕ → Bool
@@ -108,12 +74,6 @@ style_named text =
     else if bytes_eq text (codes "never") then Some style.Never
     else None
 
--- ---- flags and options
-
--- a flag, or an option with its value
-abbrev pub Part : Type 0
-Part = List ℕ × Option (List ℕ)
-
 abbrev pub is_equals_sign : ℕ → Bool
 is_equals_sign x = x == 61
 
@@ -122,8 +82,26 @@ abbrev pub at_equals_sign : List ℕ → Option (List ℕ × List ℕ)
 at_equals_sign word =
     if list_any is_equals_sign word then Some (before_first is_equals_sign word, after_first is_equals_sign word) else None
 
+-- between commas stands NAME=TEXT each; both may be empty
+abbrev pub named_texts : List ℕ → Option NamedTexts
+named_texts text = all_of (map at_equals_sign (slice_split is_comma text))
+
+-- ---- flags and options
+
+-- a flag, or an option with its value
+abbrev pub Part : Type 0
+Part = List ℕ × Option (List ℕ)
+
 abbrev pub flags : List (List ℕ)
-flags = codes "--no-header" ∷ codes "--out-no-header" ∷ codes "--out-bom" ∷ []
+flags =
+    codes "--no-header"
+    ∷ codes "--lossy"
+    ∷ codes "--keep-missing"
+    ∷ codes "--truncate"
+    ∷ codes "--ignore-errors"
+    ∷ codes "--out-no-header"
+    ∷ codes "--out-bom"
+    ∷ []
 
 -- what one word is alone: a flag, or an option with its value
 abbrev pub whole_part : List ℕ → Option Part
@@ -174,12 +152,19 @@ with_value given name (x ∷ xs) = let value : List ℕ = x ∷ xs in
     else if bytes_eq name (codes "--skip-lines") then option_map (λ o. record given { skip_lines = o }) (once given.skip_lines (count_of value))
     else if bytes_eq name (codes "--skip-rows") then option_map (λ o. record given { skip_rows = o }) (once given.skip_rows (count_of value))
     else if bytes_eq name (codes "--skip-after") then option_map (λ o. record given { skip_rows_after_header = o }) (once given.skip_rows_after_header (count_of value))
+    else if bytes_eq name (codes "--null") then option_map (λ o. record given { null_values = o }) (once given.null_values (Some (values.AllColumnsSingle value)))
+    else if bytes_eq name (codes "--nulls") then option_map (λ o. record given { null_values = o }) (once given.null_values (Some (values.AllColumns (slice_split is_comma value))))
+    else if bytes_eq name (codes "--null-of") then option_map (λ o. record given { null_values = o }) (once given.null_values (option_map (λ texts. values.Named texts) (named_texts value)))
     else option_map (λ o. record given { output = o }) (with_output given.output name value)
 
 -- what is given with one flag more
 abbrev pub with_flag : Given → List ℕ → Option Given
 with_flag given name =
     if bytes_eq name (codes "--no-header") then option_map (λ b. record given { no_header = b }) (once_flag given.no_header)
+    else if bytes_eq name (codes "--lossy") then option_map (λ b. record given { lossy = b }) (once_flag given.lossy)
+    else if bytes_eq name (codes "--keep-missing") then option_map (λ b. record given { keep_missing = b }) (once_flag given.keep_missing)
+    else if bytes_eq name (codes "--truncate") then option_map (λ b. record given { truncate = b }) (once_flag given.truncate)
+    else if bytes_eq name (codes "--ignore-errors") then option_map (λ b. record given { ignore_errors = b }) (once_flag given.ignore_errors)
     else if bytes_eq name (codes "--out-no-header") then option_map (λ b. record given { output = record given.output { no_header = b } }) (once_flag given.output.no_header)
     else if bytes_eq name (codes "--out-bom") then option_map (λ b. record given { output = record given.output { include_bom = b } }) (once_flag given.output.include_bom)
     else None
@@ -216,6 +201,11 @@ nothing_given = record {
   skip_lines = None;
   skip_rows = None;
   skip_rows_after_header = None;
+  null_values = None;
+  lossy = false;
+  keep_missing = false;
+  truncate = false;
+  ignore_errors = false;
   output = no_output_given;
 }
 
@@ -235,6 +225,10 @@ write_options_of given = let defaults = default_cells in record {
   };
 }
 
+-- texts that are not UTF-8 are read as UTF-8 where this is asked
+abbrev pub encoding_of : Bool → CsvEncoding
+encoding_of lossy = if lossy then encoding.LossyUtf8 else encoding.Utf8
+
 -- the settings under a schema: what is given, and the default for the rest
 abbrev pub settings_under : Given → SchemaValue → Settings
 settings_under given schema = let defaults = default_settings schema in record {
@@ -247,6 +241,11 @@ settings_under given schema = let defaults = default_settings schema in record {
   skip_lines = unwrap_or given.skip_lines defaults.skip_lines;
   skip_rows = unwrap_or given.skip_rows defaults.skip_rows;
   skip_rows_after_header = unwrap_or given.skip_rows_after_header defaults.skip_rows_after_header;
+  null_values = given.null_values;
+  encoding = encoding_of given.lossy;
+  missing_is_null = not given.keep_missing;
+  truncate_ragged_lines = given.truncate;
+  ignore_errors = given.ignore_errors;
   write = write_options_of given.output;
 }
 

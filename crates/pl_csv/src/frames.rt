@@ -1,78 +1,81 @@
-//! From buffers to a frame.
-ghost use Rattle.std.specs.Prelude.{◌≡◌, ◌<◌, true, [], length, IfOk, Some, slice_get};
-ghost use Rattle.std.specs.List.{list_all};
-ghost use Rattle.pl_csv.specs.Buffers.{is_carried, state_of};
+//! From a schema to buffers, and from buffers to columns.
+ghost use Rattle.std.specs.Prelude.{◌≡◌, ◌<◌, ℕ, true, not, length, position, slice_get, slice_index, Some, None, IfOk, OnOk, IsOk};
+ghost use Rattle.pl_frame.specs.Types.{is_readable};
+ghost use Rattle.pl_cells.specs.BufferState.{empty_buffer};
 ghost use Rattle.pl_csv.specs.Rows.{states};
-ghost use Rattle.pl_csv.specs.Reading.{types_of};
-ghost use Rattle.pl_csv.specs.Frames.{empty_states, columns_of};
+ghost use Rattle.pl_csv.specs.Reading.{first_unreadable};
+ghost use Rattle.pl_csv.specs.Frames.{columns_of};
 
-use crate::buffer::Buffer;
+use pl_cells::buffer::Buffer;
+use pl_cells::buffers::init_buffers;
+use pl_cells::utf8::CsvEncoding;
 use pl_frame::column::Column;
-use pl_frame::data_type::DataType;
-use pl_frame::name::PlSmallStr;
-use pl_frame::numbers::Numbers;
+use pl_frame::error::PolarsError;
 use pl_frame::schema::Schema;
 use std::alloc::{AllocError, Global};
-use std::mem;
 
-// The name and the type at a place of a schema.
-fn entry_at(schema: &Schema, i: usize) -> (&PlSmallStr, &DataType)
-    requires { i < length schema.now }
-    ensures { slice_get schema.now i ≡ Some (result.0.now, result.1.now) }
+/// The least column whose type can't be read.
+pub fn find_unreadable(schema: &Schema) -> Option<usize>
+    ensures { result ≡ first_unreadable schema.now }
 {
-    match schema.get_at_index(i) {
-        Some(entry) => entry,
+    for place in 0..schema.len() {
+        if !is_readable_at(schema, place) {
+            return Some(place);
+        }
+    }
+    None
+}
+
+// Whether the type at a place of a schema can be read.
+fn is_readable_at(schema: &Schema, place: usize) -> bool
+    requires { place < length schema.now }
+    ensures { IfSome (type_at schema.now place) (λ dtype. result ≡ is_readable dtype) }
+{
+    match schema.get_at_index(place) {
+        Some((_, dtype)) => dtype.readable(),
         None => unreachable!(),
     }
 }
 
-fn empty_buffer(alloc: Global, dtype: &DataType) -> Buffer
-    requires { is_carried dtype.now ≡ true }
-    ensures { state_of result ≡ (dtype.now, []) }
+// The numbers below a number, in order. Refuses only want of memory.
+fn all_places(alloc: Global, count: usize) -> Result<Vec<usize>, AllocError>
+    ensures { IfOk result (λ places. places.items ≡ range 0 count) }
 {
-    match Buffer::new(alloc, dtype) {
-        Some(buffer) => buffer,
-        None => unreachable!(),
+    let mut places = Vec::new(alloc);
+    for place in 0..count {
+        places.push(place)?;
     }
+    Ok(places)
 }
 
-/// An empty buffer for each column of a schema.
-pub fn init_buffers(alloc: Global, schema: &Schema) -> Result<Vec<Buffer>, AllocError>
-    requires { list_all is_carried (types_of schema.now) ≡ true }
-    ensures { IfOk result (λ buffers. states buffers.items ≡ empty_states schema.now) }
-{
-    let mut buffers = Vec::with_capacity(alloc, schema.len())?;
-    for i in 0..schema.len() {
-        let (_, dtype) = entry_at(schema, i);
-        buffers.push(empty_buffer(alloc, dtype))?;
-    }
-    Ok(buffers)
-}
-
-/// A column for each buffer, under the names of the schema. The buffers are left empty.
-pub fn into_columns(
+/// An empty buffer for each column of a schema whose types can be read. Refuses only want of memory.
+pub fn empty_buffers(
     alloc: Global,
     schema: &Schema,
-    buffers: &mut [Buffer],
-) -> Result<Vec<Column>, AllocError>
-    requires { length buffers.old ≡ length schema.now }
-    ensures { IfOk result (λ columns. columns.items ≡ columns_of schema.now (states buffers.old)) }
+    quote_char: Option<u8>,
+    encoding: CsvEncoding,
+) -> Result<Vec<Buffer>, AllocError>
+    requires { first_unreadable schema.now ≡ None }
+    ensures { IfOk result (λ buffers. states buffers.items ≡ map (empty_buffer quote_char encoding) schema.now) }
 {
-    let mut columns = Vec::with_capacity(alloc, buffers.len())?;
-    for i in 0..buffers.len() {
-        let (name, _) = entry_at(schema, i);
-        let name = copied(alloc, name)?;
-        let buffer = mem::replace(&mut buffers[i], Buffer::Int64(Numbers::new(alloc)));
-        columns.push(buffer.into_series(name))?;
+    let places = all_places(alloc, schema.len())?;
+    match init_buffers(alloc, &places, 0, schema, quote_char, encoding) {
+        Ok(buffers) => Ok(buffers),
+        Err(PolarsError::OutOfMemory) => Err(AllocError),
+        Err(_) => unreachable!(),
     }
-    Ok(columns)
 }
 
-fn copied(alloc: Global, name: &PlSmallStr) -> Result<PlSmallStr, AllocError>
-    ensures { IfOk result (λ copy. copy ≡ name.now) }
+/// The columns that buffers are. Refuses only want of memory.
+pub fn into_columns(alloc: Global, buffers: Vec<Buffer>) -> Result<Vec<Column>, AllocError>
+    ensures { IfOk result (λ columns. columns.items ≡ columns_of (states buffers.items)) }
 {
-    match PlSmallStr::from_str(alloc, name.as_str()) {
-        Ok(copy) => Ok(copy),
-        Err(_) => Err(AllocError),
+    let mut columns = Vec::new(alloc);
+    for buffer in buffers {
+        match buffer.into_series() {
+            Ok(column) => columns.push(column)?,
+            Err(_) => return Err(AllocError),
+        }
     }
+    Ok(columns)
 }

@@ -2,15 +2,17 @@
 #![tactic(auto)]
 
 pub mod adapters;
-mod buffer;
 mod compression;
 pub mod counting;
 mod frames;
+mod null_words;
 mod options;
 mod output;
 pub mod read_all;
 mod reading;
 mod rows;
 pub mod run;
+mod schema_text;
 mod settings;
+mod telling;
 mod words;

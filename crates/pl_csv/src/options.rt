@@ -2,12 +2,17 @@
 ghost use Rattle.std.specs.Prelude.{◌≡◌, None, Some, IfOk, OnOk, IsErrOf, MatchOption, ◌<◌};
 ghost use Rattle.std.specs.Option.{option_map};
 ghost use Rattle.pl_scan.specs.Comment.{prefix_from};
-ghost use Rattle.pl_csv.specs.Words.{schema_of, IsCarriedSchema, hexadecimal_digit, hexadecimal_pair, byte_of, quote_of, count_of, once, once_flag, with_value, with_flag, with_part, nothing_given, settings_of_given};
+ghost use Rattle.pl_csv.specs.SchemaText.{schema_of};
+ghost use Rattle.pl_csv.specs.Words.{encoding_of, hexadecimal_digit, hexadecimal_pair, byte_of, quote_of, count_of, once, once_flag, with_value, with_flag, with_part, nothing_given, settings_of_given};
 
 use crate::output::{GivenOutput, give_output, write_options_of};
 use crate::settings::Settings;
-use crate::words::{WordsFault, parse_schema};
+use crate::null_words::{give_null_list, give_null_names, give_null_text};
+use crate::schema_text::parse_schema;
+use crate::words::WordsFault;
 use pl_cells::integers::number_of;
+use pl_cells::null_values::NullValues;
+use pl_cells::utf8::CsvEncoding;
 use pl_frame::schema::Schema;
 use pl_scan::comment::CommentPrefix;
 use std::alloc::Global;
@@ -25,6 +30,11 @@ pub struct Given {
     pub skip_lines: Option<usize>,
     pub skip_rows: Option<usize>,
     pub skip_rows_after_header: Option<usize>,
+    pub null_values: Option<NullValues>,
+    pub lossy: bool,
+    pub keep_missing: bool,
+    pub truncate: bool,
+    pub ignore_errors: bool,
     pub output: GivenOutput,
 }
 
@@ -43,6 +53,11 @@ impl Given {
             skip_lines: None,
             skip_rows: None,
             skip_rows_after_header: None,
+            null_values: None,
+            lossy: false,
+            keep_missing: false,
+            truncate: false,
+            ignore_errors: false,
             output: GivenOutput::nothing(),
         }
     }
@@ -125,7 +140,6 @@ pub fn give<T: Copy>(given: &mut Option<T>, meant: Option<T>) -> Result<(), Word
 // Keeps the schema of a text where none was given before. Refuses a text without a meaning, and want of memory.
 fn give_schema(alloc: Global, given: &mut Option<Schema>, text: &str) -> Result<(), WordsFault>
     ensures given { OnOk result (once given.old (schema_of text.now) ≡ Some given.new) }
-    ensures carried { OnOk result (IsCarriedSchema given.new) }
     ensures refused { IsErrOf result WordsFault.Words → once given.old (schema_of text.now) ≡ None }
 {
     if given.is_some() {
@@ -164,9 +178,7 @@ fn give_comment(
 // Keeps the value of an option that was not given before. Refuses one that was or that has no meaning, and want of
 // memory.
 fn give_value(alloc: Global, given: &mut Given, name: &str, value: &str) -> Result<(), WordsFault>
-    requires carried { IsCarriedSchema given.old.schema }
     ensures given { OnOk result (with_value given.old name.now value.now ≡ Some given.new) }
-    ensures carried { OnOk result (IsCarriedSchema given.new.schema) }
     ensures refused { IsErrOf result WordsFault.Words → with_value given.old name.now value.now ≡ None }
 {
     if value.is_empty() {
@@ -181,6 +193,9 @@ fn give_value(alloc: Global, given: &mut Given, name: &str, value: &str) -> Resu
         "--skip-lines" => give(&mut given.skip_lines, parse_count(value)),
         "--skip-rows" => give(&mut given.skip_rows, parse_count(value)),
         "--skip-after" => give(&mut given.skip_rows_after_header, parse_count(value)),
+        "--null" => give_null_text(alloc, &mut given.null_values, value),
+        "--nulls" => give_null_list(alloc, &mut given.null_values, value),
+        "--null-of" => give_null_names(alloc, &mut given.null_values, value),
         _ => give_output(alloc, &mut given.output, name, value),
     }
 }
@@ -200,11 +215,14 @@ fn give_once(given: &mut bool) -> Result<(), WordsFault>
 // Keeps the flag of a name that was not given before. Refuses one that was, and a name that is no flag.
 fn give_flag(given: &mut Given, name: &str) -> Result<(), WordsFault>
     ensures given { OnOk result (with_flag given.old name.now ≡ Some given.new) }
-    ensures schema { OnOk result (given.new.schema ≡ given.old.schema) }
     ensures refused { IsErrOf result WordsFault.Words → with_flag given.old name.now ≡ None }
 {
     match name {
         "--no-header" => give_once(&mut given.no_header),
+        "--lossy" => give_once(&mut given.lossy),
+        "--keep-missing" => give_once(&mut given.keep_missing),
+        "--truncate" => give_once(&mut given.truncate),
+        "--ignore-errors" => give_once(&mut given.ignore_errors),
         "--out-no-header" => give_once(&mut given.output.no_header),
         "--out-bom" => give_once(&mut given.output.include_bom),
         _ => Err(WordsFault::Words),
@@ -218,14 +236,23 @@ pub fn give_part(
     name: &str,
     value: Option<&str>,
 ) -> Result<(), WordsFault>
-    requires carried { IsCarriedSchema given.old.schema }
     ensures given { OnOk result (with_part given.old (name.now, option_map (λ text. text.now) value.entry) ≡ Some given.new) }
-    ensures carried { OnOk result (IsCarriedSchema given.new.schema) }
     ensures refused { IsErrOf result WordsFault.Words → with_part given.old (name.now, option_map (λ text. text.now) value.entry) ≡ None }
 {
     match value {
         Some(value) => give_value(alloc, given, name, value),
         None => give_flag(given, name),
+    }
+}
+
+// What is done with texts that are not UTF-8.
+fn encoding_of(lossy: bool) -> CsvEncoding
+    ensures { result ≡ encoding_of lossy }
+{
+    if lossy {
+        CsvEncoding::LossyUtf8
+    } else {
+        CsvEncoding::Utf8
     }
 }
 
@@ -244,6 +271,11 @@ pub fn settings_of(alloc: Global, given: Given) -> Result<Settings, WordsFault>
         skip_lines,
         skip_rows,
         skip_rows_after_header,
+        null_values,
+        lossy,
+        keep_missing,
+        truncate,
+        ignore_errors,
         output,
     } = given;
     let Some(schema) = schema else {
@@ -260,6 +292,11 @@ pub fn settings_of(alloc: Global, given: Given) -> Result<Settings, WordsFault>
         skip_lines: skip_lines.unwrap_or(0),
         skip_rows: skip_rows.unwrap_or(0),
         skip_rows_after_header: skip_rows_after_header.unwrap_or(0),
+        null_values,
+        encoding: encoding_of(lossy),
+        missing_is_null: !keep_missing,
+        truncate_ragged_lines: truncate,
+        ignore_errors,
         write,
     })
 }

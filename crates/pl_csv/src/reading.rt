@@ -1,31 +1,32 @@
 //! From the bytes of an input to the frame that they mean.
-ghost use Rattle.std.specs.Prelude.{◌≡◌, ◌≢◌, true, false, IfOk, OnOk, IfErr, MatchResult, length};
-ghost use Rattle.std.specs.List.{list_all};
+ghost use Rattle.std.specs.Prelude.{◌≡◌, ◌≢◌, true, false, None, Some, IfOk, OnOk, IfErr, MatchResult, length};
 ghost use Rattle.std.specs.Option.{option_copied};
 ghost use Rattle.pl_frame.specs.Schema.{HaveDistinctNames};
 ghost use Rattle.pl_frame.specs.Dialect.{marks, AreDistinct};
 ghost use Rattle.pl_scan.specs.Comment.{prefix_of};
-ghost use Rattle.pl_csv.specs.Buffers.{is_carried};
-ghost use Rattle.pl_csv.specs.Rows.{states};
-ghost use Rattle.pl_csv.specs.Frames.{empty_states};
-ghost use Rattle.pl_csv.specs.Reading.{types_of, data_of, rows, has_fault, frame_of_rows, IsValidRead, IsReadFault};
+ghost use Rattle.pl_csv.specs.Cells.{RowRules};
+ghost use Rattle.pl_csv.specs.Rows.{states, stated_rules};
+ghost use Rattle.pl_csv.specs.Frames.{columns_of};
+ghost use Rattle.pl_csv.specs.Reading.{types_of, data_of, rows, first_faulty, frame_of_rows, IsValidRead, IsReadFault};
 
-use crate::buffer::Buffer;
 use crate::compression::has_compression_mark;
-use crate::frames::{init_buffers, into_columns};
-use crate::rows::{Cuts, RowFault, add_rows};
+use crate::frames::{empty_buffers, find_unreadable, into_columns};
+use crate::rows::{Cuts, RecordFault, RowOptions, add_rows};
 use crate::settings::Settings;
+use pl_cells::null_values::NullValuesCompiled;
 use pl_frame::column::Column;
+use pl_frame::error::{FaultKind, PolarsError};
 use pl_frame::frame::DataFrame;
+use pl_frame::name::PlSmallStr;
 use pl_frame::schema::Schema;
 use pl_scan::comment::CommentPrefix;
 use pl_scan::dialect::dialect_ok;
 use pl_scan::start::data_of;
 use std::alloc::Global;
 
-/// Why an input means no frame.
-#[derive(Clone, Copy, Debug, PartialEq, Eq)]
-pub enum ReadFault {
+/// Why an input means no frame that can be written.
+#[derive(Debug, Drop)]
+pub enum Cause {
     /// The marks and the comment prefix are no dialect.
     Dialect,
     /// Lines and rows before the header are both to be skipped.
@@ -34,10 +35,25 @@ pub enum ReadFault {
     Quote,
     /// The input begins with the mark of a compressed stream.
     Compressed,
+    /// The type of this column can't be read.
+    Dtype(usize),
+    /// This name of the null values is not in the schema.
+    NotFound(PlSmallStr),
     /// There are fewer items than are to be skipped.
     Skip,
-    /// A record has a fault.
-    Record,
+    /// This row is the least that has a fault, and this is its first one.
+    Record {
+        row: usize,
+        column: usize,
+        kind: FaultKind,
+    },
+}
+
+/// Why no frame was read.
+#[derive(Debug, Drop)]
+pub enum ReadFault {
+    /// There is none.
+    Refused(Cause),
     OutOfMemory,
 }
 
@@ -60,75 +76,92 @@ fn data_from_start<'a>(input: &'a [u8], settings: &Settings, columns: usize) -> 
     )
 }
 
-/// The frame that an input means. Refuses, in this order, marks that are no dialect, lines and rows that are both to be
-/// skipped, a quote for the output that is not ASCII, a compressed input, fewer items than are to be skipped, and a record
-/// with a fault; and want of memory.
-pub fn read_frame(alloc: Global, input: &[u8], settings: &Settings) -> Result<DataFrame, ReadFault>
-    requires { list_all is_carried (types_of settings.now.schema) ≡ true }
-    ensures { MatchResult result (IsValidRead settings.now input.now) (IsReadFault settings.now input.now) }
+// The null values of the columns, where there are such. Refuses the first name that the schema doesn't have, and want of
+// memory.
+fn null_values_of(alloc: Global, settings: &Settings) -> Result<Option<NullValuesCompiled>, ReadFault>
+    ensures compiled { IfOk result (λ compiled. compiled ≡ option_map (λ values. compiled_for values settings.now.schema) settings.now.null_values) }
+    ensures known { OnOk result (unknown_null settings.now ≡ None) }
+    ensures refused { IfErr result (IsNameRefusal (unknown_null settings.now)) }
 {
+    let Some(null_values) = &settings.null_values else {
+        return Ok(None);
+    };
+    let Ok(null_values) = null_values.try_clone() else {
+        return Err(ReadFault::OutOfMemory);
+    };
+    match null_values.compile(alloc, &settings.schema) {
+        Ok(compiled) => Ok(Some(compiled)),
+        Err(PolarsError::ColumnNotFound(name)) => Err(ReadFault::Refused(Cause::NotFound(name))),
+        Err(_) => Err(ReadFault::OutOfMemory),
+    }
+}
+
+// The first cause that stands against the settings and the first bytes alone.
+fn check_input(input: &[u8], settings: &Settings) -> Option<Cause> {
     if !dialect_ok(
         settings.separator,
         settings.quote_char,
         settings.eol_char,
         settings.comment_prefix.as_ref(),
     ) {
-        return Err(ReadFault::Dialect);
+        return Some(Cause::Dialect);
     }
     if settings.skip_lines > 0 && settings.skip_rows > 0 {
-        return Err(ReadFault::Option);
+        return Some(Cause::Option);
     }
     if !settings.write.serialize_options.quote_char.is_ascii() {
-        return Err(ReadFault::Quote);
+        return Some(Cause::Quote);
     }
     if has_compression_mark(input) {
-        return Err(ReadFault::Compressed);
+        return Some(Cause::Compressed);
     }
-    let columns = settings.schema.len();
-    let Some(records) = data_from_start(input, settings, columns) else {
-        return Err(ReadFault::Skip);
+    match find_unreadable(&settings.schema) {
+        Some(column) => Some(Cause::Dtype(column)),
+        None => None,
+    }
+}
+
+/// The frame that an input means. Refuses, in this order, marks that are no dialect, lines and rows that are both to be
+/// skipped, a quote for the output that is not ASCII, a compressed input, a type that can't be read, a name of null values
+/// that is none of the schema's, fewer items than are to be skipped, and a record with a fault; and want of memory.
+pub fn read_frame(alloc: Global, input: &[u8], settings: &Settings) -> Result<DataFrame, ReadFault>
+    ensures { MatchResult result (IsValidRead settings.now input.now) (IsReadFault settings.now input.now) }
+{
+    if let Some(cause) = check_input(input, settings) {
+        return Err(ReadFault::Refused(cause));
+    }
+    let null_values = match null_values_of(alloc, settings) {
+        Ok(null_values) => null_values,
+        Err(fault) => return Err(fault),
+    };
+    let Some(records) = data_from_start(input, settings, settings.schema.len()) else {
+        return Err(ReadFault::Refused(Cause::Skip));
     };
     let cuts = Cuts {
         separator: settings.separator,
         quote_char: settings.quote_char,
         eol_char: settings.eol_char,
     };
+    let options = RowOptions {
+        null_values: null_values.as_ref(),
+        encoding: settings.encoding,
+        missing_is_null: settings.missing_is_null,
+        ignore_errors: settings.ignore_errors,
+        truncate_ragged_lines: settings.truncate_ragged_lines,
+    };
     match read_records(
         alloc,
         records,
         &settings.schema,
         cuts,
+        options,
         settings.comment_prefix.as_ref(),
     ) {
         Ok(frame) => Ok(frame),
-        Err(RowFault::OutOfMemory) => Err(ReadFault::OutOfMemory),
-        Err(RowFault::Record { .. }) => Err(ReadFault::Record),
-    }
-}
-
-// The columns of the records, read into empty buffers.
-fn columns_of_records(
-    alloc: Global,
-    records: &[u8],
-    schema: &Schema,
-    cuts: Cuts,
-    comment_prefix: Option<&CommentPrefix>,
-    buffers: &mut [Buffer],
-) -> Result<Vec<Column>, RowFault>
-    requires fresh { states buffers.old ≡ empty_states schema.now }
-    requires apart { AreDistinct (marks cuts.separator cuts.quote_char cuts.eol_char) }
-    ensures read { IfOk result (λ columns. columns.items ≡ frame_of_rows cuts.quote_char schema.now (rows (marks cuts.separator cuts.quote_char cuts.eol_char) (prefix_of comment_prefix.entry) records.now)) }
-    ensures whole { OnOk result (has_fault cuts.quote_char (types_of schema.now) (rows (marks cuts.separator cuts.quote_char cuts.eol_char) (prefix_of comment_prefix.entry) records.now) ≡ false) }
-    ensures fault { IfErr result (λ fault. fault ≢ RowFault.OutOfMemory → has_fault cuts.quote_char (types_of schema.now) (rows (marks cuts.separator cuts.quote_char cuts.eol_char) (prefix_of comment_prefix.entry) records.now) ≡ true) }
-{
-    let mut scratch = Vec::new(alloc);
-    match add_rows(buffers, records, cuts, comment_prefix, &mut scratch) {
-        Ok(()) => {}
-        Err(fault) => return Err(fault),
-    }
-    match into_columns(alloc, schema, buffers) {
-        Ok(columns) => Ok(columns),
-        Err(_) => Err(RowFault::OutOfMemory),
+        Err(RecordFault::OutOfMemory) => Err(ReadFault::OutOfMemory),
+        Err(RecordFault::Record { row, column, kind }) => {
+            Err(ReadFault::Refused(Cause::Record { row, column, kind }))
+        }
     }
 }
 
@@ -138,21 +171,26 @@ fn read_records(
     records: &[u8],
     schema: &Schema,
     cuts: Cuts,
+    options: RowOptions<'_>,
     comment_prefix: Option<&CommentPrefix>,
-) -> Result<DataFrame, RowFault>
-    requires carried { list_all is_carried (types_of schema.now) ≡ true }
-    requires distinct { HaveDistinctNames schema.now }
+) -> Result<DataFrame, RecordFault>
+    requires readable { first_unreadable schema.now ≡ None }
     requires apart { AreDistinct (marks cuts.separator cuts.quote_char cuts.eol_char) }
-    ensures read { IfOk result (λ frame. frame ≡ frame_of_rows cuts.quote_char schema.now (rows (marks cuts.separator cuts.quote_char cuts.eol_char) (prefix_of comment_prefix.entry) records.now)) }
-    ensures whole { OnOk result (has_fault cuts.quote_char (types_of schema.now) (rows (marks cuts.separator cuts.quote_char cuts.eol_char) (prefix_of comment_prefix.entry) records.now) ≡ false) }
-    ensures fault { IfErr result (λ fault. fault ≢ RowFault.OutOfMemory → has_fault cuts.quote_char (types_of schema.now) (rows (marks cuts.separator cuts.quote_char cuts.eol_char) (prefix_of comment_prefix.entry) records.now) ≡ true) }
+    requires texts { HaveTexts options.entry.null_values (length schema.now) }
+    ensures read { IfOk result (λ frame. frame ≡ frame_of_rows (stated_rules cuts.quote_char options.entry) schema.now (rows (marks cuts.separator cuts.quote_char cuts.eol_char) (prefix_of comment_prefix.entry) records.now)) }
+    ensures whole { OnOk result (first_faulty (stated_rules cuts.quote_char options.entry) (types_of schema.now) 0 (rows (marks cuts.separator cuts.quote_char cuts.eol_char) (prefix_of comment_prefix.entry) records.now) ≡ None) }
+    ensures fault { IfErr result (λ fault. IsRecordFault fault (first_faulty (stated_rules cuts.quote_char options.entry) (types_of schema.now) 0 (rows (marks cuts.separator cuts.quote_char cuts.eol_char) (prefix_of comment_prefix.entry) records.now))) }
 {
-    let mut buffers = match init_buffers(alloc, schema) {
+    let mut buffers = match empty_buffers(alloc, schema, cuts.quote_char, options.encoding) {
         Ok(buffers) => buffers,
-        Err(_) => return Err(RowFault::OutOfMemory),
+        Err(_) => return Err(RecordFault::OutOfMemory),
     };
-    match columns_of_records(alloc, records, schema, cuts, comment_prefix, &mut buffers) {
+    match add_rows(&mut buffers, records, cuts, options, comment_prefix) {
+        Ok(()) => {}
+        Err(fault) => return Err(fault),
+    }
+    match into_columns(alloc, buffers) {
         Ok(columns) => Ok(DataFrame::of_distinct(columns)),
-        Err(fault) => Err(fault),
+        Err(_) => Err(RecordFault::OutOfMemory),
     }
 }

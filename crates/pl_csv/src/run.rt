@@ -3,20 +3,22 @@ ghost use Rattle.std.specs.Prelude.{◌≡◌, ◌≤◌, ◌⊎◌, ℕ, List, 
 ghost use Rattle.std.specs.Io.KnownBytes.{Keeps};
 ghost use Rattle.pl_frame.specs.Causes.{Rose};
 ghost use Rattle.pl_csv.specs.Words.{settings_of_words};
-ghost use Rattle.pl_csv.specs.Run.{status_of, fault_line, is_status, IsTold, IsDue, EndsAsDue, HasFrame, HasCause, IsReadRefused, Converted, ConvertedPart, IsTooLong, IsRefused, views};
+ghost use Rattle.pl_frame.specs.declared.error.FaultKind.{FaultKind};
+ghost use Rattle.pl_csv.specs.Run.{status_of, status_of_cause, is_status, IsLine, IsTold, IsDue, EndsAsDue, HasFrame, HasCause, IsReadRefused, Converted, ConvertedPart, IsTooLong, IsRefused, views};
 
 use crate::read_all::{LIMIT, ReadAllFault, read_all};
-use crate::reading::{ReadFault, read_frame};
+use crate::reading::{Cause, ReadFault, read_frame};
+use crate::telling::tell_refusal;
 use crate::words::{WordsFault, parse_words};
 use pl_frame::frame::DataFrame;
-use pl_frame::sink::{Sink, SinkFault, write_all};
+use pl_frame::sink::{Sink, SinkFault};
 use pl_frame::source::Source;
 use pl_write::options::CsvWriterOptions;
 use pl_write::writer::write_frame;
 use std::alloc::Global;
 
 /// Why a run ends with a status other than 0.
-#[derive(Clone, Copy, Debug, PartialEq, Eq)]
+#[derive(Debug, Drop)]
 pub enum Refusal {
     /// The words have no meaning.
     Words,
@@ -27,24 +29,32 @@ pub enum Refusal {
     OutOfMemory,
     /// The source gave more than the largest input.
     TooLong,
-    /// The marks and the comment prefix are no dialect.
-    Dialect,
-    /// Lines and rows before the header are both to be skipped.
-    Option,
-    /// The quote with which the frame is to be written is not ASCII.
-    Quote,
-    /// The input begins with the mark of a compressed stream.
-    Compressed,
-    /// There are fewer items than are to be skipped.
-    Skip,
-    /// A record has a fault.
-    Record,
+    /// The input means no frame that can be written.
+    Input(Cause),
+}
+
+impl Cause {
+    /// The status with which a run then ends.
+    pub fn status(&self) -> u8
+        ensures { result ≡ status_of_cause self.now }
+    {
+        match self {
+            Cause::Dialect => 11,
+            Cause::Option => 12,
+            Cause::Quote => 13,
+            Cause::Compressed => 14,
+            Cause::Dtype(_) => 18,
+            Cause::NotFound(_) => 19,
+            Cause::Skip => 20,
+            Cause::Record { .. } => 24,
+        }
+    }
 }
 
 impl Refusal {
     /// The status with which a run then ends.
-    pub fn status(self) -> u8
-        ensures { result ≡ status_of self }
+    pub fn status(&self) -> u8
+        ensures { result ≡ status_of self.now }
     {
         match self {
             Refusal::Words => 2,
@@ -52,43 +62,8 @@ impl Refusal {
             Refusal::Sink => 4,
             Refusal::OutOfMemory => 5,
             Refusal::TooLong => 6,
-            Refusal::Dialect => 11,
-            Refusal::Option => 12,
-            Refusal::Quote => 13,
-            Refusal::Compressed => 14,
-            Refusal::Skip => 20,
-            Refusal::Record => 24,
+            Refusal::Input(cause) => cause.status(),
         }
-    }
-
-    /// The fault line, with its line feed.
-    pub fn line(self) -> &'static str
-        ensures { result.now ≡ fault_line (status_of self) }
-    {
-        match self {
-            Refusal::Words => "words\n",
-            Refusal::Source => "source\n",
-            Refusal::Sink => "sink\n",
-            Refusal::OutOfMemory => "memory\n",
-            Refusal::TooLong => "too long\n",
-            Refusal::Dialect => "refusal 1 dialect\n",
-            Refusal::Option => "refusal 2 option\n",
-            Refusal::Quote => "refusal 3 quote\n",
-            Refusal::Compressed => "refusal 4 compressed\n",
-            Refusal::Skip => "refusal 10 skip\n",
-            Refusal::Record => "refusal 14 record\n",
-        }
-    }
-}
-
-// Tells a sink a line. A fault of the sink cuts the line short, and is not passed on.
-fn tell<Se: Sink>(sink: &mut Se, line: &str)
-    ensures told { IsTold line.now (Se.received sink.old) (Se.received sink.new) (Se.faults sink.old) (Se.faults sink.new) (Se.wants sink.old) (Se.wants sink.new) }
-{
-    match write_all(sink, line.as_bytes()) {
-        Ok(()) => {}
-        Err(SinkFault::Device) => {}
-        Err(SinkFault::OutOfMemory) => {}
     }
 }
 
@@ -115,12 +90,7 @@ fn frame_of_source<So: Source>(
     };
     match read_frame(alloc, &input, &settings) {
         Ok(frame) => Ok((frame, settings.write)),
-        Err(ReadFault::Dialect) => Err(Refusal::Dialect),
-        Err(ReadFault::Option) => Err(Refusal::Option),
-        Err(ReadFault::Quote) => Err(Refusal::Quote),
-        Err(ReadFault::Compressed) => Err(Refusal::Compressed),
-        Err(ReadFault::Skip) => Err(Refusal::Skip),
-        Err(ReadFault::Record) => Err(Refusal::Record),
+        Err(ReadFault::Refused(cause)) => Err(Refusal::Input(cause)),
         Err(ReadFault::OutOfMemory) => Err(Refusal::OutOfMemory),
     }
 }
@@ -157,8 +127,8 @@ fn convert<So: Source, Si: Sink>(
 /// docs/command-line.md has the words. Another status has its cause: 2 words without a meaning; 3 a fault
 /// of the source; 4 one of `out`, which then received a prefix of the text; 5 want of memory, with a prefix of the text
 /// or nothing received; 6 an input of more than 2^36 bytes; 11 marks that are no dialect; 12 lines and rows that are both
-/// to be skipped; 13 a quote for the output that is not ASCII; 14 a compressed input; 20 fewer items than are to be
-/// skipped; 24 a record with a fault. At 2, 3, 6 and from 11 on `out` received nothing. `err` receives the fault line of
+/// to be skipped; 13 a quote for the output that is not ASCII; 14 a compressed input; 18 a type that can't be read; 19 a name
+/// of null values that is no column's; 20 fewer items than are to be skipped; 24 a record with a fault. At 2, 3, 6 and from 11 on `out` received nothing. `err` receives the fault line of
 /// the status; a fault of `err` cuts it short, and changes neither status nor `out`.
 pub fn run<So: Source, Si: Sink, Se: Sink>(
     alloc: Global,
@@ -178,12 +148,14 @@ pub fn run<So: Source, Si: Sink, Se: Sink>(
     ensures memory { result ≡ 5 → Keeps (Si.received out.old) (Si.received out.new)
         ⊎ ConvertedPart (map string_bytes words.now) (So.left source.old) (So.left source.new) (Si.received out.old) (Si.received out.new) }
     ensures too_long { result ≡ 6 → IsSome (settings_of_words (map string_bytes words.now)) × IsTooLong (So.left source.old) (So.left source.new) × Keeps (Si.received out.old) (Si.received out.new) }
-    ensures dialect { result ≡ 11 → HasCause (map string_bytes words.now) (So.left source.old) (So.left source.new) ReadFault.Dialect × Keeps (Si.received out.old) (Si.received out.new) }
-    ensures option { result ≡ 12 → HasCause (map string_bytes words.now) (So.left source.old) (So.left source.new) ReadFault.Option × Keeps (Si.received out.old) (Si.received out.new) }
-    ensures quote { result ≡ 13 → HasCause (map string_bytes words.now) (So.left source.old) (So.left source.new) ReadFault.Quote × Keeps (Si.received out.old) (Si.received out.new) }
-    ensures compressed { result ≡ 14 → HasCause (map string_bytes words.now) (So.left source.old) (So.left source.new) ReadFault.Compressed × Keeps (Si.received out.old) (Si.received out.new) }
-    ensures skip { result ≡ 20 → HasCause (map string_bytes words.now) (So.left source.old) (So.left source.new) ReadFault.Skip × Keeps (Si.received out.old) (Si.received out.new) }
-    ensures faulty { result ≡ 24 → HasCause (map string_bytes words.now) (So.left source.old) (So.left source.new) ReadFault.Record × Keeps (Si.received out.old) (Si.received out.new) }
+    ensures dialect { result ≡ 11 → HasCause (map string_bytes words.now) (So.left source.old) (So.left source.new) Cause.Dialect × Keeps (Si.received out.old) (Si.received out.new) }
+    ensures option { result ≡ 12 → HasCause (map string_bytes words.now) (So.left source.old) (So.left source.new) Cause.Option × Keeps (Si.received out.old) (Si.received out.new) }
+    ensures quote { result ≡ 13 → HasCause (map string_bytes words.now) (So.left source.old) (So.left source.new) Cause.Quote × Keeps (Si.received out.old) (Si.received out.new) }
+    ensures compressed { result ≡ 14 → HasCause (map string_bytes words.now) (So.left source.old) (So.left source.new) Cause.Compressed × Keeps (Si.received out.old) (Si.received out.new) }
+    ensures dtype { result ≡ 18 → (column : ℕ) × HasCause (map string_bytes words.now) (So.left source.old) (So.left source.new) (Cause.Dtype column) × Keeps (Si.received out.old) (Si.received out.new) }
+    ensures not_found { result ≡ 19 → (name : List ℕ) × HasCause (map string_bytes words.now) (So.left source.old) (So.left source.new) (Cause.NotFound name) × Keeps (Si.received out.old) (Si.received out.new) }
+    ensures skip { result ≡ 20 → HasCause (map string_bytes words.now) (So.left source.old) (So.left source.new) Cause.Skip × Keeps (Si.received out.old) (Si.received out.new) }
+    ensures faulty { result ≡ 24 → (row : ℕ) × (column : ℕ) × (kind : FaultKind) × HasCause (map string_bytes words.now) (So.left source.old) (So.left source.new) (Cause.Record row column kind) × Keeps (Si.received out.old) (Si.received out.new) }
     ensures known { IsTrue (is_status result) }
 
     // The status that is due to the words and the input comes, up to want of memory and a count that rose.
@@ -193,14 +165,15 @@ pub fn run<So: Source, Si: Sink, Se: Sink>(
         (views (So.left source.new) (Si.received out.new) (So.faults source.new) (Si.faults out.new)) }
 
     // The fault line.
-    ensures told { IsTold (fault_line result) (Se.received err.old) (Se.received err.new) (Se.faults err.old) (Se.faults err.new) (Se.wants err.old) (Se.wants err.new) }
+    ensures told { (line : List ℕ) × IsLine (map string_bytes words.now) (So.left source.old) (So.left source.new) result line
+        × IsTold line (Se.received err.old) (Se.received err.new) (Se.faults err.old) (Se.faults err.new) (Se.wants err.old) (Se.wants err.new) }
     ensures source_later { So.faults source.old ≤ So.faults source.new }
     ensures sink_later { Si.faults out.old ≤ Si.faults out.new }
 {
     match convert(alloc, words, source, out) {
         Ok(()) => 0,
         Err(refusal) => {
-            tell(err, refusal.line());
+            tell_refusal(err, &refusal);
             refusal.status()
         }
     }

@@ -4,9 +4,7 @@ ghost use Rattle.std.specs.List.{list_all, list_any, slice_split};
 ghost use Rattle.std.specs.Option.{option_map, option_and_then};
 ghost use Rattle.std.specs.Str.{bytes_eq};
 ghost use Rattle.pl_frame.specs.Schema.{names_in};
-ghost use Rattle.pl_csv.specs.Buffers.{is_carried};
-ghost use Rattle.pl_csv.specs.Reading.{types_of};
-ghost use Rattle.pl_csv.specs.Words.{named_type, is_comma, entry_of, is_value, schema_of, at_equals_sign, flags, whole_part, parts_of, settings_of_words};
+ghost use Rattle.pl_csv.specs.Words.{is_value, at_equals_sign, flags, whole_part, parts_of, settings_of_words};
 
 use crate::options::{Given, give_part, settings_of};
 use crate::settings::Settings;
@@ -23,98 +21,6 @@ pub enum WordsFault {
     OutOfMemory,
 }
 
-// The type that a text names.
-fn type_named(text: &str) -> Option<DataType>
-    ensures { result ≡ named_type text.now }
-{
-    if text == "int64" {
-        Some(DataType::Int64)
-    } else if text == "string" {
-        Some(DataType::String)
-    } else {
-        None
-    }
-}
-
-// The name and the type of a part NAME:TYPE.
-fn read_entry(part: &str) -> Option<(&str, DataType)>
-    ensures { option_map (λ entry. (entry.0.now, entry.1)) result ≡ entry_of part.now }
-{
-    match part.split_once(':') {
-        Some((name, text)) => match type_named(text) {
-            Some(dtype) => Some((name, dtype)),
-            None => None,
-        },
-        None => None,
-    }
-}
-
-// Whether the schema has a name.
-fn has_name(schema: &Schema, name: &str) -> bool
-    ensures { result ≡ list_any (bytes_eq name.now) (names_in schema.now) }
-{
-    schema.index_of(name).is_some()
-}
-
-// Puts a name that the schema doesn't have at its end. Refuses want of memory.
-fn push_entry(
-    alloc: Global,
-    schema: &mut Schema,
-    name: &str,
-    dtype: DataType,
-) -> Result<(), WordsFault>
-    requires { list_any (bytes_eq name.now) (names_in schema.old) ≡ false }
-    ensures pushed { OnOk result (schema.new ≡ schema.old ++ (name.now, dtype) ∷ []) }
-    ensures refused { result ≢ Err WordsFault.Words }
-{
-    let Ok(name) = PlSmallStr::from_str(alloc, name) else {
-        return Err(WordsFault::OutOfMemory);
-    };
-    match schema.with_column(name, dtype) {
-        Ok(_) => Ok(()),
-        Err(_) => Err(WordsFault::OutOfMemory),
-    }
-}
-
-// Puts the entry of a part at the end of a schema. Refuses a part that is no entry or whose name is there, and want of
-// memory.
-fn add_part(alloc: Global, schema: &mut Schema, part: &str) -> Result<(), WordsFault>
-    ensures added { OnOk result (option_and_then (λ entry. if list_any (bytes_eq entry.0) (names_in schema.old) then None else Some (schema.old ++ entry ∷ [])) (entry_of part.now) ≡ Some schema.new) }
-    ensures refused { IsErrOf result WordsFault.Words → option_and_then (λ entry. if list_any (bytes_eq entry.0) (names_in schema.old) then None else Some (schema.old ++ entry ∷ [])) (entry_of part.now) ≡ None }
-{
-    let Some((name, dtype)) = read_entry(part) else {
-        return Err(WordsFault::Words);
-    };
-    if has_name(schema, name) {
-        return Err(WordsFault::Words);
-    }
-    push_entry(alloc, schema, name, dtype)
-}
-
-// The part before the first comma and what stands behind it, where there is a comma.
-fn cut_part(text: &str) -> Option<(&str, &str)>
-    ensures cut { MatchOption result (slice_split is_comma text.now ≡ text.now ∷ []) (λ cut. slice_split is_comma text.now ≡ cut.0.now ∷ slice_split is_comma cut.1.now) }
-    ensures shorter { MatchOption result (Unit {0}) (λ cut. length cut.1.now < length text.now) }
-{
-    text.split_once(',')
-}
-
-/// The schema that a text means. Refuses a text without a meaning, and want of memory.
-pub fn parse_schema(alloc: Global, text: &str) -> Result<Schema, WordsFault>
-    ensures schema { IfOk result (λ schema. schema_of text.now ≡ Some schema) }
-    ensures carried { IfOk result (λ schema. list_all is_carried (types_of schema) ≡ true) }
-    ensures refused { IsErrOf result WordsFault.Words → schema_of text.now ≡ None }
-{
-    let mut schema = Schema::new(alloc);
-    let mut rest = text;
-    while let Some((part, behind)) = cut_part(rest) {
-        add_part(alloc, &mut schema, part)?;
-        rest = behind;
-    }
-    add_part(alloc, &mut schema, rest)?;
-    Ok(schema)
-}
-
 // Whether a word can be the value of an option.
 fn is_value_word(text: &str) -> bool
     ensures { result ≡ is_value text.now }
@@ -125,8 +31,8 @@ fn is_value_word(text: &str) -> bool
     }
 }
 
-// The parts of a word before and behind its first equals sign, where there is one.
-fn cut_option(word: &str) -> Option<(&str, &str)>
+/// The parts of a word before and behind its first equals sign, where there is one.
+pub fn cut_equals_sign(word: &str) -> Option<(&str, &str)>
     ensures { option_map (λ cut. (cut.0.now, cut.1.now)) result ≡ at_equals_sign word.now }
 {
     word.split_once('=')
@@ -136,7 +42,16 @@ fn cut_option(word: &str) -> Option<(&str, &str)>
 fn is_flag(word: &str) -> bool
     ensures { result ≡ list_any (bytes_eq word.now) flags }
 {
-    word == "--no-header" || word == "--out-no-header" || word == "--out-bom"
+    matches!(
+        word,
+        "--no-header"
+            | "--lossy"
+            | "--keep-missing"
+            | "--truncate"
+            | "--ignore-errors"
+            | "--out-no-header"
+            | "--out-bom"
+    )
 }
 
 // What one word is alone: a flag, or an option with its value.
@@ -146,7 +61,7 @@ fn read_whole(word: &str) -> Option<(&str, Option<&str>)>
     if is_flag(word) {
         return Some((word, None));
     }
-    match cut_option(word) {
+    match cut_equals_sign(word) {
         Some((name, value)) => Some((name, Some(value))),
         None => None,
     }
@@ -175,7 +90,6 @@ fn cut_words<'a>(
 /// want of memory.
 pub fn parse_words(alloc: Global, words: &[String]) -> Result<Settings, WordsFault>
     ensures settings { IfOk result (λ settings. settings_of_words (map string_bytes words.now) ≡ Some settings) }
-    ensures carried { IfOk result (λ settings. list_all is_carried (types_of settings.schema) ≡ true) }
     ensures refused { IsErrOf result WordsFault.Words → settings_of_words (map string_bytes words.now) ≡ None }
 {
     let mut given = Given::nothing();

@@ -2,9 +2,9 @@ use Rattle.std.proofs.Common.{◌≡◌, map, length}
 use denote.Text.{Utf8}
 use denote.Shadow.{shadow}
 use Rattle.std.specs.List.{slice_split}
-use Rattle.pl_csv.specs.Words.{is_comma, entry_of, schema_of}
+use Rattle.pl_csv.specs.SchemaText.{is_comma, entry_of, schema_of}
 use Rattle.pl_csv.proofs.WordLaws.{with_entries}
-use Rattle.pl_csv.proofs.words.parse_schema.Given as goal
+use Rattle.pl_csv.proofs.schema_text.parse_schema.Given as goal
 
 abbrev pub invariant-loop-part : goal.invariant-loop-part
 invariant-loop-part l = shadow (Utf8 l.rest) × (schema_of l.text ≡ with_entries l.schema (map entry_of (slice_split is_comma l.rest)))

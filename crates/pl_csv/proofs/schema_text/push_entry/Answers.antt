@@ -1,6 +1,6 @@
 use Rattle.std.proofs.Common.{◌∙◌}
 use Rattle.pl_csv.proofs.WordLaws.{with_type-new}
-use Rattle.pl_csv.proofs.words.push_entry.Goals as goal
+use Rattle.pl_csv.proofs.schema_text.push_entry.Goals as goal
 
 pub returns-in-Ok-with_column-clause-pushed : goal.returns-in-Ok-with_column-clause-pushed
 returns-in-Ok-with_column-clause-pushed c =

@@ -1,9 +1,9 @@
 use Rattle.std.proofs.Common.{◌≡◌, [], map, sym, ◌∙◌, ap}
 use Rattle.std.specs.Prelude.{Some}
 use Rattle.std.specs.List.{slice_split}
-use Rattle.pl_csv.specs.Words.{is_comma, entry_of, schema_of}
+use Rattle.pl_csv.specs.SchemaText.{is_comma, entry_of, schema_of}
 use Rattle.pl_csv.proofs.WordLaws.{with_entries, with_entries-more, schema_of-entries, schema_of-carried}
-use Rattle.pl_csv.proofs.words.parse_schema.Goals as goal
+use Rattle.pl_csv.proofs.schema_text.parse_schema.Goals as goal
 
 pub loop-part-init : goal.loop-part-init
 loop-part-init c =

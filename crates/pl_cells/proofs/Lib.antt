@@ -3,6 +3,7 @@ pub mod DateLaws
 pub mod DecimalLaws
 pub mod EnumLaws
 pub mod IntegerLaws
+pub mod NullLaws
 pub mod PlaceLaws
 pub mod QuotingLaws
 mod Rows

@@ -1,9 +1,9 @@
 -- Texts that mean null, in all columns or by name (docs/types.md, "Null values").
-use Rattle.std.specs.Prelude.{◌≡◌, ◌≤◌, ℕ, Bool, not, if◌then◌else◌, List, [], ◌∷◌, length, map, find, Option, None, Some, slice_get}
+use Rattle.std.specs.Prelude.{◌≡◌, ◌≤◌, ℕ, Bool, not, if◌then◌else◌, List, [], ◌∷◌, length, map, find, Option, None, Some, is_some, slice_get}
 use Rattle.std.specs.List.{list_any}
-use Rattle.std.specs.Option.{unwrap_or}
+use Rattle.std.specs.Option.{option_map, unwrap_or}
 use Rattle.std.specs.Str.{bytes_eq}
-use Rattle.pl_frame.specs.Schema.{Entry, names_in}
+use Rattle.pl_frame.specs.Schema.{Entry, names_in, place_of}
 use Rattle.pl_frame.specs.declared.error.PolarsError.{PolarsError}
 use Rattle.pl_frame.specs.declared.error.PolarsError.TheVariants as error
 use Rattle.pl_cells.specs.declared.null_values.NullValues.{NullValues}
@@ -30,13 +30,13 @@ compiled_for (values.AllColumnsSingle text) schema = compiled.AllColumnsSingle t
 compiled_for (values.AllColumns texts) schema = compiled.AllColumns texts
 compiled_for (values.Named entries) schema = compiled.Columns (column_texts entries (names_in schema))
 
--- the schema has a name
-abbrev pub is_name_in : List Entry → List ℕ → Bool
-is_name_in schema name = list_any (bytes_eq name) (names_in schema)
+-- a schema doesn't have the name of an entry
+abbrev pub is_unknown : List Entry → List ℕ × List ℕ → Bool
+is_unknown schema entry = not (is_some (place_of entry.0 schema))
 
 -- the first of these names that a schema doesn't have
 abbrev pub unknown_among : List Entry → NamedTexts → Option (List ℕ)
-unknown_among schema entries = find (λ name. not (is_name_in schema name)) (map (λ entry. entry.0) entries)
+unknown_among schema entries = option_map (λ entry. entry.0) (find (is_unknown schema) entries)
 
 -- the first name that a schema doesn't have
 abbrev pub unknown_name : List Entry → NullValues → Option (List ℕ)

@@ -1,13 +1,11 @@
 //! Texts that mean null.
-ghost use Rattle.std.specs.Prelude.{◌≡◌, ◌++◌, ◌∷◌, [], suc, None, IfOk, IfErr, OnOk, IsOkUnless};
+ghost use Rattle.std.specs.Prelude.{◌≡◌, ◌++◌, ◌∷◌, [], suc, if◌then◌else◌, None, is_some, IfOk, IfErr, OnOk, IsOkUnless};
 ghost use Rattle.std.specs.Option.{option_map};
 ghost use Rattle.std.specs.List.{list_any};
 ghost use Rattle.std.specs.Str.{bytes_eq};
-ghost use Rattle.std.specs.Cmp.{partial_equiv_from_equiv};
-ghost use Rattle.std.specs.Cmp.Lexicographic.{lists_equiv, lists_per, nat_list_eq_equiv, pointwise};
-ghost use Rattle.pl_frame.specs.Schema.{names_in, HaveDistinctNames};
+ghost use Rattle.pl_frame.specs.Schema.{names_in, place_of};
 ghost use Rattle.pl_frame.specs.declared.error.PolarsError.TheVariants as error;
-ghost use Rattle.pl_cells.specs.NullValues.{text_under, column_texts, compiled_for, is_name_in, unknown_among, unknown_name, IsNameFault, is_null_text, HasColumns};
+ghost use Rattle.pl_cells.specs.NullValues.{text_under, column_texts, compiled_for, unknown_among, unknown_name, IsNameFault, is_null_text, HasColumns};
 
 use pl_frame::error::{PolarsError, PolarsResult};
 use pl_frame::name::PlSmallStr;
@@ -121,21 +119,6 @@ impl NamedTexts {
     }
 }
 
-// By the texts in order.
-impl PartialEq for NullTexts {
-    ghost eq = { pointwise bytes_eq };
-
-    ghost laws = { lists_per (partial_equiv_from_equiv nat_list_eq_equiv) };
-
-    fn eq(&self, other: &NullTexts) -> bool {
-        self.texts == other.texts
-    }
-}
-
-impl Eq for NullTexts {
-    ghost laws = { lists_equiv nat_list_eq_equiv };
-}
-
 // Puts something at the end. Refuses only want of memory.
 fn push<T: Drop>(items: &mut Vec<T>, item: T) -> PolarsResult<()>
     ensures pushed { OnOk result (items.new.items ≡ items.old.items ++ item ∷ []) }
@@ -180,6 +163,13 @@ impl NullValues {
     }
 }
 
+// Whether the schema has a name.
+fn has_name(schema: &Schema, name: &PlSmallStr) -> bool
+    ensures { result ≡ is_some (place_of name.now schema.now) }
+{
+    schema.index_of(name.as_str()).is_some()
+}
+
 // The first name that the schema doesn't have.
 fn find_unknown<'a>(
     entries: &'a [(PlSmallStr, PlSmallStr)],
@@ -188,7 +178,7 @@ fn find_unknown<'a>(
     ensures { option_map (λ name. name.now) result ≡ unknown_among schema.now entries.now }
 {
     for (name, _) in entries {
-        if schema.index_of(name.as_str()).is_none() {
+        if !has_name(schema, name) {
             return Some(name);
         }
     }
@@ -210,15 +200,24 @@ fn check_names(
     }
 }
 
+// The text of an entry of this name, or else another.
+fn text_of<'a>(entry: &'a (PlSmallStr, PlSmallStr), name: &str, other: &'a str) -> &'a str
+    ensures { result.now ≡ (if bytes_eq name.now entry.now.0 then entry.now.1 else other.now) }
+{
+    if name == entry.0.as_str() {
+        entry.1.as_str()
+    } else {
+        other
+    }
+}
+
 // The text of a name's last entry, or the empty text.
 fn text_under<'a>(entries: &'a [(PlSmallStr, PlSmallStr)], name: &str) -> &'a str
     ensures { result.now ≡ text_under [] entries.now name.now }
 {
     let mut text = "";
-    for (other, own) in entries {
-        if name == other.as_str() {
-            text = own.as_str();
-        }
+    for entry in entries {
+        text = text_of(entry, name, text);
     }
     text
 }
@@ -289,4 +288,70 @@ fn is_among(field: &[u8], texts: &[PlSmallStr]) -> bool
     ensures { result ≡ list_any (bytes_eq field.now) texts.now }
 {
     texts.iter().any(|text| is_text(field, text))
+}
+
+#[cfg(test)]
+mod tests {
+    use super::*;
+    use pl_frame::data_type::DataType;
+    use std::test::Fail;
+
+    // The schema of the columns `a` and `b` of strings.
+    fn two_columns(alloc: Global) -> Result<Schema, Fail> {
+        let mut schema = Schema::new(alloc);
+        schema.with_column(PlSmallStr::from_str(alloc, "a")?, DataType::String)?;
+        schema.with_column(PlSmallStr::from_str(alloc, "b")?, DataType::String)?;
+        Ok(schema)
+    }
+
+    // The null values of two entries for one name.
+    fn named(alloc: Global, name: &str) -> Result<NullValues, Fail> {
+        let first = (
+            PlSmallStr::from_str(alloc, name)?,
+            PlSmallStr::from_str(alloc, "-")?,
+        );
+        let last = (
+            PlSmallStr::from_str(alloc, name)?,
+            PlSmallStr::from_str(alloc, "NA")?,
+        );
+        Ok(NullValues::Named(NamedTexts::new(vec![in alloc; first, last]?)))
+    }
+
+    #[test]
+    fn named_texts_mean_null_in_their_columns(rt: HostRuntime) -> Result<(), Fail> {
+        let alloc = rt.alloc();
+        let schema = two_columns(alloc)?;
+        let compiled = named(alloc, "a")?.try_clone()?.compile(alloc, &schema)?;
+        let compiled = compiled.try_clone()?;
+        assert!(rt; compiled.is_null(b"NA", 0));
+        assert!(rt; !compiled.is_null(b"-", 0));
+        assert!(rt; !compiled.is_null(b"NA", 1));
+        assert!(rt; compiled.is_null(b"", 1));
+        Ok(())
+    }
+
+    #[test]
+    fn unknown_name_is_refused(rt: HostRuntime) -> Result<(), Fail> {
+        let alloc = rt.alloc();
+        let schema = two_columns(alloc)?;
+        let refused = match named(alloc, "c")?.compile(alloc, &schema) {
+            Err(PolarsError::ColumnNotFound(name)) => name.as_str() == "c",
+            _ => false,
+        };
+        assert!(rt; refused);
+        Ok(())
+    }
+
+    #[test]
+    fn each_text_of_a_list_means_null(rt: HostRuntime) -> Result<(), Fail> {
+        let alloc = rt.alloc();
+        let texts = vec![in alloc;
+            PlSmallStr::from_str(alloc, "NA")?,
+            PlSmallStr::from_str(alloc, "")?,
+        ]?;
+        let compiled = NullValuesCompiled::AllColumns(NullTexts::new(texts));
+        assert!(rt; compiled.is_null(b"", 7));
+        assert!(rt; !compiled.is_null(b"na", 0));
+        Ok(())
+    }
 }

@@ -4,4 +4,5 @@ pub mod FrameLaws
 pub mod ReadLaws
 pub mod RowLaws
 pub mod RunLaws
+pub mod TellLaws
 pub mod WordLaws

@@ -12,7 +12,7 @@ use Rattle.pl_csv.specs.declared.run.Refusal.{Refusal}
 use Rattle.pl_csv.specs.declared.run.Refusal.TheVariants as refusal
 use Rattle.pl_csv.specs.declared.settings.Settings.{Settings}
 use Rattle.pl_csv.specs.Reading.{IsRefusal, IsValidRead, IsCause, Tells, causes, quote_cause, first_some, when}
-use Rattle.pl_csv.specs.Run.{HasRead, HasCause, Views, IsRefused, IsTooLong, ConvertedPart, status_of, status_of_cause, IsDue, EndsAsDue, Converted}
+use Rattle.pl_csv.specs.Run.{HasRead, HasCause, Views, IsRefused, IsOfInput, IsTooLong, ConvertedPart, status_of, status_of_cause, IsDue, EndsAsDue, Converted}
 use Rattle.pl_csv.specs.Words.{settings_of_words}
 
 -- an input that is known is the one that was read
@@ -155,6 +155,15 @@ due-refused words before now input status refusal.TooLong is told due =
     let least = longer_input input came.0 now.left (subst (λ l. Consumes l now.left came.0) told came.1) in
     inl (sym (due-long words input status is.0 (omega (arith, came.2, least)) due))
 due-refused words before now input status (refusal.Input first) is told due = inl (sym (due-cause words before.left now.left input status first is.0 told due))
+
+-- a refusal by the input has its cause
+pub of_input : (words : List (List ℕ)) (before now : Views) (r : Refusal) → IsRefused words before now r → IsOfInput words before.left now.left r
+of_input words before now refusal.Words is = tt
+of_input words before now refusal.Source is = tt
+of_input words before now refusal.Sink is = tt
+of_input words before now refusal.OutOfMemory is = tt
+of_input words before now refusal.TooLong is = tt
+of_input words before now (refusal.Input first) is = is.0
 
 -- ---- what a status says
 

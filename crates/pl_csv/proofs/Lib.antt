@@ -1,7 +1,11 @@
 pub mod CountingLaws
-pub mod FaultLaws
-pub mod FrameLaws
-pub mod ReadLaws
+pub mod CellLaws
+pub mod RuleLaws
 pub mod RowLaws
+pub mod FaultLaws
+pub mod ReadLaws
+pub mod FrameLaws
+pub mod PlaceLaws
+pub mod CauseLaws
 pub mod RunLaws
 pub mod WordLaws

@@ -1,7 +1,11 @@
 -- The columns of a schema by their places.
-use Rattle.std.proofs.Common.{◌≡◌, ℕ, zero, suc, ◌+◌, ◌<◌, Bool, true, false, not, List, [], ◌∷◌, ◌++◌, map, length, get_or, refl, sym, ◌∙◌, ap, arith}
+use Rattle.std.proofs.Common.{◌≡◌, ℕ, zero, suc, ◌+◌, ◌<◌, Bool, true, false, not, List, [], ◌∷◌, ◌++◌, map, length, get_or, refl, sym, ◌∙◌, ap, add-one, arith}
 use Rattle.std.specs.Prelude.{Option, None, Some, find, position}
-use Rattle.std.specs.List.{range_with_len, list_any}
+use Rattle.std.specs.List.{range_with_len, list_any, slice_index}
+use Rattle.std.proofs.lemmas.List.FromFn.{length-range_with_len, get_or-range_with_len}
+use Rattle.pl_frame.specs.declared.error.ComputeFault.TheVariants as compute
+use Rattle.pl_frame.specs.declared.error.PolarsError.{PolarsError}
+use Rattle.pl_frame.specs.declared.error.PolarsError.TheVariants as error
 use Rattle.std.proofs.lemmas.List.{length-map}
 use Rattle.std.proofs.lemmas.List.Folds.{list_any_at}
 use Rattle.pl_frame.specs.declared.data_type.DataType.{DataType}
@@ -10,17 +14,33 @@ use Rattle.pl_frame.specs.Schema.{Entry}
 use Rattle.pl_frame.specs.Types.{is_readable}
 use Rattle.pl_frame.proofs.ColumnLaws.{position-found, position-nowhere}
 use Rattle.pl_frame.proofs.SchemaLaws.{none_passes}
-use Rattle.pl_cells.specs.BufferState.{entry_at, empty_buffer, empty_buffers}
+use Rattle.pl_cells.specs.BufferState.{entry_at, empty_buffer, empty_buffers, IsTypeFault}
 use Rattle.pl_cells.specs.BufferState as cells
 use Rattle.pl_cells.specs.declared.utf8.CsvEncoding.{CsvEncoding}
 use Rattle.pl_csv.specs.Reading.{types_of, first_unreadable}
 
 -- one number more
-pub range-more : (a n : ℕ) → range_with_len a (n + 1) ≡ range_with_len a n ++ (a + n) ∷ []
+range-more : (a n : ℕ) → range_with_len a (suc n) ≡ range_with_len a n ++ (a + n) ∷ []
 range-more a zero = let same : a ≡ a + 0 = omega arith in ap (λ k. k ∷ []) same
 range-more a (suc n) =
     let same : a + 1 + n ≡ a + suc n = omega arith in
     ap (λ l. a ∷ l) (range-more (a + 1) n) ∙ ap (λ k. a ∷ (range_with_len (a + 1) n ++ k ∷ [])) same
+
+pub places-more : (n : ℕ) → range_with_len 0 (n + 1) ≡ range_with_len 0 n ++ n ∷ []
+places-more n = let same : 0 + n ≡ n = omega arith in rw add-one (range-more 0 n ∙ ap (λ k. range_with_len 0 n ++ k ∷ []) same)
+
+-- each of the places is one of the list's
+pub places_below : (n : ℕ) (places : List ℕ) → places ≡ range_with_len 0 n → (k : ℕ) → k < length places → slice_index places k < n
+places_below n places is k l =
+    let many : k < n = omega (arith, ap length is, length-range_with_len 0 n) in
+    let there : slice_index places k ≡ 0 + k = ap (λ p. slice_index p k) is ∙ get_or-range_with_len 0 n k 0 many in
+    omega arith
+
+-- where no type is at fault, memory was wanting
+pub only_memory : (wrong : PolarsError) → IsTypeFault None wrong → wrong ≡ error.OutOfMemory
+only_memory error.OutOfMemory is = refl
+only_memory (error.ComputeError (compute.Dtype column)) is = absurd (cc)
+only_memory wrong is = absurd is
 
 -- what is made of the places of a list is made of its elements
 map-range : {X Y : Type 0} (g : ℕ → Y) (f : X → Y) (xs : List X) (a : ℕ) (d : X) → ((k : ℕ) → k < length xs → g (a + k) ≡ f (get_or xs k d)) → map g (range_with_len a (length xs)) ≡ map f xs

@@ -2,7 +2,7 @@
 ghost use Rattle.std.specs.Prelude.{◌≡◌, ◌<◌, None, length, map, IfOk};
 ghost use Rattle.std.specs.List.{range_with_len};
 ghost use Rattle.pl_frame.specs.Types.{is_readable};
-ghost use Rattle.pl_cells.specs.BufferState.{empty_buffer, entry_at};
+ghost use Rattle.pl_cells.specs.BufferState.{empty_buffer, entry_at, IsTypeFault};
 ghost use Rattle.pl_csv.specs.Rows.{states};
 ghost use Rattle.pl_csv.specs.Reading.{first_unreadable};
 ghost use Rattle.pl_csv.specs.Frames.{columns_of};
@@ -62,8 +62,17 @@ pub fn empty_buffers(
     let places = all_places(alloc, schema.len())?;
     match init_buffers(alloc, &places, 0, schema, quote_char, encoding) {
         Ok(buffers) => Ok(buffers),
-        Err(PolarsError::OutOfMemory) => Err(AllocError),
-        Err(_) => unreachable!(),
+        Err(fault) => Err(wanting(fault)),
+    }
+}
+
+// The want of memory that a fault is where all types can be read.
+fn wanting(fault: PolarsError) -> AllocError
+    requires { IsTypeFault None fault }
+{
+    match fault {
+        PolarsError::OutOfMemory => AllocError,
+        _ => unreachable!(),
     }
 }
 

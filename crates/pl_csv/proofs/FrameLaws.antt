@@ -1,8 +1,9 @@
 -- Columns of a schema, one after another.
-use Rattle.std.proofs.Common.{◌≡◌, ℕ, ◌+◌, List, [], ◌∷◌, map, length, refl, sym, ◌∙◌, ap, subst}
+use Rattle.std.proofs.Common.{◌≡◌, ℕ, ◌+◌, List, [], ◌∷◌, ◌++◌, map, length, take, drop, arith, refl, sym, ◌∙◌, ap, subst}
 use Rattle.std.specs.Prelude.{AllPairs, ◌≢◌}
 use Rattle.std.specs.List.{enumerate_from}
 use Rattle.std.proofs.lemmas.List.{length-map}
+use Rattle.std.proofs.Math.Seq.{take-append_seam}
 use Rattle.pl_frame.specs.Frame.{HaveHeight, IsFrame, names_of}
 use Rattle.pl_frame.specs.Schema.{names_in, HaveDistinctNames}
 use Rattle.pl_cells.specs.Cells.{value_of}
@@ -12,6 +13,12 @@ use Rattle.pl_csv.specs.Reading.{Row, types_of, field_at, read_column, frame_of_
 use Rattle.pl_csv.specs.Rows.{state_types, with_rows}
 use Rattle.pl_csv.specs.Frames.{empty_columns, columns_of}
 use Rattle.pl_csv.proofs.ReadLaws.{column_cells, with_columns, with_rows-columns}
+
+-- a list that was written back as a whole
+pub written_back : {X : Type 0} (items new : List X) (n : ℕ) → length items ≡ n → length new ≡ length items → take n (new ++ drop (length new) items) ≡ new
+written_back items new n full same =
+    let count : n ≡ length new = omega arith in
+    ap (λ k. take k (new ++ drop (length new) items)) count ∙ take-append_seam new (drop (length new) items)
 
 pub state_types-empty : (rules : RowRules) (schema : SchemaValue) → state_types (empty_columns rules schema) ≡ types_of schema
 state_types-empty rules [] = refl

@@ -16,11 +16,11 @@ use Rattle.pl_csv.specs.declared.rows.RowRest.{RowRest}
 use Rattle.pl_csv.specs.declared.rows.RowRest.TheVariants as rest
 use Rattle.pl_csv.specs.declared.rows.RowFault.{RowFault}
 use Rattle.pl_csv.specs.declared.rows.RowFault.TheVariants as row_fault
-use Rattle.pl_csv.specs.declared.buffer.CellFault.{CellFault}
-use Rattle.pl_csv.specs.declared.buffer.CellFault.TheVariants as cell_fault
-use Rattle.pl_csv.specs.Buffers.{IsCellFault}
+use Rattle.pl_cells.specs.declared.cell_fault.CellFault.{CellFault}
+use Rattle.pl_cells.specs.declared.cell_fault.CellFault.TheVariants as cell_fault
+use Rattle.pl_cells.specs.Buffers.{IsCellFault}
 use Rattle.pl_cells.specs.Cells.{Cell, fault_of}
-use Rattle.pl_csv.specs.Cells.{cell}
+use Rattle.pl_csv.specs.Cells.{RowRules, cell}
 use Rattle.pl_csv.specs.Reading.{Row, field_at, column_fault, first_or, is_forgiven, excess_fault, first_fault, row_at}
 use Rattle.pl_csv.specs.Rows.{fields_left, behind_row, IsDone, HasMore, IsRowFault, row_fault_of}
 use Rattle.pl_csv.proofs.RowLaws.{cells_fault}
@@ -42,18 +42,18 @@ abbrev pub fault_at : ℕ → Option (ℕ × FaultKind) → Option FaultKind →
 fault_at k others None = others
 fault_at k others (Some kind) = Some (k, kind)
 
-pub first_fault-cells : (q : Option ℕ) (fs : List (List ℕ)) (other : Option (ℕ × FaultKind)) (types : List DataType) (k : ℕ)
-    → first_or other (filter_map (column_fault q fs) (enumerate_from k types)) ≡ found_or other (cells_fault q k (drop k fs) types)
-first_fault-cells q fs other [] k = refl
-first_fault-cells q fs other (type ∷ types) k =
-    by_fault (fault_of (cell q type (field_at fs k))) (first_fault-cells q fs other types (k + 1))
-    ∙ ap (λ l. found_or other (fault_at k (cells_fault q (k + 1) l types) (fault_of (cell q type (field_at fs k))))) (sym (drop-drop 1 k fs))
-    ∙ ap (λ f. found_or other (fault_at k (cells_fault q (k + 1) (drop 1 (drop k fs)) types) (fault_of (cell q type f)))) (sym (field_at-drop fs k))
+pub first_fault-cells : (rules : RowRules) (fs : List (List ℕ)) (other : Option (ℕ × FaultKind)) (types : List DataType) (k : ℕ)
+    → first_or other (filter_map (column_fault rules fs) (enumerate_from k types)) ≡ found_or other (cells_fault rules k (drop k fs) types)
+first_fault-cells rules fs other [] k = refl
+first_fault-cells rules fs other (type ∷ types) k =
+    by_fault (fault_of (cell rules k type (field_at fs k))) (first_fault-cells rules fs other types (k + 1))
+    ∙ ap (λ l. found_or other (fault_at k (cells_fault rules (k + 1) l types) (fault_of (cell rules k type (field_at fs k))))) (sym (drop-drop 1 k fs))
+    ∙ ap (λ f. found_or other (fault_at k (cells_fault rules (k + 1) (drop 1 (drop k fs)) types) (fault_of (cell rules k type f)))) (sym (field_at-drop fs k))
   where
     by_fault : (o : Option FaultKind)
-        → first_or other (filter_map (column_fault q fs) (enumerate_from (k + 1) types)) ≡ found_or other (cells_fault q (k + 1) (drop (k + 1) fs) types)
-        → first_or other (cons_option (fault_at k None o) (filter_map (column_fault q fs) (enumerate_from (k + 1) types)))
-        ≡ found_or other (fault_at k (cells_fault q (k + 1) (drop (k + 1) fs) types) o)
+        → first_or other (filter_map (column_fault rules fs) (enumerate_from (k + 1) types)) ≡ found_or other (cells_fault rules (k + 1) (drop (k + 1) fs) types)
+        → first_or other (cons_option (fault_at k None o) (filter_map (column_fault rules fs) (enumerate_from (k + 1) types)))
+        ≡ found_or other (fault_at k (cells_fault rules (k + 1) (drop (k + 1) fs) types) o)
     by_fault None e = e
     by_fault (Some kind) e = refl
 
@@ -84,14 +84,14 @@ unfolding fields cut_field
 fields-nil m = (refl, refl)
 
 -- as many fields as columns, or fewer
-pub excess_fault-none : (n : ℕ) (row : Row) → drop n row.fields ≡ [] → excess_fault n row ≡ None
+pub excess_fault-none : (n : ℕ) (row : Row) → drop n row.fields ≡ [] → excess_fault false n row ≡ None
 excess_fault-none n row e =
     let few : length row.fields ≤ n = omega (arith, length-drop n row.fields, ap length e) in
     let test : ltb n (length row.fields) ≡ false = grind (arith, nat_tests) in
     none_of (ltb n (length row.fields)) (not (is_forgiven n row)) (Some (n, fault.Fields)) None test
 
 -- one empty field more, at the end
-pub excess_fault-forgiven : (n : ℕ) (row : Row) → drop n row.fields ≡ [] ∷ [] → row.is_end ≡ true → excess_fault n row ≡ None
+pub excess_fault-forgiven : (n : ℕ) (row : Row) → drop n row.fields ≡ [] ∷ [] → row.is_end ≡ true → excess_fault false n row ≡ None
 excess_fault-forgiven n row e end =
     let count : length row.fields ≡ n + 1 = omega (arith, length-drop n row.fields, ap length e) in
     let empty : length (field_at row.fields n) ≡ 0 = ap length (sym (field_at-drop row.fields n) ∙ ap (λ fs. field_at fs 0) e) in
@@ -101,7 +101,7 @@ excess_fault-forgiven n row e end =
 
 -- more than that
 pub excess_fault-some : (n : ℕ) (row : Row) → 0 < length (drop n row.fields)
-    → (row.is_end ≡ true → length (drop n row.fields) ≡ 1 → length (field_at (drop n row.fields) 0) ≡ 0 → ⊥) → excess_fault n row ≡ Some (n, fault.Fields)
+    → (row.is_end ≡ true → length (drop n row.fields) ≡ 1 → length (field_at (drop n row.fields) 0) ≡ 0 → ⊥) → excess_fault false n row ≡ Some (n, fault.Fields)
 excess_fault-some n row some more =
     let many : n < length row.fields = omega (arith, length-drop n row.fields) in
     let test : ltb n (length row.fields) ≡ true = grind (arith, nat_tests) in
@@ -111,7 +111,7 @@ excess_fault-some n row some more =
 
 -- a row of which all columns were read and that is done has no fault of its number of fields
 pub excess_fault-done : (m : Marks) (b : List ℕ) (n : ℕ) (left : RowRest) (behind : List ℕ) → fields_left m left ≡ drop n (fields m b) → behind_row m left ≡ drop (extent m b) b
-    → IsDone left behind → (excess_fault n (row_at m b) ≡ None) × (behind ≡ drop (extent m b) b)
+    → IsDone left behind → (excess_fault false n (row_at m b) ≡ None) × (behind ≡ drop (extent m b) b)
 excess_fault-done m b n (rest.Fields bytes) behind left_is behind_is done =
     let one : drop n (fields m b) ≡ [] ∷ [] = sym left_is ∙ ap (fields m) done.0 ∙ (fields-nil m).0 in
     let gone : drop (extent m b) b ≡ [] = sym behind_is ∙ ap (λ l. drop (extent m l) l) done.0 ∙ drop_all (extent m []) [] (omega arith) in
@@ -139,7 +139,7 @@ one_empty m bytes one empty gone = by_rest (behind m.separator (cut_field m byte
 
 -- a row with more has that fault
 pub excess_fault-more : (m : Marks) (b : List ℕ) (n : ℕ) (left : RowRest) → fields_left m left ≡ drop n (fields m b) → behind_row m left ≡ drop (extent m b) b
-    → HasMore left → excess_fault n (row_at m b) ≡ Some (n, fault.Fields)
+    → HasMore left → excess_fault false n (row_at m b) ≡ Some (n, fault.Fields)
 excess_fault-more m b n (rest.Fields bytes) left_is behind_is more =
     let first = fields-some m bytes.now in
     let some : 0 < length (drop n (fields m b)) = omega (arith, ap length left_is, ap length first.2) in
@@ -158,12 +158,29 @@ row_fault-is cell_fault.Value v i first is given = given fault.Value is
 row_fault-is cell_fault.OutOfMemory v i first is given = tt
 
 -- the first fault where a cell has one
-pub first_fault-cell : (q : Option ℕ) (types : List DataType) (row : Row) (i : ℕ) (kind : FaultKind) → cells_fault q 0 row.fields types ≡ Some (i, kind) → first_fault q types row ≡ Some (i, kind)
-first_fault-cell q types row i kind e = first_fault-cells q row.fields (excess_fault (length types) row) types 0 ∙ ap (found_or (excess_fault (length types) row)) e
+pub first_fault-cell : (rules : RowRules) (types : List DataType) (row : Row) (i : ℕ) (kind : FaultKind) → cells_fault rules 0 row.fields types ≡ Some (i, kind)
+    → first_fault rules types row ≡ Some (i, kind)
+first_fault-cell rules types row i kind e =
+    let other = excess_fault rules.truncate_ragged_lines (length types) row in
+    first_fault-cells rules row.fields other types 0 ∙ ap (found_or other) e
 
 -- the first fault where no cell has one
-pub first_fault-excess : (q : Option ℕ) (types : List DataType) (row : Row) → cells_fault q 0 row.fields types ≡ None → first_fault q types row ≡ excess_fault (length types) row
-first_fault-excess q types row e = first_fault-cells q row.fields (excess_fault (length types) row) types 0 ∙ ap (found_or (excess_fault (length types) row)) e
+pub first_fault-excess : (rules : RowRules) (types : List DataType) (row : Row) → cells_fault rules 0 row.fields types ≡ None
+    → first_fault rules types row ≡ excess_fault rules.truncate_ragged_lines (length types) row
+first_fault-excess rules types row e =
+    let other = excess_fault rules.truncate_ragged_lines (length types) row in
+    first_fault-cells rules row.fields other types 0 ∙ ap (found_or other) e
+
+-- and where more fields are passed over
+pub first_fault-passed : (rules : RowRules) (types : List DataType) (row : Row) → rules.truncate_ragged_lines ≡ true → cells_fault rules 0 row.fields types ≡ None → first_fault rules types row ≡ None
+first_fault-passed rules types row passed e =
+    first_fault-excess rules types row e ∙ ap (λ t. excess_fault t (length types) row) passed
+
+-- and where they are not
+pub first_fault-counted : (rules : RowRules) (types : List DataType) (n : ℕ) (row : Row) → rules.truncate_ragged_lines ≡ false → n ≡ length types → cells_fault rules 0 row.fields types ≡ None
+    → first_fault rules types row ≡ excess_fault false n row
+first_fault-counted rules types n row counted count e =
+    first_fault-excess rules types row e ∙ ap (λ t. excess_fault t (length types) row) counted ∙ ap (λ k. excess_fault false k row) (sym count)
 
 -- the answer at the end of a row
 pub record IsRowAnswer {T : Type 0} (r : Result T RowFault) (first : Option (ℕ × FaultKind)) (added : Type 0) (behind_is : T → Type 0) : Type 0 where
@@ -172,19 +189,18 @@ pub record IsRowAnswer {T : Type 0} (r : Result T RowFault) (first : Option (ℕ
   pub behind : IfOk r behind_is
   pub fault : IfErr r (λ wrong. IsRowFault wrong first)
 
-pub finished : {added : Type 0} (m : Marks) (q : Option ℕ) (b : List ℕ) (types : List DataType) (n : ℕ) (left : RowRest) (r : Result (Bor (List ℕ)) RowFault)
+pub finished : {added : Type 0} (m : Marks) (rules : RowRules) (b : List ℕ) (types : List DataType) (n : ℕ) (left : RowRest) (r : Result (Bor (List ℕ)) RowFault)
     → MatchResult r (λ behind. IsDone left behind.now) (λ wrong. HasMore left × (wrong ≡ row_fault.Record n fault.Fields))
-    → n ≡ length types → cells_fault q 0 (fields m b) types ≡ None → added → fields_left m left ≡ drop n (fields m b) → behind_row m left ≡ drop (extent m b) b
-    → IsRowAnswer r (first_fault q types (row_at m b)) added (λ behind. behind.now ≡ drop (extent m b) b)
-finished m q b types n left (Ok after) done count none given left_is behind_is =
+    → rules.truncate_ragged_lines ≡ false → n ≡ length types → cells_fault rules 0 (fields m b) types ≡ None → added → fields_left m left ≡ drop n (fields m b) → behind_row m left ≡ drop (extent m b) b
+    → IsRowAnswer r (first_fault rules types (row_at m b)) added (λ behind. behind.now ≡ drop (extent m b) b)
+finished m rules b types n left (Ok after) done counted count none given left_is behind_is =
     let end = excess_fault-done m b n left after.now left_is behind_is done in
     record {
-      whole = first_fault-excess q types (row_at m b) none ∙ ap (λ k. excess_fault k (row_at m b)) (sym count) ∙ end.0;
+      whole = first_fault-counted rules types n (row_at m b) counted count none ∙ end.0;
       added_is = given;
       behind = end.1;
       fault = tt;
     }
-finished m q b types n left (Err wrong) (more, is) count none given left_is behind_is =
-    let end = excess_fault-more m b n left left_is behind_is more in
-    let first = first_fault-excess q types (row_at m b) none ∙ ap (λ k. excess_fault k (row_at m b)) (sym count) ∙ end in
+finished m rules b types n left (Err wrong) (more, is) counted count none given left_is behind_is =
+    let first = first_fault-counted rules types n (row_at m b) counted count none ∙ excess_fault-more m b n left left_is behind_is more in
     record { whole = tt; added_is = tt; behind = tt; fault = rw is first }

@@ -1,8 +1,12 @@
 pub mod CountingLaws
-pub mod FaultLaws
-pub mod FrameLaws
-pub mod ReadLaws
+pub mod CellLaws
+pub mod RuleLaws
 pub mod RowLaws
+pub mod FaultLaws
+pub mod ReadLaws
+pub mod FrameLaws
+pub mod PlaceLaws
+pub mod CauseLaws
 pub mod RunLaws
 pub mod TellLaws
 pub mod WordLaws

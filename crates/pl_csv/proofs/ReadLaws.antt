@@ -1,5 +1,5 @@
 -- The rows of a text, one after another.
-use Rattle.std.proofs.Common.{◌≡◌, ◌≢◌, ℕ, zero, suc, ◌+◌, ◌<◌, ◌≤◌, true, false, ◌==◌, not, Bool, cond, List, [], ◌∷◌, ◌++◌, map, length, take, drop, refl, sym, ◌∙◌, ap, append_assoc, append-nil, arith, length-drop}
+use Rattle.std.proofs.Common.{◌≡◌, ◌≢◌, ℕ, zero, suc, ◌+◌, ◌<◌, ◌≤◌, true, false, ◌==◌, not, Bool, cond, List, [], ◌∷◌, ◌++◌, map, length, take, drop, refl, sym, ◌∙◌, ap, subst, append_assoc, append-nil, arith, length-drop}
 use Rattle.std.specs.Prelude.{Option, None, Some, take_while}
 use Rattle.std.specs.List.{filter_map, cons_option, prefix_len}
 use Rattle.std.proofs.lemmas.List.{length-take-le, drop-drop}
@@ -16,11 +16,12 @@ use Rattle.pl_scan.proofs.RecordLaws.{fields-text}
 use Rattle.pl_csv.specs.declared.rows.RowFault.{RowFault}
 use Rattle.pl_csv.specs.declared.rows.RowFault.TheVariants as row_fault
 use Rattle.pl_cells.specs.Cells.{value_of}
-use Rattle.pl_csv.specs.Cells.{cell}
-use Rattle.pl_csv.specs.Reading.{Row, items_behind_within, items_behind, row_of, row_at, rows, first_fault, has_fault, field_at}
-use Rattle.pl_csv.specs.Buffers.{State}
-use Rattle.pl_csv.specs.Rows.{state_types, with_row, with_rows, IsRowFault}
+use Rattle.pl_cells.specs.Buffers.{BufferValue, with_value}
+use Rattle.pl_csv.specs.Cells.{RowRules, cell}
+use Rattle.pl_csv.specs.Reading.{Row, items_behind_within, items_behind, row_of, row_at, rows, first_fault, first_faulty, field_at}
+use Rattle.pl_csv.specs.Rows.{state_types, with_row, with_rows, FollowRules, IsRowFault, IsRecordFault, record_fault_of}
 use Rattle.pl_csv.proofs.FaultLaws.{field_at-drop}
+use Rattle.pl_csv.proofs.RuleLaws.{FollowRules-with_row}
 
 behind-enough : (m : Marks) (comment : Option (List ℕ)) (n k : ℕ) (b : List ℕ) → length b ≤ n → length b ≤ k → items_behind_within m comment n b ≡ items_behind_within m comment k b
 behind-enough m comment zero zero b h i = refl
@@ -71,104 +72,132 @@ rows-comment m comment b some starts =
     ∙ ap (λ t. cons_option (row_of m (item_by t m b, drop (length (text_of (item_by t m b))) b)) (rows m comment (drop (length (text_of (item_by t m b)) + 1) b))) starts
     ∙ ap (λ k. rows m comment (drop (k + 1) b)) (length-prefix_len (λ x. not (x == m.line_end)) b)
 
-pub has_fault-step : (q : Option ℕ) (types : List DataType) (row : Row) (others : List Row) → first_fault q types row ≡ None → has_fault q types (row ∷ others) ≡ has_fault q types others
-has_fault-step q types row others e = rw e refl
+-- a row without a fault is passed
+first_faulty-step : (rules : RowRules) (types : List DataType) (n : ℕ) (row : Row) (others : List Row) → first_fault rules types row ≡ None
+    → first_faulty rules types n (row ∷ others) ≡ first_faulty rules types (n + 1) others
+first_faulty-step rules types n row others e = rw (e, first_faulty) refl
 
-pub has_fault-here : (q : Option ℕ) (types : List DataType) (row : Row) (others : List Row) (found : ℕ × FaultKind) → first_fault q types row ≡ Some found → has_fault q types (row ∷ others) ≡ true
-has_fault-here q types row others found e = rw e refl
+-- a row with a fault is the first that has one
+first_faulty-here : (rules : RowRules) (types : List DataType) (n : ℕ) (row : Row) (others : List Row) (found : ℕ × FaultKind) → first_fault rules types row ≡ Some found
+    → first_faulty rules types n (row ∷ others) ≡ Some (n, found)
+first_faulty-here rules types n row others found e = rw (e, first_faulty) refl
 
 -- a row changes no type
-pub state_types-with_row : (q : Option ℕ) (fs : List (List ℕ)) (given : List State) → state_types (with_row q fs given) ≡ state_types given
-state_types-with_row q fs [] = refl
-state_types-with_row q fs ((type, values) ∷ others) = ap (λ l. type ∷ l) (state_types-with_row q (drop 1 fs) others)
+pub state_types-with_row : (rules : RowRules) (k : ℕ) (fs : List (List ℕ)) (given : List BufferValue) → state_types (with_row rules k fs given) ≡ state_types given
+state_types-with_row rules k fs [] = refl
+state_types-with_row rules k fs (buffer ∷ others) = ap (λ l. buffer.dtype ∷ l) (state_types-with_row rules (k + 1) (drop 1 fs) others)
 
--- what a loop over the rows has done, where these bytes are left
-pub record HasReadRows (m : Marks) (comment : Option (List ℕ)) (q : Option ℕ) (all : List ℕ) (before now : List State) (left : List ℕ) : Type 0 where
+-- what a loop over the rows has done where these bytes are left, behind so many rows
+pub record HasReadRows (m : Marks) (comment : Option (List ℕ)) (rules : RowRules) (all : List ℕ) (before now : List BufferValue) (left : List ℕ) (n : ℕ) : Type 0 where
   pub types : state_types now ≡ state_types before
-  pub filled : with_rows q (rows m comment left) now ≡ with_rows q (rows m comment all) before
-  pub sound : has_fault q (state_types before) (rows m comment left) ≡ has_fault q (state_types before) (rows m comment all)
+  pub follow : FollowRules rules now
+  pub filled : with_rows rules (rows m comment left) now ≡ with_rows rules (rows m comment all) before
+  pub sound : first_faulty rules (state_types before) n (rows m comment left) ≡ first_faulty rules (state_types before) 0 (rows m comment all)
+  pub few : n + length left ≤ length all
 
-pub HasReadRows-more : (m : Marks) (comment : Option (List ℕ)) (q : Option ℕ) (all : List ℕ) (before now after : List State) (left rest : List ℕ) → AreDistinct m → 0 < length left
+pub HasReadRows-more : (m : Marks) (comment : Option (List ℕ)) (rules : RowRules) (all : List ℕ) (before now after : List BufferValue) (left rest : List ℕ) (n : ℕ) → AreDistinct m → 0 < length left
     → is_comment comment left ≡ false
-    → HasReadRows m comment q all before now left → first_fault q (state_types now) (row_at m left) ≡ None → after ≡ with_row q (fields m left) now
-    → rest ≡ drop 1 (drop (extent m left) left) → HasReadRows m comment q all before after rest
-HasReadRows-more m comment q all before now after left rest distinct some plain read whole added rest_is =
+    → HasReadRows m comment rules all before now left n → first_fault rules (state_types now) (row_at m left) ≡ None → after ≡ with_row rules 0 (fields m left) now
+    → rest ≡ drop 1 (drop (extent m left) left) → HasReadRows m comment rules all before after rest (n + 1)
+HasReadRows-more m comment rules all before now after left rest n distinct some plain read whole added rest_is =
     let behind : rest ≡ drop (extent m left + 1) left = rest_is ∙ drop-drop 1 (extent m left) left in
     let step = rows-step m comment left distinct some plain in
+    let others = rows m comment (drop (extent m left + 1) left) in
     record {
-      types = ap state_types added ∙ state_types-with_row q (fields m left) now ∙ read.types;
+      types = ap state_types added ∙ state_types-with_row rules 0 (fields m left) now ∙ read.types;
+      follow = subst (FollowRules rules) (sym added) (FollowRules-with_row rules 0 (fields m left) now read.follow);
       filled =
-          ap (λ r. with_rows q (rows m comment r) after) behind
-          ∙ ap (with_rows q (rows m comment (drop (extent m left + 1) left))) added
-          ∙ sym (ap (λ rs. with_rows q rs now) step)
+          ap (λ r. with_rows rules (rows m comment r) after) behind
+          ∙ ap (with_rows rules others) added
+          ∙ sym (ap (λ rs. with_rows rules rs now) step)
           ∙ read.filled;
       sound =
-          ap (λ r. has_fault q (state_types before) (rows m comment r)) behind
-          ∙ sym (ap (has_fault q (state_types before)) step
-          ∙ has_fault-step q (state_types before) (row_at m left) (rows m comment (drop (extent m left + 1) left)) (sym (ap (λ ts. first_fault q ts (row_at m left)) read.types) ∙ whole))
+          ap (λ r. first_faulty rules (state_types before) (n + 1) (rows m comment r)) behind
+          ∙ sym (ap (first_faulty rules (state_types before) n) step
+          ∙ first_faulty-step rules (state_types before) n (row_at m left) others (sym (ap (λ ts. first_fault rules ts (row_at m left)) read.types) ∙ whole))
           ∙ read.sound;
+      few = omega (arith, read.few, ap length behind, length-drop (extent m left + 1) left);
     }
 
 -- a comment adds nothing
-pub HasReadRows-comment : (m : Marks) (comment : Option (List ℕ)) (q : Option ℕ) (all : List ℕ) (before now : List State) (left rest : List ℕ) → 0 < length left
+pub HasReadRows-comment : (m : Marks) (comment : Option (List ℕ)) (rules : RowRules) (all : List ℕ) (before now : List BufferValue) (left rest : List ℕ) (n : ℕ) → 0 < length left
     → is_comment comment left ≡ true
-    → HasReadRows m comment q all before now left → rest ≡ drop (prefix_len (λ x. not (x == m.line_end)) left + 1) left → HasReadRows m comment q all before now rest
-HasReadRows-comment m comment q all before now left rest some starts read rest_is =
+    → HasReadRows m comment rules all before now left n → rest ≡ drop (prefix_len (λ x. not (x == m.line_end)) left + 1) left → HasReadRows m comment rules all before now rest n
+HasReadRows-comment m comment rules all before now left rest n some starts read rest_is =
     let same : rows m comment rest ≡ rows m comment left = ap (rows m comment) rest_is ∙ sym (rows-comment m comment left some starts) in
     record {
       types = read.types;
-      filled = ap (λ rs. with_rows q rs now) same ∙ read.filled;
-      sound = ap (has_fault q (state_types before)) same ∙ read.sound;
+      follow = read.follow;
+      filled = ap (λ rs. with_rows rules rs now) same ∙ read.filled;
+      sound = ap (first_faulty rules (state_types before) n) same ∙ read.sound;
+      few = omega (arith, read.few, ap length rest_is, length-drop (prefix_len (λ x. not (x == m.line_end)) left + 1) left);
     }
 
--- a fault of the row at the front is one of the rows
-pub HasReadRows-fault : (m : Marks) (comment : Option (List ℕ)) (q : Option ℕ) (all : List ℕ) (before now : List State) (left : List ℕ) (found : ℕ × FaultKind) → AreDistinct m → 0 < length left
-    → is_comment comment left ≡ false
-    → HasReadRows m comment q all before now left → first_fault q (state_types now) (row_at m left) ≡ Some found → has_fault q (state_types before) (rows m comment all) ≡ true
-HasReadRows-fault m comment q all before now left found distinct some plain read wrong =
+-- a fault of the row at the front is the first
+pub HasReadRows-fault : (m : Marks) (comment : Option (List ℕ)) (rules : RowRules) (all : List ℕ) (before now : List BufferValue) (left : List ℕ) (n : ℕ) (wrong : RowFault) → AreDistinct m
+    → 0 < length left → is_comment comment left ≡ false
+    → HasReadRows m comment rules all before now left n → IsRowFault wrong (first_fault rules (state_types now) (row_at m left))
+    → IsRecordFault (record_fault_of n wrong) (first_faulty rules (state_types before) 0 (rows m comment all))
+HasReadRows-fault m comment rules all before now left n (row_fault.Record column kind) distinct some plain read wrong =
+    let others = rows m comment (drop (extent m left + 1) left) in
     sym read.sound
-    ∙ ap (has_fault q (state_types before)) (rows-step m comment left distinct some plain)
-    ∙ has_fault-here q (state_types before) (row_at m left) (rows m comment (drop (extent m left + 1) left)) found (sym (ap (λ ts. first_fault q ts (row_at m left)) read.types) ∙ wrong)
+    ∙ ap (first_faulty rules (state_types before) n) (rows-step m comment left distinct some plain)
+    ∙ first_faulty-here rules (state_types before) n (row_at m left) others (column, kind) (sym (ap (λ ts. first_fault rules ts (row_at m left)) read.types) ∙ wrong)
+HasReadRows-fault m comment rules all before now left n row_fault.OutOfMemory distinct some plain read wrong = tt
 
-pub HasReadRows-all : (m : Marks) (comment : Option (List ℕ)) (q : Option ℕ) (all : List ℕ) (before now : List State) (left : List ℕ) → HasReadRows m comment q all before now left → left ≡ []
-    → (has_fault q (state_types before) (rows m comment all) ≡ false) × (now ≡ with_rows q (rows m comment all) before)
-HasReadRows-all m comment q all before now left read empty =
+pub HasReadRows-all : (m : Marks) (comment : Option (List ℕ)) (rules : RowRules) (all : List ℕ) (before now : List BufferValue) (left : List ℕ) (n : ℕ)
+    → HasReadRows m comment rules all before now left n → left ≡ []
+    → (first_faulty rules (state_types before) 0 (rows m comment all) ≡ None) × (now ≡ with_rows rules (rows m comment all) before)
+HasReadRows-all m comment rules all before now left n read empty =
     let none : rows m comment left ≡ [] = ap (rows m comment) empty ∙ rows-nil m comment in (
-      sym read.sound ∙ ap (has_fault q (state_types before)) none,
-      sym (ap (λ rs. with_rows q rs now) none) ∙ read.filled,
+      sym read.sound ∙ ap (first_faulty rules (state_types before) n) none,
+      sym (ap (λ rs. with_rows rules rs now) none) ∙ read.filled,
     )
-
--- a row's fault by its own words
-pub first_fault-is : (wrong : RowFault) (first : Option (ℕ × FaultKind)) → IsRowFault wrong first → wrong ≢ row_fault.OutOfMemory → (found : ℕ × FaultKind) × (first ≡ Some found)
-first_fault-is (row_fault.Record column kind) first is other = ((column, kind), is)
-first_fault-is row_fault.OutOfMemory first is other = absurd (other refl)
 
 -- ---- columns of many rows
 
 -- the cells of a column, from number k of the fields on
-abbrev pub column_cells : Option ℕ → List Row → ℕ → DataType → List (Option Scalar)
-column_cells q given k type = map (λ row. value_of (cell q type (field_at row.fields k))) given
+abbrev pub column_cells : RowRules → List Row → ℕ → DataType → List (Option Scalar)
+column_cells rules given k type = map (λ row. value_of (cell rules k type (field_at row.fields k))) given
+
+-- a buffer with cells at its end
+abbrev pub with_cells : BufferValue → List (Option Scalar) → BufferValue
+with_cells buffer cells = record {
+  name = buffer.name;
+  dtype = buffer.dtype;
+  quote_char = buffer.quote_char;
+  encoding = buffer.encoding;
+  values = buffer.values ++ cells;
+}
 
 -- each column with its cells at the end
-abbrev pub with_columns : Option ℕ → List Row → ℕ → List State → List State
-with_columns q given k [] = []
-with_columns q given k ((type, values) ∷ others) = (type, values ++ column_cells q given k type) ∷ with_columns q given (k + 1) others
+abbrev pub with_columns : RowRules → List Row → ℕ → List BufferValue → List BufferValue
+with_columns rules given k [] = []
+with_columns rules given k (buffer ∷ others) = with_cells buffer (column_cells rules given k buffer.dtype) ∷ with_columns rules given (k + 1) others
 
-with_columns-none : (q : Option ℕ) (k : ℕ) (before : List State) → with_columns q [] k before ≡ before
-with_columns-none q k [] = refl
-with_columns-none q k ((type, values) ∷ others) = ap (λ v. (type, v) ∷ with_columns q [] (k + 1) others) (append-nil values) ∙ ap (λ l. (type, values) ∷ l) (with_columns-none q (k + 1) others)
+-- the same buffer with these values
+abbrev values_in : BufferValue → List (Option Scalar) → BufferValue
+values_in buffer values = record { name = buffer.name; dtype = buffer.dtype; quote_char = buffer.quote_char; encoding = buffer.encoding; values = values }
+
+with_columns-none : (rules : RowRules) (k : ℕ) (before : List BufferValue) → with_columns rules [] k before ≡ before
+with_columns-none rules k [] = refl
+with_columns-none rules k (buffer ∷ others) =
+    ap (λ v. values_in buffer v ∷ with_columns rules [] (k + 1) others) (append-nil buffer.values) ∙ ap (λ l. buffer ∷ l) (with_columns-none rules (k + 1) others)
 
 -- a row, and then the others
-with_columns-row : (q : Option ℕ) (row : Row) (others : List Row) (k : ℕ) (before : List State)
-    → with_columns q others k (with_row q (drop k row.fields) before) ≡ with_columns q (row ∷ others) k before
-with_columns-row q row others k [] = refl
-with_columns-row q row others k ((type, values) ∷ rest) =
-    ap (λ f. (type, (values ++ value_of (cell q type f) ∷ []) ++ column_cells q others k type) ∷ with_columns q others (k + 1) (with_row q (drop 1 (drop k row.fields)) rest)) (field_at-drop row.fields k)
-    ∙ ap (λ v. (type, v) ∷ with_columns q others (k + 1) (with_row q (drop 1 (drop k row.fields)) rest)) (append_assoc values (value_of (cell q type (field_at row.fields k)) ∷ []) (column_cells q others k type))
-    ∙ ap (λ fs. (type, values ++ column_cells q (row ∷ others) k type) ∷ with_columns q others (k + 1) (with_row q fs rest)) (drop-drop 1 k row.fields)
-    ∙ ap (λ l. (type, values ++ column_cells q (row ∷ others) k type) ∷ l) (with_columns-row q row others (k + 1) rest)
+with_columns-row : (rules : RowRules) (row : Row) (others : List Row) (k : ℕ) (before : List BufferValue)
+    → with_columns rules others k (with_row rules k (drop k row.fields) before) ≡ with_columns rules (row ∷ others) k before
+with_columns-row rules row others k [] = refl
+with_columns-row rules row others k (buffer ∷ rest) =
+    let fs = row.fields in
+    let cells = column_cells rules others k buffer.dtype in
+    let next : List (List ℕ) → List BufferValue = λ l. with_columns rules others (k + 1) (with_row rules (k + 1) l rest) in
+    ap (λ f. values_in buffer ((buffer.values ++ value_of (cell rules k buffer.dtype f) ∷ []) ++ cells) ∷ next (drop 1 (drop k fs))) (field_at-drop fs k)
+    ∙ ap (λ v. values_in buffer v ∷ next (drop 1 (drop k fs))) (append_assoc buffer.values (value_of (cell rules k buffer.dtype (field_at fs k)) ∷ []) cells)
+    ∙ ap (λ l. with_cells buffer (column_cells rules (row ∷ others) k buffer.dtype) ∷ next l) (drop-drop 1 k fs)
+    ∙ ap (λ l. with_cells buffer (column_cells rules (row ∷ others) k buffer.dtype) ∷ l) (with_columns-row rules row others (k + 1) rest)
 
 -- rows one by one are columns one by one
-pub with_rows-columns : (q : Option ℕ) (given : List Row) (before : List State) → with_rows q given before ≡ with_columns q given 0 before
-with_rows-columns q [] before = sym (with_columns-none q 0 before)
-with_rows-columns q (row ∷ others) before = with_rows-columns q others (with_row q row.fields before) ∙ with_columns-row q row others 0 before
+pub with_rows-columns : (rules : RowRules) (given : List Row) (before : List BufferValue) → with_rows rules given before ≡ with_columns rules given 0 before
+with_rows-columns rules [] before = sym (with_columns-none rules 0 before)
+with_rows-columns rules (row ∷ others) before = with_rows-columns rules others (with_row rules 0 row.fields before) ∙ with_columns-row rules row others 0 before

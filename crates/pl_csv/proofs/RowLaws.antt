@@ -12,10 +12,10 @@ use Rattle.pl_csv.specs.declared.rows.RowRest.TheVariants as rest
 use Rattle.pl_frame.specs.declared.data_type.DataType.{DataType}
 use Rattle.pl_frame.specs.declared.error.FaultKind.{FaultKind}
 use Rattle.pl_cells.specs.Cells.{Cell, value_of, fault_of}
-use Rattle.pl_csv.specs.Cells.{cell}
+use Rattle.pl_cells.specs.Buffers.{BufferValue, with_value}
+use Rattle.pl_csv.specs.Cells.{RowRules, cell}
 use Rattle.pl_frame.specs.Frame.{Scalar}
 use Rattle.pl_csv.specs.Reading.{field_at}
-use Rattle.pl_csv.specs.Buffers.{State}
 use Rattle.pl_csv.specs.Rows.{fields_left, behind_row, IsBehind, state_types, with_row}
 
 -- the first field of a text whose first field has n bytes
@@ -45,81 +45,82 @@ behind_row-next m b n (rest.End others) cut fits is =
     is.1 ∙ ap (λ k. drop k b) (sym (extent_last m b e ∙ length-field m b n cut fits))
 
 -- the first fault of the cells of columns, from number k on
-abbrev pub cells_fault : Option ℕ → ℕ → List (List ℕ) → List DataType → Option (ℕ × FaultKind)
-cells_fault q k fs [] = None
-cells_fault q k fs (type ∷ types) = elim (fault_of (cell q type (field_at fs 0))) [ None ↦ cells_fault q (k + 1) (drop 1 fs) types | Some kind ↦ Some (k, kind) ]
+abbrev pub cells_fault : RowRules → ℕ → List (List ℕ) → List DataType → Option (ℕ × FaultKind)
+cells_fault rules k fs [] = None
+cells_fault rules k fs (type ∷ types) =
+    elim (fault_of (cell rules k type (field_at fs 0))) [ None ↦ cells_fault rules (k + 1) (drop 1 fs) types | Some kind ↦ Some (k, kind) ]
 
 -- what a loop over the columns of a row has done where it comes to column i
-pub record HasReadColumns (m : Marks) (q : Option ℕ) (b : List ℕ) (before now : List State) (left : RowRest) (i : ℕ) : Type 0 where
+pub record HasReadColumns (m : Marks) (rules : RowRules) (b : List ℕ) (before now : List BufferValue) (left : RowRest) (i : ℕ) : Type 0 where
   pub left_is : fields_left m left ≡ drop i (fields m b)
   pub behind_is : behind_row m left ≡ drop (extent m b) b
   pub rest_is : drop i now ≡ drop i before
-  pub filled : take i now ++ with_row q (drop i (fields m b)) (drop i now) ≡ with_row q (fields m b) before
-  pub sound : cells_fault q 0 (fields m b) (state_types before) ≡ cells_fault q i (drop i (fields m b)) (state_types (drop i before))
+  pub filled : take i now ++ with_row rules i (drop i (fields m b)) (drop i now) ≡ with_row rules 0 (fields m b) before
+  pub sound : cells_fault rules 0 (fields m b) (state_types before) ≡ cells_fault rules i (drop i (fields m b)) (state_types (drop i before))
 
 -- a column more was read without a fault
-pub HasReadColumns-more : (m : Marks) (q : Option ℕ) (b : List ℕ) (before now : List State) (left next : RowRest) (i : ℕ) (old : State) (value : Option Scalar)
-    → HasReadColumns m q b before now left i → i < length now → get_or now i old ≡ old
+pub HasReadColumns-more : (m : Marks) (rules : RowRules) (b : List ℕ) (before now : List BufferValue) (left next : RowRest) (i : ℕ) (old : BufferValue) (value : Option Scalar)
+    → HasReadColumns m rules b before now left i → i < length now → get_or now i old ≡ old
     → fields_left m next ≡ drop 1 (fields_left m left) → behind_row m next ≡ behind_row m left
-    → cell q old.0 (field_at (fields_left m left) 0) ≡ Ok value
-    → HasReadColumns m q b before (set now i (old.0, old.1 ++ value ∷ [])) next (i + 1)
-HasReadColumns-more m q b before now left next i old value read inside is left_next behind_next ok =
+    → cell rules i old.dtype (field_at (fields_left m left) 0) ≡ Ok value
+    → HasReadColumns m rules b before (set now i (with_value old value)) next (i + 1)
+HasReadColumns-more m rules b before now left next i old value read inside is left_next behind_next ok =
     let fs = fields m b in
-    let new : State = (old.0, old.1 ++ value ∷ []) in
+    let new = with_value old value in
     let here : drop i now ≡ old ∷ drop (i + 1) now = drop_more now i old inside ∙ ap (λ s. s ∷ drop (i + 1) now) is in
     let there : drop i before ≡ old ∷ drop (i + 1) before =
     sym read.rest_is ∙ here ∙ ap (λ r. old ∷ r) (sym (drop-drop 1 i now) ∙ ap (drop 1) read.rest_is ∙ drop-drop 1 i before) in
-    let fine : cell q old.0 (field_at (drop i fs) 0) ≡ Ok value = sym (ap (λ l. cell q old.0 (field_at l 0)) read.left_is) ∙ ok in
+    let fine : cell rules i old.dtype (field_at (drop i fs) 0) ≡ Ok value = sym (ap (λ l. cell rules i old.dtype (field_at l 0)) read.left_is) ∙ ok in
     let further : drop 1 (drop i fs) ≡ drop (i + 1) fs = drop-drop 1 i fs in
     record {
       left_is = left_next ∙ ap (drop 1) read.left_is ∙ further;
       behind_is = behind_next ∙ read.behind_is;
       rest_is = drop-set-lt (i + 1) now i new (omega arith) ∙ sym (drop-drop 1 i now) ∙ ap (drop 1) read.rest_is ∙ drop-drop 1 i before;
       filled =
-          ap (λ l. l ++ with_row q (drop (i + 1) fs) (drop (i + 1) (set now i new))) (front new)
-          ∙ ap (λ l. (take i now ++ new ∷ []) ++ with_row q (drop (i + 1) fs) l) (drop-set-lt (i + 1) now i new (omega arith))
-          ∙ append_assoc (take i now) (new ∷ []) (with_row q (drop (i + 1) fs) (drop (i + 1) now))
-          ∙ ap (λ l. take i now ++ l) (sym (ap (with_row q (drop i fs)) here
-          ∙ ap (λ v. (old.0, old.1 ++ value_of v ∷ []) ∷ with_row q (drop 1 (drop i fs)) (drop (i + 1) now)) fine
-          ∙ ap (λ l. new ∷ with_row q l (drop (i + 1) now)) further))
+          ap (λ l. l ++ with_row rules (i + 1) (drop (i + 1) fs) (drop (i + 1) (set now i new))) (front new)
+          ∙ ap (λ l. (take i now ++ new ∷ []) ++ with_row rules (i + 1) (drop (i + 1) fs) l) (drop-set-lt (i + 1) now i new (omega arith))
+          ∙ append_assoc (take i now) (new ∷ []) (with_row rules (i + 1) (drop (i + 1) fs) (drop (i + 1) now))
+          ∙ ap (λ l. take i now ++ l) (sym (ap (with_row rules i (drop i fs)) here
+          ∙ ap (λ v. with_value old (value_of v) ∷ with_row rules (i + 1) (drop 1 (drop i fs)) (drop (i + 1) now)) fine
+          ∙ ap (λ l. new ∷ with_row rules (i + 1) l (drop (i + 1) now)) further))
           ∙ read.filled;
       sound =
           read.sound
-          ∙ ap (λ l. cells_fault q i (drop i fs) (state_types l)) there
+          ∙ ap (λ l. cells_fault rules i (drop i fs) (state_types l)) there
           ∙ ap (λ v. passed i (drop 1 (drop i fs)) (state_types (drop (i + 1) before)) v) fine
-          ∙ ap (λ l. cells_fault q (i + 1) l (state_types (drop (i + 1) before))) further;
+          ∙ ap (λ l. cells_fault rules (i + 1) l (state_types (drop (i + 1) before))) further;
     }
   where
     passed : ℕ → List (List ℕ) → List DataType → Cell → Option (ℕ × FaultKind)
-    passed k fs types v = elim (fault_of v) [ None ↦ cells_fault q (k + 1) fs types | Some kind ↦ Some (k, kind) ]
+    passed k fs types v = elim (fault_of v) [ None ↦ cells_fault rules (k + 1) fs types | Some kind ↦ Some (k, kind) ]
 
-    front : (new : State) → take (i + 1) (set now i new) ≡ take i now ++ new ∷ []
+    front : (new : BufferValue) → take (i + 1) (set now i new) ≡ take i now ++ new ∷ []
     front new = rw add-one (take-suc-set now i new inside)
 
 -- a column has the first fault
-pub cells_fault-here : (m : Marks) (q : Option ℕ) (b : List ℕ) (before now : List State) (left : RowRest) (i : ℕ) (old : State) (kind : FaultKind)
-    → HasReadColumns m q b before now left i → i < length now → get_or now i old ≡ old
-    → cell q old.0 (field_at (fields_left m left) 0) ≡ Err kind
-    → cells_fault q 0 (fields m b) (state_types before) ≡ Some (i, kind)
-cells_fault-here m q b before now left i old kind read inside is fault =
+pub cells_fault-here : (m : Marks) (rules : RowRules) (b : List ℕ) (before now : List BufferValue) (left : RowRest) (i : ℕ) (old : BufferValue) (kind : FaultKind)
+    → HasReadColumns m rules b before now left i → i < length now → get_or now i old ≡ old
+    → cell rules i old.dtype (field_at (fields_left m left) 0) ≡ Err kind
+    → cells_fault rules 0 (fields m b) (state_types before) ≡ Some (i, kind)
+cells_fault-here m rules b before now left i old kind read inside is fault =
     let fs = fields m b in
     let there : drop i before ≡ old ∷ drop (i + 1) now = sym read.rest_is ∙ drop_more now i old inside ∙ ap (λ s. s ∷ drop (i + 1) now) is in
-    let wrong : cell q old.0 (field_at (drop i fs) 0) ≡ Err kind = sym (ap (λ l. cell q old.0 (field_at l 0)) read.left_is) ∙ fault in
+    let wrong : cell rules i old.dtype (field_at (drop i fs) 0) ≡ Err kind = sym (ap (λ l. cell rules i old.dtype (field_at l 0)) read.left_is) ∙ fault in
     read.sound
-    ∙ ap (λ l. cells_fault q i (drop i fs) (state_types l)) there
+    ∙ ap (λ l. cells_fault rules i (drop i fs) (state_types l)) there
     ∙ ap (λ v. passed (drop 1 (drop i fs)) (state_types (drop (i + 1) now)) v) wrong
   where
     passed : List (List ℕ) → List DataType → Cell → Option (ℕ × FaultKind)
-    passed fs types v = elim (fault_of v) [ None ↦ cells_fault q (i + 1) fs types | Some kind ↦ Some (i, kind) ]
+    passed fs types v = elim (fault_of v) [ None ↦ cells_fault rules (i + 1) fs types | Some kind ↦ Some (i, kind) ]
 
 -- all columns were read
-pub HasReadColumns-all : (m : Marks) (q : Option ℕ) (b : List ℕ) (before now : List State) (left : RowRest) (i : ℕ)
-    → HasReadColumns m q b before now left i → length now ≤ i → length before ≤ i
-    → (now ≡ with_row q (fields m b) before) × (cells_fault q 0 (fields m b) (state_types before) ≡ None)
-HasReadColumns-all m q b before now left i read all all_before = (
+pub HasReadColumns-all : (m : Marks) (rules : RowRules) (b : List ℕ) (before now : List BufferValue) (left : RowRest) (i : ℕ)
+    → HasReadColumns m rules b before now left i → length now ≤ i → length before ≤ i
+    → (now ≡ with_row rules 0 (fields m b) before) × (cells_fault rules 0 (fields m b) (state_types before) ≡ None)
+HasReadColumns-all m rules b before now left i read all all_before = (
   sym (append-nil now)
       ∙ ap (λ l. l ++ []) (sym (take_all i now all))
-      ∙ ap (λ l. take i now ++ with_row q (drop i (fields m b)) l) (sym (drop_all i now all))
+      ∙ ap (λ l. take i now ++ with_row rules i (drop i (fields m b)) l) (sym (drop_all i now all))
       ∙ read.filled,
-  read.sound ∙ ap (λ l. cells_fault q i (drop i (fields m b)) (state_types l)) (drop_all i before all_before),
+  read.sound ∙ ap (λ l. cells_fault rules i (drop i (fields m b)) (state_types l)) (drop_all i before all_before),
 )

@@ -206,3 +206,17 @@ IsCause s input given = IsRefusal (quote_cause s) s input (Some given)
 abbrev pub IsReadFault : Settings → List ℕ → ReadFault → Type 0
 IsReadFault s input (read_fault.Refused given) = IsCause s input given
 IsReadFault s input read_fault.OutOfMemory = Unit {0}
+
+-- neither the settings nor the first bytes stand against a frame
+pub record MayBeRead (s : Settings) (input : List ℕ) : Type 0 where
+  pub dialect : IsDialect (marks_of s) (comment_of s)
+  pub skips : skips_twice s ≡ false
+  pub quote : HasAsciiQuote s
+  pub plain : is_compressed input ≡ false
+  pub readable : first_unreadable s.schema ≡ None
+
+-- this is the first name that is not there; want of memory says nothing
+abbrev pub IsNameRefusal : Option (List ℕ) → ReadFault → Type 0
+IsNameRefusal first (read_fault.Refused (cause.NotFound name)) = first ≡ Some name
+IsNameRefusal first (read_fault.Refused given) = ⊥
+IsNameRefusal first read_fault.OutOfMemory = Unit {0}

@@ -1,5 +1,5 @@
 -- How far a row was read, and what its cells add to the buffers.
-use Rattle.std.specs.Prelude.{◌≡◌, ◌≢◌, ℕ, ◌+◌, Bool, ◌&&◌, if◌then◌else◌, List, [], ◌∷◌, drop, map, Option, None, Some}
+use Rattle.std.specs.Prelude.{◌≡◌, ◌≢◌, ℕ, ◌+◌, Bool, ◌&&◌, ◌==◌, not, if◌then◌else◌, List, [], ◌∷◌, length, drop, map, Option, None, Some}
 use Rattle.std.specs.Borrow.{Bor}
 use Rattle.std.specs.List.{AllByRecursion}
 use Rattle.std.specs.Option.{option_map}
@@ -13,8 +13,8 @@ use Rattle.pl_cells.specs.declared.cell_fault.CellFault.{CellFault}
 use Rattle.pl_cells.specs.declared.cell_fault.CellFault.TheVariants as cell_fault
 use Rattle.pl_cells.specs.BufferState.{state_of}
 use Rattle.pl_cells.specs.Buffers.{BufferValue, with_value}
-use Rattle.pl_cells.specs.Cells.{value_of}
-use Rattle.pl_cells.specs.NullValues.{is_null_text, HasColumns}
+use Rattle.pl_cells.specs.Cells.{NullTest, value_of}
+use Rattle.pl_cells.specs.NullValues.{HasColumns}
 use Rattle.pl_cells.specs.Quoting.{is_well_quoted, inside}
 use Rattle.pl_cells.specs.declared.null_values.NullValuesCompiled.{NullValuesCompiled}
 use Rattle.pl_cells.specs.declared.utf8.CsvEncoding.{CsvEncoding}
@@ -73,10 +73,14 @@ HaveTexts None columns = Unit {0}
 HaveTexts (Some nulls) columns = HasColumns nulls.now columns
 
 -- a field without its carriage return means null, given whether it begins with the quote: between quotes what they enclose does
-abbrev pub field_means_null : NullValuesCompiled → Option ℕ → ℕ → Bool → List ℕ → Bool
-field_means_null nulls None column is_quoted field = is_null_text nulls column field
-field_means_null nulls (Some q) column is_quoted field =
-    if is_quoted then is_well_quoted q field && is_null_text nulls column (inside field) else is_null_text nulls column field
+abbrev pub field_means_null : NullTest → Option ℕ → Bool → List ℕ → Bool
+field_means_null is_null None is_quoted field = is_null field
+field_means_null is_null (Some q) is_quoted field =
+    if is_quoted then is_well_quoted q field && is_null (inside field) else is_null field
+
+-- a field that means null is missing, while missing ones are not null
+abbrev pub stays_empty : Bool → Bool → List ℕ → Bool
+stays_empty missing_is_null is_quoted field = length field == 0 && (not is_quoted && not missing_is_null)
 
 -- each column, from a number on, with the cell of its field at the end, where a missing field counts as the empty one
 abbrev pub with_row : RowRules → ℕ → List (List ℕ) → List BufferValue → List BufferValue

@@ -1,7 +1,8 @@
 //! From a schema to buffers, and from buffers to columns.
-ghost use Rattle.std.specs.Prelude.{◌≡◌, ◌<◌, ℕ, true, not, length, position, slice_get, slice_index, Some, None, IfOk, OnOk, IsOk};
+ghost use Rattle.std.specs.Prelude.{◌≡◌, ◌<◌, None, length, map, IfOk};
+ghost use Rattle.std.specs.List.{range_with_len};
 ghost use Rattle.pl_frame.specs.Types.{is_readable};
-ghost use Rattle.pl_cells.specs.BufferState.{empty_buffer};
+ghost use Rattle.pl_cells.specs.BufferState.{empty_buffer, entry_at, IsTypeFault};
 ghost use Rattle.pl_csv.specs.Rows.{states};
 ghost use Rattle.pl_csv.specs.Reading.{first_unreadable};
 ghost use Rattle.pl_csv.specs.Frames.{columns_of};
@@ -29,7 +30,7 @@ pub fn find_unreadable(schema: &Schema) -> Option<usize>
 // Whether the type at a place of a schema can be read.
 fn is_readable_at(schema: &Schema, place: usize) -> bool
     requires { place < length schema.now }
-    ensures { IfSome (type_at schema.now place) (λ dtype. result ≡ is_readable dtype) }
+    ensures { result ≡ is_readable (entry_at schema.now place).1 }
 {
     match schema.get_at_index(place) {
         Some((_, dtype)) => dtype.readable(),
@@ -39,7 +40,7 @@ fn is_readable_at(schema: &Schema, place: usize) -> bool
 
 // The numbers below a number, in order. Refuses only want of memory.
 fn all_places(alloc: Global, count: usize) -> Result<Vec<usize>, AllocError>
-    ensures { IfOk result (λ places. places.items ≡ range 0 count) }
+    ensures { IfOk result (λ places. places.items ≡ range_with_len 0 count) }
 {
     let mut places = Vec::new(alloc);
     for place in 0..count {
@@ -61,8 +62,17 @@ pub fn empty_buffers(
     let places = all_places(alloc, schema.len())?;
     match init_buffers(alloc, &places, 0, schema, quote_char, encoding) {
         Ok(buffers) => Ok(buffers),
-        Err(PolarsError::OutOfMemory) => Err(AllocError),
-        Err(_) => unreachable!(),
+        Err(fault) => Err(wanting(fault)),
+    }
+}
+
+// The want of memory that a fault is where all types can be read.
+fn wanting(fault: PolarsError) -> AllocError
+    requires { IsTypeFault None fault }
+{
+    match fault {
+        PolarsError::OutOfMemory => AllocError,
+        _ => unreachable!(),
     }
 }
 

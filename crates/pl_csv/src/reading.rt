@@ -1,13 +1,13 @@
 //! From the bytes of an input to the frame that they mean.
-ghost use Rattle.std.specs.Prelude.{◌≡◌, ◌≢◌, true, false, None, Some, IfOk, OnOk, IfErr, MatchResult, length};
-ghost use Rattle.std.specs.Option.{option_copied};
+ghost use Rattle.std.specs.Prelude.{◌≡◌, None, IfOk, OnOk, IfErr, MatchOption, MatchResult, length};
+ghost use Rattle.std.specs.Option.{option_copied, option_map};
 ghost use Rattle.pl_frame.specs.Schema.{HaveDistinctNames};
-ghost use Rattle.pl_frame.specs.Dialect.{marks, AreDistinct};
+ghost use Rattle.pl_frame.specs.Dialect.{marks, AreDistinct, IsDialect};
 ghost use Rattle.pl_scan.specs.Comment.{prefix_of};
-ghost use Rattle.pl_csv.specs.Cells.{RowRules};
-ghost use Rattle.pl_csv.specs.Rows.{states, stated_rules};
-ghost use Rattle.pl_csv.specs.Frames.{columns_of};
-ghost use Rattle.pl_csv.specs.Reading.{types_of, data_of, rows, first_faulty, frame_of_rows, IsValidRead, IsReadFault};
+ghost use Rattle.pl_cells.specs.NullValues.{compiled_for};
+ghost use Rattle.pl_csv.specs.Settings.{marks_of, comment_of, rules_of};
+ghost use Rattle.pl_csv.specs.Rows.{stated_rules, HaveTexts, IsRecordFault};
+ghost use Rattle.pl_csv.specs.Reading.{types_of, data_of, rows, first_faulty, frame_of_rows, first_unreadable, unknown_null, Tells, MayBeRead, IsNameRefusal, IsCause, IsValidRead, IsReadFault};
 
 use crate::compression::has_compression_mark;
 use crate::frames::{empty_buffers, find_unreadable, into_columns};
@@ -76,34 +76,23 @@ fn data_from_start<'a>(input: &'a [u8], settings: &Settings, columns: usize) -> 
     )
 }
 
-// The null values of the columns, where there are such. Refuses the first name that the schema doesn't have, and want of
-// memory.
-fn null_values_of(alloc: Global, settings: &Settings) -> Result<Option<NullValuesCompiled>, ReadFault>
-    ensures compiled { IfOk result (λ compiled. compiled ≡ option_map (λ values. compiled_for values settings.now.schema) settings.now.null_values) }
-    ensures known { OnOk result (unknown_null settings.now ≡ None) }
-    ensures refused { IfErr result (IsNameRefusal (unknown_null settings.now)) }
+// Whether the marks and the comment prefix are a dialect.
+fn is_dialect(settings: &Settings) -> bool
+    ensures { Tells result (IsDialect (marks_of settings.now) (comment_of settings.now)) }
 {
-    let Some(null_values) = &settings.null_values else {
-        return Ok(None);
-    };
-    let Ok(null_values) = null_values.try_clone() else {
-        return Err(ReadFault::OutOfMemory);
-    };
-    match null_values.compile(alloc, &settings.schema) {
-        Ok(compiled) => Ok(Some(compiled)),
-        Err(PolarsError::ColumnNotFound(name)) => Err(ReadFault::Refused(Cause::NotFound(name))),
-        Err(_) => Err(ReadFault::OutOfMemory),
-    }
-}
-
-// The first cause that stands against the settings and the first bytes alone.
-fn check_input(input: &[u8], settings: &Settings) -> Option<Cause> {
-    if !dialect_ok(
+    dialect_ok(
         settings.separator,
         settings.quote_char,
         settings.eol_char,
         settings.comment_prefix.as_ref(),
-    ) {
+    )
+}
+
+// The first cause that the settings and the first bytes alone give.
+fn check_input(input: &[u8], settings: &Settings) -> Option<Cause>
+    ensures { MatchOption result (MayBeRead settings.now input.now) (IsCause settings.now input.now) }
+{
+    if !is_dialect(settings) {
         return Some(Cause::Dialect);
     }
     if settings.skip_lines > 0 && settings.skip_rows > 0 {
@@ -121,6 +110,29 @@ fn check_input(input: &[u8], settings: &Settings) -> Option<Cause> {
     }
 }
 
+// The null values of the columns, where there are such. Refuses the first name that the schema doesn't have, and want of
+// memory.
+fn null_values_of(
+    alloc: Global,
+    settings: &Settings,
+) -> Result<Option<NullValuesCompiled>, ReadFault>
+    ensures compiled { IfOk result (λ compiled. compiled ≡ option_map (λ values. compiled_for values settings.now.schema) settings.now.null_values) }
+    ensures known { OnOk result (unknown_null settings.now ≡ None) }
+    ensures refused { IfErr result (IsNameRefusal (unknown_null settings.now)) }
+{
+    let Some(null_values) = &settings.null_values else {
+        return Ok(None);
+    };
+    let Ok(null_values) = null_values.try_clone() else {
+        return Err(ReadFault::OutOfMemory);
+    };
+    match null_values.compile(alloc, &settings.schema) {
+        Ok(compiled) => Ok(Some(compiled)),
+        Err(PolarsError::ColumnNotFound(name)) => Err(ReadFault::Refused(Cause::NotFound(name))),
+        Err(_) => Err(ReadFault::OutOfMemory),
+    }
+}
+
 /// The frame that an input means. Refuses, in this order, marks that are no dialect, lines and rows that are both to be
 /// skipped, a quote for the output that is not ASCII, a compressed input, a type that can't be read, a name of null values
 /// that is none of the schema's, fewer items than are to be skipped, and a record with a fault; and want of memory.
@@ -130,31 +142,61 @@ pub fn read_frame(alloc: Global, input: &[u8], settings: &Settings) -> Result<Da
     if let Some(cause) = check_input(input, settings) {
         return Err(ReadFault::Refused(cause));
     }
-    let null_values = match null_values_of(alloc, settings) {
-        Ok(null_values) => null_values,
-        Err(fault) => return Err(fault),
-    };
-    let Some(records) = data_from_start(input, settings, settings.schema.len()) else {
-        return Err(ReadFault::Refused(Cause::Skip));
-    };
-    let cuts = Cuts {
+    match null_values_of(alloc, settings) {
+        Ok(null_values) => read_data(alloc, input, settings, null_values.as_ref()),
+        Err(fault) => Err(fault),
+    }
+}
+
+// The bytes that cut the text.
+fn cuts_of(settings: &Settings) -> Cuts
+    ensures cut { marks result.separator result.quote_char result.eol_char ≡ marks_of settings.now }
+    ensures quote { result.quote_char ≡ settings.now.quote_char }
+{
+    Cuts {
         separator: settings.separator,
         quote_char: settings.quote_char,
         eol_char: settings.eol_char,
-    };
-    let options = RowOptions {
-        null_values: null_values.as_ref(),
+    }
+}
+
+// How the fields are read, with the null values of the columns.
+fn row_options<'a>(
+    settings: &Settings,
+    null_values: Option<&'a NullValuesCompiled>,
+) -> RowOptions<'a>
+    ensures { stated_rules settings.now.quote_char result ≡ record (rules_of settings.now) { nulls = option_copied null_values.entry } }
+{
+    RowOptions {
+        null_values,
         encoding: settings.encoding,
         missing_is_null: settings.missing_is_null,
         ignore_errors: settings.ignore_errors,
         truncate_ragged_lines: settings.truncate_ragged_lines,
+    }
+}
+
+// The frame of an input against which neither the settings nor the first bytes stand, with the null values of its columns.
+fn read_data(
+    alloc: Global,
+    input: &[u8],
+    settings: &Settings,
+    null_values: Option<&NullValuesCompiled>,
+) -> Result<DataFrame, ReadFault>
+    requires allowed { MayBeRead settings.now input.now }
+    requires known { unknown_null settings.now ≡ None }
+    requires compiled { option_copied null_values ≡ option_map (λ values. compiled_for values settings.now.schema) settings.now.null_values }
+    ensures { MatchResult result (IsValidRead settings.now input.now) (IsReadFault settings.now input.now) }
+{
+    let Some(records) = data_from_start(input, settings, settings.schema.len()) else {
+        return Err(ReadFault::Refused(Cause::Skip));
     };
     match read_records(
         alloc,
         records,
         &settings.schema,
-        cuts,
-        options,
+        cuts_of(settings),
+        row_options(settings, null_values),
         settings.comment_prefix.as_ref(),
     ) {
         Ok(frame) => Ok(frame),
@@ -174,9 +216,10 @@ fn read_records(
     options: RowOptions<'_>,
     comment_prefix: Option<&CommentPrefix>,
 ) -> Result<DataFrame, RecordFault>
+    requires distinct { HaveDistinctNames schema.now }
     requires readable { first_unreadable schema.now ≡ None }
     requires apart { AreDistinct (marks cuts.separator cuts.quote_char cuts.eol_char) }
-    requires texts { HaveTexts options.entry.null_values (length schema.now) }
+    requires texts { HaveTexts options.null_values (length schema.now) }
     ensures read { IfOk result (λ frame. frame ≡ frame_of_rows (stated_rules cuts.quote_char options.entry) schema.now (rows (marks cuts.separator cuts.quote_char cuts.eol_char) (prefix_of comment_prefix.entry) records.now)) }
     ensures whole { OnOk result (first_faulty (stated_rules cuts.quote_char options.entry) (types_of schema.now) 0 (rows (marks cuts.separator cuts.quote_char cuts.eol_char) (prefix_of comment_prefix.entry) records.now) ≡ None) }
     ensures fault { IfErr result (λ fault. IsRecordFault fault (first_faulty (stated_rules cuts.quote_char options.entry) (types_of schema.now) 0 (rows (marks cuts.separator cuts.quote_char cuts.eol_char) (prefix_of comment_prefix.entry) records.now))) }

@@ -1,15 +1,16 @@
 //! Rows of fields into buffers, in one pass over the data.
 ghost use Rattle.std.specs.Prelude.{◌≡◌, ◌≢◌, ◌+◌, true, [], Ok, Err, Some, None, suc, length, drop, OnOk, IfOk, IfErr, MatchResult, not, ◌==◌};
 ghost use Rattle.std.specs.List.{prefix_len};
+ghost use Rattle.std.specs.Option.{option_copied};
 ghost use Rattle.pl_frame.specs.Dialect.{marks, AreDistinct};
 ghost use Rattle.pl_scan.specs.Comment.{prefix_of};
 ghost use Rattle.pl_scan.specs.Fields.{begins_quoted, fields, extent};
 ghost use Rattle.pl_cells.specs.BufferState.{state_of};
 ghost use Rattle.pl_cells.specs.Buffers.{Answers, with_value, missing_value};
-ghost use Rattle.pl_cells.specs.NullValues.{HasColumns};
+ghost use Rattle.pl_cells.specs.NullValues.{HasColumns, is_null_text};
 ghost use Rattle.pl_csv.specs.Cells.{means_null, cell};
 ghost use Rattle.pl_csv.specs.Reading.{field_at, first_fault, first_faulty, row_at, rows};
-ghost use Rattle.pl_csv.specs.Rows.{fields_left, behind_row, states, state_types, stated_rules, FollowsRules, FollowRules, HaveTexts, field_means_null, record_fault_of, with_row, with_rows, IsRowFault, IsRecordFault, IsBehind, IsDone, HasMore, row_fault_of};
+ghost use Rattle.pl_csv.specs.Rows.{fields_left, behind_row, states, state_types, stated_rules, FollowsRules, FollowRules, HaveTexts, field_means_null, stays_empty, record_fault_of, with_row, with_rows, IsRowFault, IsRecordFault, IsBehind, IsDone, HasMore, row_fault_of};
 
 use memchr::memchr;
 use pl_cells::buffer::Buffer;
@@ -160,7 +161,7 @@ fn is_null_field(
     is_quoted: bool,
 ) -> bool
     requires { HasColumns null_values.now (suc column) }
-    ensures { result ≡ field_means_null null_values.now quote_char column is_quoted field.now }
+    ensures { result ≡ field_means_null (is_null_text null_values.now column) quote_char is_quoted field.now }
 {
     match quote_char {
         Some(quote) if is_quoted => match between_quotes(field, quote) {
@@ -169,6 +170,32 @@ fn is_null_field(
         },
         _ => null_values.is_null(field, column),
     }
+}
+
+// The same, where there may be no texts that mean null.
+#[inline]
+fn is_null(
+    null_values: Option<&NullValuesCompiled>,
+    column: usize,
+    field: &[u8],
+    quote_char: Option<u8>,
+    is_quoted: bool,
+) -> bool
+    requires { HaveTexts null_values (suc column) }
+    ensures { result ≡ field_means_null (means_null (option_copied null_values.entry) column) quote_char is_quoted field.now }
+{
+    match null_values {
+        Some(null_values) => is_null_field(null_values, column, field, quote_char, is_quoted),
+        None => false,
+    }
+}
+
+// Whether a text that means null is missing, while missing ones are not null.
+#[inline]
+fn stays_empty(text: &[u8], is_quoted: bool, missing_is_null: bool) -> bool
+    ensures { result ≡ stays_empty missing_is_null is_quoted text.now }
+{
+    text.is_empty() && !is_quoted && !missing_is_null
 }
 
 // Puts a null at the end, or the empty text. Refuses only want of memory, and is then as it was.
@@ -192,19 +219,22 @@ fn add_field(
     quote_char: Option<u8>,
     options: RowOptions<'_>,
 ) -> Result<(), CellFault>
-    requires rules { FollowsRules (stated_rules quote_char options.entry) (state_of buffer.old) }
-    requires texts { HaveTexts options.entry.null_values (suc column) }
+    requires rules { FollowsRules (stated_rules quote_char options) (state_of buffer.old) }
+    requires texts { HaveTexts options.null_values (suc column) }
     ensures { Answers (state_of buffer.old) (state_of buffer.new) (cell (stated_rules quote_char options.entry) column (state_of buffer.old).dtype field.now) result }
 {
     let is_quoted = is_quoted(field, quote_char);
     let text = without_return(field);
-    match options.null_values {
-        Some(null_values) if is_null_field(null_values, column, text, quote_char, is_quoted) => {
-            let is_missing = text.is_empty() && !is_quoted;
-            add_null(buffer, is_missing && !options.missing_is_null)
-        }
-        _ => buffer.add(text, options.ignore_errors, is_quoted, options.missing_is_null),
+    if is_null(options.null_values, column, text, quote_char, is_quoted) {
+        let valid = stays_empty(text, is_quoted, options.missing_is_null);
+        return add_null(buffer, valid);
     }
+    buffer.add(
+        text,
+        options.ignore_errors,
+        is_quoted,
+        options.missing_is_null,
+    )
 }
 
 /// Reads the row at the front of `bytes` into the buffers, a cell each, and gives what stands behind it.
@@ -217,8 +247,8 @@ pub fn add_row<'a>(
     cuts: Cuts,
     options: RowOptions<'_>,
 ) -> Result<&'a [u8], RowFault>
-    requires rules { FollowRules (stated_rules cuts.quote_char options.entry) (states buffers.old) }
-    requires texts { HaveTexts options.entry.null_values (length buffers.old) }
+    requires rules { FollowRules (stated_rules cuts.quote_char options) (states buffers.old) }
+    requires texts { HaveTexts options.null_values (length buffers.old) }
     ensures whole { OnOk result (first_fault (stated_rules cuts.quote_char options.entry) (state_types (states buffers.old)) (row_at (marks cuts.separator cuts.quote_char cuts.eol_char) bytes.now) ≡ None) }
     ensures added { OnOk result (states buffers.new ≡ with_row (stated_rules cuts.quote_char options.entry) 0 (fields (marks cuts.separator cuts.quote_char cuts.eol_char) bytes.now) (states buffers.old)) }
     ensures behind { IfOk result (λ behind. behind.now ≡ drop (extent (marks cuts.separator cuts.quote_char cuts.eol_char) bytes.now) bytes.now) }
@@ -281,8 +311,8 @@ pub fn add_rows(
     comment_prefix: Option<&CommentPrefix>,
 ) -> Result<(), RecordFault>
     requires apart { AreDistinct (marks cuts.separator cuts.quote_char cuts.eol_char) }
-    requires rules { FollowRules (stated_rules cuts.quote_char options.entry) (states buffers.old) }
-    requires texts { HaveTexts options.entry.null_values (length buffers.old) }
+    requires rules { FollowRules (stated_rules cuts.quote_char options) (states buffers.old) }
+    requires texts { HaveTexts options.null_values (length buffers.old) }
     ensures whole { OnOk result (first_faulty (stated_rules cuts.quote_char options.entry) (state_types (states buffers.old)) 0 (rows (marks cuts.separator cuts.quote_char cuts.eol_char) (prefix_of comment_prefix.entry) records.now) ≡ None) }
     ensures added { OnOk result (states buffers.new ≡ with_rows (stated_rules cuts.quote_char options.entry) (rows (marks cuts.separator cuts.quote_char cuts.eol_char) (prefix_of comment_prefix.entry) records.now) (states buffers.old)) }
     ensures fault { IfErr result (λ fault. IsRecordFault fault (first_faulty (stated_rules cuts.quote_char options.entry) (state_types (states buffers.old)) 0 (rows (marks cuts.separator cuts.quote_char cuts.eol_char) (prefix_of comment_prefix.entry) records.now))) }

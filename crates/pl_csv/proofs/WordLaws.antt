@@ -21,8 +21,9 @@ use Rattle.std.proofs.lemmas.Bool.Decides.{nat_tests}
 use Rattle.std.specs.Char.{is_ascii_digit}
 use Rattle.pl_cells.specs.Integers.{number_after, number_of, number_below}
 use Rattle.pl_cells.proofs.IntegerLaws.{digit_small}
-use Rattle.pl_csv.specs.SchemaText.{entry_of, all_of, are_distinct, schema_of, is_comma, is_slash, at_slash}
-use Rattle.pl_csv.specs.Words.{is_equals_sign, at_equals_sign, Part, parts_of, count_of, once, with_value, with_output, with_part, with_parts, settings_of_given}
+use Rattle.pl_csv.specs.SchemaText.{entry_of, all_of, are_distinct, schema_of, small_number}
+use Rattle.pl_csv.specs.Splitting.{parts_at}
+use Rattle.pl_csv.specs.Words.{ Part, parts_of, count_of, once, with_value, with_output, with_part, with_parts, settings_of_given}
 use Rattle.pl_csv.specs.declared.settings.Settings.{Settings}
 use Rattle.pl_csv.specs.declared.options.Given.{Given}
 use Rattle.pl_csv.specs.declared.output.GivenOutput.{GivenOutput}
@@ -119,65 +120,6 @@ with_type-new entries n m type same is = ap (λ x. with_type entries x type) sam
     by (Some i) e =
         let there : true ≡ false = sym (ap is_some e) ∙ has_name-is m entries ∙ is in cc
 
--- ---- the cut at a comma
-
-uncut : {X : Type 0} (p : X → Bool) (xs : List X) → position_or_len p xs ≡ length xs → slice_split p xs ≡ xs ∷ []
-uncut p [] e = refl
-uncut p (x ∷ xs) e = by (p x) refl (uncut p xs)
-  where
-    by : (t : Bool) → p x ≡ t → (position_or_len p xs ≡ length xs → slice_split p xs ≡ xs ∷ []) → slice_split p (x ∷ xs) ≡ (x ∷ xs) ∷ []
-    by true is deeper =
-        let at : 0 ≡ suc (length xs) = sym (ap (λ t. cond (not t) (1 + position_or_len p xs) 0) is) ∙ e in absurd (omega arith)
-    by false is deeper =
-        let at : 1 + position_or_len p xs ≡ suc (length xs) = sym (ap (λ t. cond (not t) (1 + position_or_len p xs) 0) is) ∙ e in
-        slice_split-cons_no p x xs is ∙ ap (onto_first x) (deeper (omega arith))
-
-pub cut_at_comma : (text : List ℕ) (r : Option (Bor (List ℕ) × Bor (List ℕ))) → IsSplitOnceResult 44 text r
-    → MatchOption r (slice_split is_comma text ≡ text ∷ []) (λ cut. slice_split is_comma text ≡ cut.0.now ∷ slice_split is_comma cut.1.now)
-cut_at_comma text r is = by r (split_once_first 44 text r is (lit< tt))
-  where
-    by : (r : Option (Bor (List ℕ) × Bor (List ℕ)))
-        → MatchOption r (position_or_len is_comma text ≡ length text) (λ x. (position_or_len is_comma text < length text) × (x.0.now ≡ before_first is_comma text) × (x.1.now ≡ after_first is_comma text))
-        → MatchOption r (slice_split is_comma text ≡ text ∷ []) (λ cut. slice_split is_comma text ≡ cut.0.now ∷ slice_split is_comma cut.1.now)
-    by None h = uncut is_comma text h
-    by (Some x) h = slice_split_first is_comma text 0 h.0 ∙ sym (λ j. h.1 j ∷ slice_split is_comma (h.2 j))
-
--- ---- the cut at an equals sign
-
-none_is : {X : Type 0} (p : X → Bool) (xs : List X) → position_or_len p xs ≡ length xs → list_any p xs ≡ false
-none_is p [] e = refl
-none_is p (x ∷ xs) e = by (p x) refl (none_is p xs)
-  where
-    by : (t : Bool) → p x ≡ t → (position_or_len p xs ≡ length xs → list_any p xs ≡ false) → list_any p (x ∷ xs) ≡ false
-    by true is deeper =
-        let at : 0 ≡ suc (length xs) = sym (ap (λ t. cond (not t) (1 + position_or_len p xs) 0) is) ∙ e in absurd (omega arith)
-    by false is deeper =
-        let at : 1 + position_or_len p xs ≡ suc (length xs) = sym (ap (λ t. cond (not t) (1 + position_or_len p xs) 0) is) ∙ e in
-        ap (λ t. t || list_any p xs) is ∙ deeper (omega arith)
-
-some_is : {X : Type 0} (p : X → Bool) (xs : List X) → position_or_len p xs < length xs → list_any p xs ≡ true
-some_is p [] l = absurd (omega arith)
-some_is p (x ∷ xs) l = by (p x) refl (some_is p xs)
-  where
-    by : (t : Bool) → p x ≡ t → (position_or_len p xs < length xs → list_any p xs ≡ true) → list_any p (x ∷ xs) ≡ true
-    by true is deeper = ap (λ t. t || list_any p xs) is
-    by false is deeper =
-        let at : position_or_len p (x ∷ xs) ≡ 1 + position_or_len p xs = ap (λ t. cond (not t) (1 + position_or_len p xs) 0) is in
-        ap (λ t. t || list_any p xs) is ∙ deeper (omega (arith, at, l))
-
-pub cut_at_equals_sign : (word : List ℕ) (r : Option (Bor (List ℕ) × Bor (List ℕ))) → IsSplitOnceResult 61 word r
-    → option_map (λ (cut : Bor (List ℕ) × Bor (List ℕ)). (cut.0.now, cut.1.now)) r ≡ at_equals_sign word
-cut_at_equals_sign word r is = by r (split_once_first 61 word r is (lit< tt))
-  where
-    answer : Bool → Option (List ℕ × List ℕ)
-    answer t = if t then Some (before_first is_equals_sign word, after_first is_equals_sign word) else None
-
-    by : (r : Option (Bor (List ℕ) × Bor (List ℕ)))
-        → MatchOption r (position_or_len is_equals_sign word ≡ length word) (λ x. (position_or_len is_equals_sign word < length word) × (x.0.now ≡ before_first is_equals_sign word) × (x.1.now ≡ after_first is_equals_sign word))
-        → option_map (λ (cut : Bor (List ℕ) × Bor (List ℕ)). (cut.0.now, cut.1.now)) r ≡ at_equals_sign word
-    by None h = sym (ap answer (none_is is_equals_sign word h))
-    by (Some x) h = (λ j. Some (h.1 j, h.2 j)) ∙ sym (ap answer (some_is is_equals_sign word h.0))
-
 -- ---- the whole
 
 -- entries behind those that stand already, where no name stands twice
@@ -215,8 +157,8 @@ with_entries-is done (Some e ∷ es) d = by (list_any (bytes_eq e.0) (names_in d
         ∙ deeper (ap are_distinct (names_in-append done (e ∷ [])) ∙ distinct-push (names_in done) e.0 d is)
         ∙ goes (all_of es)
 
-pub schema_of-entries : (text : List ℕ) → schema_of text ≡ with_entries [] (map entry_of (slice_split is_comma text))
-schema_of-entries text = sym (with_entries-is [] (map entry_of (slice_split is_comma text)) refl)
+pub schema_of-entries : (text : List ℕ) → schema_of text ≡ with_entries [] (map entry_of (parts_at 44 text))
+schema_of-entries text = sym (with_entries-is [] (map entry_of (parts_at 44 text)) refl)
 
 -- one entry, and then the others
 pub with_entries-more : (done now : SchemaValue) (e : Option Named) (es : List (Option Named)) → with_entry done e ≡ Some now → with_entries done (e ∷ es) ≡ with_entries now es
@@ -256,6 +198,30 @@ count_of-is (x ∷ xs) few = by (all_ascii_digits (x ∷ xs)) refl
         rw (digits) (grind (arith, nat_tests, fits, few))
     by false digits = rw (digits) refl
 
+-- a number of at most two digits
+pub small_number-is : (text : List ℕ) → length text ≤ 2 → number_below (2 ^ 64) text ≡ small_number text
+small_number-is [] few = refl
+small_number-is (x ∷ xs) few = by (all_ascii_digits (x ∷ xs)) refl
+  where
+    by : (t : Bool) → all_ascii_digits (x ∷ xs) ≡ t → number_below (2 ^ 64) (x ∷ xs) ≡ small_number (x ∷ xs)
+    by true digits =
+        let small : number_of (x ∷ xs) < 10 ^ 2 = omega (arith, number_after-small 0 (x ∷ xs) digits, pow-le-pow_right {n = 10} (lit< tt) {i = length (x ∷ xs)} {j = 2} few) in
+        let fits : number_of (x ∷ xs) < 2 ^ 64 = omega (arith, small) in
+        rw (digits) (grind (arith, nat_tests, fits, few))
+    by false digits = rw (digits) refl
+
+some_if : (b : Bool) (v n : ℕ) → (if b then Some v else None) ≡ Some n → (b ≡ true) × (v ≡ n)
+some_if true v n e = (refl, cc)
+some_if false v n e = (cc, cc)
+
+pub small_number-fits : (text : List ℕ) (n : ℕ) → length text ≤ 2 → number_below (2 ^ 64) text ≡ Some n → n < 2 ^ 32
+small_number-fits [] n few is = cc
+small_number-fits (x ∷ xs) n few is =
+    let found = some_if _ (number_of (x ∷ xs)) n is in
+    let digits = and_true (all_ascii_digits (x ∷ xs)) _ found.0 in
+    let small : number_of (x ∷ xs) < 10 ^ 2 = omega (arith, number_after-small 0 (x ∷ xs) digits.0, pow-le-pow_right {n = 10} (lit< tt) {i = length (x ∷ xs)} {j = 2} few) in
+    omega (arith, small, found.1)
+
 -- ---- flags and options
 
 differs : (a b : List ℕ) → a ≢ b → bytes_eq a b ≡ false
@@ -279,10 +245,11 @@ with_value-comment given name (x ∷ xs) prefix some is e =
 pub with_value-other : (given : Given) (name value : List ℕ) → 0 < length value
     → name ≢ codes "--schema" → name ≢ codes "--sep" → name ≢ codes "--quote" → name ≢ codes "--eol"
     → name ≢ codes "--comment" → name ≢ codes "--skip-lines" → name ≢ codes "--skip-rows" → name ≢ codes "--skip-after"
+    → name ≢ codes "--null" → name ≢ codes "--nulls" → name ≢ codes "--null-of"
     → with_value given name value ≡ option_map (λ (o : GivenOutput). record given { output = o }) (with_output given.output name value)
-with_value-other given name [] some a b c d e f g h = absurd (omega (arith, some))
-with_value-other given name (x ∷ xs) some a b c d e f g h =
-    rw (differs name _ a, differs name _ b, differs name _ c, differs name _ d, differs name _ e, differs name _ f, differs name _ g, differs name _ h) refl
+with_value-other given name [] some a b c d e f g h i j k = absurd (omega (arith, some))
+with_value-other given name (x ∷ xs) some a b c d e f g h i j k =
+    rw (differs name _ a, differs name _ b, differs name _ c, differs name _ d, differs name _ e, differs name _ f, differs name _ g, differs name _ h, differs name _ i, differs name _ j, differs name _ k) refl
 
 pub with_value-output : (given : Given) (name value : List ℕ) (output : GivenOutput) → with_value given name value ≡ option_map (λ (o : GivenOutput). record given { output = o }) (with_output given.output name value)
     → with_output given.output name value ≡ Some output → with_value given name value ≡ Some (record given { output = output })

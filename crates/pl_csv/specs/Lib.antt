@@ -4,6 +4,7 @@ pub mod Reading
 pub mod Rows
 pub mod SchemaText
 pub mod Settings
+pub mod Splitting
 pub mod Frames
 pub mod Words
 pub mod Run

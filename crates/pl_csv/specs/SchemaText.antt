@@ -1,6 +1,6 @@
 -- The text of a schema (docs/command-line.md, "Schema text").
-use Rattle.std.specs.Prelude.{ℕ, Bool, true, false, not, ◌&&◌, ◌==◌, nat_le, if◌then◌else◌, List, [], ◌∷◌, map, length, codes, Option, None, Some}
-use Rattle.std.specs.List.{list_any, slice_split, before_first, after_first}
+use Rattle.std.specs.Prelude.{ℕ, Bool, true, false, not, ◌&&◌, nat_le, if◌then◌else◌, List, [], ◌∷◌, map, length, codes, Option, None, Some}
+use Rattle.std.specs.List.{list_any}
 use Rattle.std.specs.Option.{option_map, option_and_then}
 use Rattle.std.specs.Str.{bytes_eq}
 use Rattle.pl_frame.specs.declared.data_type.DataType.{DataType}
@@ -10,15 +10,7 @@ use Rattle.pl_frame.specs.declared.data_type.TimeUnit.TheVariants as unit
 use Rattle.pl_frame.specs.Schema.{names_in}
 use Rattle.pl_cells.specs.Integers.{is_digits, number_of}
 use Rattle.pl_csv.specs.Settings.{SchemaValue}
-
-abbrev pub is_colon : ℕ → Bool
-is_colon x = x == 58
-
-abbrev pub is_comma : ℕ → Bool
-is_comma x = x == 44
-
-abbrev pub is_slash : ℕ → Bool
-is_slash x = x == 47
+use Rattle.pl_csv.specs.Splitting.{cut_at, parts_at}
 
 -- ---- types
 
@@ -60,10 +52,6 @@ small_number text = if is_digits text && nat_le (length text) 2 then Some (numbe
 abbrev pub precision_of : List ℕ → Option (Option ℕ)
 precision_of text = if bytes_eq text (codes "-") then Some None else option_map (λ n. Some n) (small_number text)
 
--- what stands before and behind the first slash
-abbrev pub at_slash : List ℕ → Option (List ℕ × List ℕ)
-at_slash text = if list_any is_slash text then Some (before_first is_slash text, after_first is_slash text) else None
-
 -- a decimal of a precision and a scale
 abbrev pub decimal_of : List ℕ → List ℕ → Option DataType
 decimal_of precision scale = option_and_then (λ p. option_map (λ s. dtype.Decimal p (Some s)) (small_number scale)) (precision_of precision)
@@ -72,20 +60,20 @@ decimal_of precision scale = option_and_then (λ p. option_map (λ s. dtype.Deci
 -- have a unit, `decimal/P/S` and `decimal/-/S` a precision and a scale
 abbrev pub type_with : List ℕ → List ℕ → Option DataType
 type_with name parts =
-    if bytes_eq name (codes "enum") then Some (dtype.Enum (Some (slice_split is_slash parts)))
+    if bytes_eq name (codes "enum") then Some (dtype.Enum (Some (parts_at 47 parts)))
     else if bytes_eq name (codes "datetime") then option_map (λ unit. dtype.Datetime unit) (unit_named parts)
-    else if bytes_eq name (codes "decimal") then option_and_then (λ cut. decimal_of cut.0 cut.1) (at_slash parts)
+    else if bytes_eq name (codes "decimal") then option_and_then (λ cut. decimal_of cut.0 cut.1) (cut_at 47 parts)
     else None
 
 -- the type that a text names
 abbrev pub named_type : List ℕ → Option DataType
-named_type text = elim (at_slash text) [ None ↦ plain_type text | Some cut ↦ type_with cut.0 cut.1 ]
+named_type text = elim (cut_at 47 text) [ None ↦ plain_type text | Some cut ↦ type_with cut.0 cut.1 ]
 
 -- ---- entries
 
 -- NAME:TYPE, cut at the first colon; the name may be empty
 abbrev pub entry_of : List ℕ → Option (List ℕ × DataType)
-entry_of part = option_map (λ type. (before_first is_colon part, type)) (named_type (after_first is_colon part))
+entry_of part = option_and_then (λ cut. option_map (λ type. (cut.0, type)) (named_type cut.1)) (cut_at 58 part)
 
 -- all of the values, where none is missing
 abbrev pub all_of : {X : Type 0} → List (Option X) → Option (List X)
@@ -102,4 +90,4 @@ are_distinct (name ∷ names) = not (list_any (bytes_eq name) names) && are_dist
 abbrev pub schema_of : List ℕ → Option SchemaValue
 schema_of text =
     option_and_then (λ entries. if are_distinct (names_in entries) then Some entries else None)
-    (all_of (map entry_of (slice_split is_comma text)))
+    (all_of (map entry_of (parts_at 44 text)))

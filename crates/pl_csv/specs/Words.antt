@@ -1,6 +1,6 @@
 -- The words of the command line and the text of a schema (docs/command-line.md).
 use Rattle.std.specs.Prelude.{ℕ, ◌+◌, ◌-◌, ◌*◌, Bool, true, false, not, ◌&&◌, ◌==◌, ◌≡◌, nat_lt, nat_le, if◌then◌else◌, List, [], ◌∷◌, map, length, codes, Option, None, Some, MatchOption}
-use Rattle.std.specs.List.{list_all, list_any, slice_split, before_first, after_first}
+use Rattle.std.specs.List.{list_any}
 use Rattle.std.specs.Option.{option_map, option_and_then, unwrap_or}
 use Rattle.std.specs.Str.{bytes_eq}
 use Rattle.pl_frame.specs.declared.data_type.DataType.{DataType}
@@ -16,7 +16,8 @@ use Rattle.pl_cells.specs.declared.null_values.NullValues.{NullValues}
 use Rattle.pl_cells.specs.declared.null_values.NullValues.TheVariants as values
 use Rattle.pl_cells.specs.declared.utf8.CsvEncoding.{CsvEncoding}
 use Rattle.pl_cells.specs.declared.utf8.CsvEncoding.TheVariants as encoding
-use Rattle.pl_csv.specs.SchemaText.{is_comma, all_of, schema_of}
+use Rattle.pl_csv.specs.SchemaText.{all_of, schema_of}
+use Rattle.pl_csv.specs.Splitting.{cut_at, parts_at}
 use Rattle.pl_csv.specs.Settings.{SchemaValue, default_settings}
 use Rattle.pl_write.specs.Options.{default_cells, default_options}
 use Rattle.pl_write.specs.declared.options.CsvWriterOptions.{CsvWriterOptions}
@@ -74,17 +75,9 @@ style_named text =
     else if bytes_eq text (codes "never") then Some style.Never
     else None
 
-abbrev pub is_equals_sign : ℕ → Bool
-is_equals_sign x = x == 61
-
--- the name and the value of `name=value`, cut at the first equals sign
-abbrev pub at_equals_sign : List ℕ → Option (List ℕ × List ℕ)
-at_equals_sign word =
-    if list_any is_equals_sign word then Some (before_first is_equals_sign word, after_first is_equals_sign word) else None
-
 -- between commas stands NAME=TEXT each; both may be empty
 abbrev pub named_texts : List ℕ → Option NamedTexts
-named_texts text = all_of (map at_equals_sign (slice_split is_comma text))
+named_texts text = all_of (map (cut_at 61) (parts_at 44 text))
 
 -- ---- flags and options
 
@@ -107,7 +100,7 @@ flags =
 abbrev pub whole_part : List ℕ → Option Part
 whole_part word =
     if list_any (bytes_eq word) flags then Some (word, None)
-    else option_map (λ cut. (cut.0, Some cut.1)) (at_equals_sign word)
+    else option_map (λ cut. (cut.0, Some cut.1)) (cut_at 61 word)
 
 -- the flags and options of words: what a word is alone, or else an option's name with the next word as its value
 abbrev pub parts_of : List (List ℕ) → Option (List Part)
@@ -153,7 +146,7 @@ with_value given name (x ∷ xs) = let value : List ℕ = x ∷ xs in
     else if bytes_eq name (codes "--skip-rows") then option_map (λ o. record given { skip_rows = o }) (once given.skip_rows (count_of value))
     else if bytes_eq name (codes "--skip-after") then option_map (λ o. record given { skip_rows_after_header = o }) (once given.skip_rows_after_header (count_of value))
     else if bytes_eq name (codes "--null") then option_map (λ o. record given { null_values = o }) (once given.null_values (Some (values.AllColumnsSingle value)))
-    else if bytes_eq name (codes "--nulls") then option_map (λ o. record given { null_values = o }) (once given.null_values (Some (values.AllColumns (slice_split is_comma value))))
+    else if bytes_eq name (codes "--nulls") then option_map (λ o. record given { null_values = o }) (once given.null_values (Some (values.AllColumns (parts_at 44 value))))
     else if bytes_eq name (codes "--null-of") then option_map (λ o. record given { null_values = o }) (once given.null_values (option_map (λ texts. values.Named texts) (named_texts value)))
     else option_map (λ o. record given { output = o }) (with_output given.output name value)
 

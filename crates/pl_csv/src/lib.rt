@@ -14,5 +14,6 @@ mod rows;
 pub mod run;
 mod schema_text;
 mod settings;
+mod splitting;
 mod telling;
 mod words;

@@ -1,13 +1,12 @@
 //! The texts that mean null, as words give them.
-ghost use Rattle.std.specs.Prelude.{◌≡◌, ◌++◌, ◌∷◌, ◌≢◌, [], map, None, Some, Err, IfOk, OnOk, IsErrOf};
-ghost use Rattle.std.specs.List.{slice_split};
-ghost use Rattle.std.specs.Option.{option_map, option_and_then};
+ghost use Rattle.std.specs.Prelude.{◌≡◌, ◌++◌, ◌∷◌, [], None, Some, IfOk, OnOk, IsErrOf};
+ghost use Rattle.std.specs.Option.{option_map};
 ghost use Rattle.pl_cells.specs.declared.null_values.NullValues.TheVariants as values;
-ghost use Rattle.pl_csv.specs.SchemaText.{is_comma, all_of};
-ghost use Rattle.pl_csv.specs.Words.{at_equals_sign, named_texts, once};
+ghost use Rattle.pl_csv.specs.Splitting.{cut_at, parts_at};
+ghost use Rattle.pl_csv.specs.Words.{named_texts, once};
 
-use crate::schema_text::{cut_comma, push_text};
-use crate::words::{WordsFault, cut_equals_sign};
+use crate::splitting::{cut_at, split_texts};
+use crate::words::WordsFault;
 use pl_cells::null_values::{NamedTexts, NullTexts, NullValues};
 use pl_frame::name::PlSmallStr;
 use std::alloc::Global;
@@ -42,21 +41,6 @@ pub fn give_null_text(
     }
 }
 
-// The texts between the commas. Refuses only want of memory.
-fn read_texts(alloc: Global, text: &str) -> Result<NullTexts, WordsFault>
-    ensures texts { IfOk result (λ texts. texts ≡ slice_split is_comma text.now) }
-    ensures refused { result ≢ Err WordsFault.Words }
-{
-    let mut texts = Vec::new(alloc);
-    let mut rest = text;
-    while let Some((part, behind)) = cut_comma(rest) {
-        push_text(alloc, &mut texts, part)?;
-        rest = behind;
-    }
-    push_text(alloc, &mut texts, rest)?;
-    Ok(NullTexts::new(texts))
-}
-
 /// Keeps texts between commas, each of which means null in every column. Refuses them where null values were given before,
 /// and want of memory.
 pub fn give_null_list(
@@ -64,11 +48,11 @@ pub fn give_null_list(
     given: &mut Option<NullValues>,
     text: &str,
 ) -> Result<(), WordsFault>
-    ensures given { OnOk result (once given.old (Some (values.AllColumns (slice_split is_comma text.now))) ≡ Some given.new) }
-    ensures refused { IsErrOf result WordsFault.Words → once given.old (Some (values.AllColumns (slice_split is_comma text.now))) ≡ None }
+    ensures given { OnOk result (once given.old (Some (values.AllColumns (parts_at 44 text.now))) ≡ Some given.new) }
+    ensures refused { IsErrOf result WordsFault.Words → once given.old (Some (values.AllColumns (parts_at 44 text.now))) ≡ None }
 {
-    let texts = read_texts(alloc, text)?;
-    give_null_values(given, NullValues::AllColumns(texts))
+    let texts = split_texts(alloc, text, b',')?;
+    give_null_values(given, NullValues::AllColumns(NullTexts::new(texts)))
 }
 
 // Puts a name with its text at the end. Refuses a part without an equals sign, and want of memory.
@@ -77,10 +61,10 @@ fn push_entry(
     entries: &mut Vec<(PlSmallStr, PlSmallStr)>,
     part: &str,
 ) -> Result<(), WordsFault>
-    ensures pushed { OnOk result (option_map (λ entry. entries.old.items ++ entry ∷ []) (at_equals_sign part.now) ≡ Some entries.new.items) }
-    ensures refused { IsErrOf result WordsFault.Words → at_equals_sign part.now ≡ None }
+    ensures pushed { OnOk result (option_map (λ entry. entries.old.items ++ entry ∷ []) (cut_at 61 part.now) ≡ Some entries.new.items) }
+    ensures refused { IsErrOf result WordsFault.Words → cut_at 61 part.now ≡ None }
 {
-    let Some((name, text)) = cut_equals_sign(part) else {
+    let Some((name, text)) = cut_at(part, b'=') else {
         return Err(WordsFault::Words);
     };
     let Ok(name) = PlSmallStr::from_str(alloc, name) else {
@@ -102,7 +86,7 @@ fn read_named_texts(alloc: Global, text: &str) -> Result<NamedTexts, WordsFault>
 {
     let mut entries = Vec::new(alloc);
     let mut rest = text;
-    while let Some((part, behind)) = cut_comma(rest) {
+    while let Some((part, behind)) = cut_at(rest, b',') {
         push_entry(alloc, &mut entries, part)?;
         rest = behind;
     }

@@ -5,8 +5,10 @@ ghost use Rattle.std.specs.Option.{option_map, option_and_then};
 ghost use Rattle.std.specs.Str.{bytes_eq};
 ghost use Rattle.pl_frame.specs.Schema.{names_in};
 ghost use Rattle.pl_frame.specs.declared.data_type.DataType.TheVariants as dtype;
-ghost use Rattle.pl_csv.specs.SchemaText.{is_comma, is_slash, plain_type, unit_named, small_number, precision_of, at_slash, decimal_of, type_with, named_type, entry_of, schema_of};
+ghost use Rattle.pl_csv.specs.Splitting.{cut_at};
+ghost use Rattle.pl_csv.specs.SchemaText.{plain_type, unit_named, small_number, precision_of, decimal_of, type_with, named_type, entry_of, schema_of};
 
+use crate::splitting::{cut_at, split_texts};
 use crate::words::WordsFault;
 use pl_cells::integers::number_of;
 use pl_frame::data_type::{Categories, DataType, TimeUnit};
@@ -78,56 +80,14 @@ fn precision_of(text: &str) -> Option<Option<u32>>
     }
 }
 
-// What stands before and behind the first slash.
-fn cut_slash(text: &str) -> Option<(&str, &str)>
-    ensures cut { option_map (λ cut. (cut.0.now, cut.1.now)) result ≡ at_slash text.now }
-    ensures split { MatchOption result (slice_split is_slash text.now ≡ text.now ∷ []) (λ cut. slice_split is_slash text.now ≡ cut.0.now ∷ slice_split is_slash cut.1.now) }
-    ensures shorter { MatchOption result (Unit {0}) (λ cut. length cut.1.now < length text.now) }
-{
-    text.split_once('/')
-}
-
 // A decimal of the precision and the scale that stand beside a slash.
 fn decimal_of(parts: &str) -> Option<DataType>
-    ensures { result ≡ option_and_then (λ cut. decimal_of cut.0 cut.1) (at_slash parts.now) }
+    ensures { result ≡ option_and_then (λ cut. decimal_of cut.0 cut.1) (cut_at 47 parts.now) }
 {
-    let (precision, scale) = cut_slash(parts)?;
+    let (precision, scale) = cut_at(parts, b'/')?;
     let precision = precision_of(precision)?;
     let scale = small_number(scale)?;
     Some(DataType::Decimal(precision, Some(scale)))
-}
-
-// The texts between the slashes. Refuses only want of memory.
-fn read_categories(alloc: Global, text: &str) -> Result<Categories, WordsFault>
-    ensures texts { IfOk result (λ categories. categories ≡ slice_split is_slash text.now) }
-    ensures refused { result ≢ Err WordsFault.Words }
-{
-    let mut texts = Vec::new(alloc);
-    let mut rest = text;
-    while let Some((category, behind)) = cut_slash(rest) {
-        push_text(alloc, &mut texts, category)?;
-        rest = behind;
-    }
-    push_text(alloc, &mut texts, rest)?;
-    Ok(Categories::new(texts))
-}
-
-/// Puts a copy of a text at the end. Refuses only want of memory.
-pub fn push_text(
-    alloc: Global,
-    texts: &mut Vec<PlSmallStr>,
-    text: &str,
-) -> Result<(), WordsFault>
-    ensures pushed { OnOk result (texts.new.items ≡ texts.old.items ++ text.now ∷ []) }
-    ensures refused { result ≢ Err WordsFault.Words }
-{
-    let Ok(text) = PlSmallStr::from_str(alloc, text) else {
-        return Err(WordsFault::OutOfMemory);
-    };
-    match texts.push(text) {
-        Ok(()) => Ok(()),
-        Err(_) => Err(WordsFault::OutOfMemory),
-    }
 }
 
 // A type, where there is one.
@@ -147,7 +107,10 @@ fn type_with(alloc: Global, name: &str, parts: &str) -> Result<DataType, WordsFa
     ensures refused { IsErrOf result WordsFault.Words → type_with name.now parts.now ≡ None }
 {
     match name {
-        "enum" => Ok(DataType::Enum(Some(read_categories(alloc, parts)?))),
+        "enum" => {
+            let texts = split_texts(alloc, parts, b'/')?;
+            Ok(DataType::Enum(Some(Categories::new(texts))))
+        }
         "datetime" => match unit_named(parts) {
             Some(unit) => Ok(DataType::Datetime(unit)),
             None => Err(WordsFault::Words),
@@ -162,7 +125,7 @@ fn type_named(alloc: Global, text: &str) -> Result<DataType, WordsFault>
     ensures known { IfOk result (λ dtype. named_type text.now ≡ Some dtype) }
     ensures refused { IsErrOf result WordsFault.Words → named_type text.now ≡ None }
 {
-    match cut_slash(text) {
+    match cut_at(text, b'/') {
         Some((name, parts)) => type_with(alloc, name, parts),
         None => known_type(plain_type(text)),
     }
@@ -173,7 +136,7 @@ fn read_entry(alloc: Global, part: &str) -> Result<(&str, DataType), WordsFault>
     ensures entry { IfOk result (λ entry. entry_of part.now ≡ Some (entry.0.now, entry.1)) }
     ensures refused { IsErrOf result WordsFault.Words → entry_of part.now ≡ None }
 {
-    match part.split_once(':') {
+    match cut_at(part, b':') {
         Some((name, text)) => Ok((name, type_named(alloc, text)?)),
         None => Err(WordsFault::Words),
     }
@@ -219,14 +182,6 @@ fn add_part(alloc: Global, schema: &mut Schema, part: &str) -> Result<(), WordsF
     push_entry(alloc, schema, name, dtype)
 }
 
-/// The part before the first comma and what stands behind it, where there is a comma.
-pub fn cut_comma(text: &str) -> Option<(&str, &str)>
-    ensures cut { MatchOption result (slice_split is_comma text.now ≡ text.now ∷ []) (λ cut. slice_split is_comma text.now ≡ cut.0.now ∷ slice_split is_comma cut.1.now) }
-    ensures shorter { MatchOption result (Unit {0}) (λ cut. length cut.1.now < length text.now) }
-{
-    text.split_once(',')
-}
-
 /// The schema that a text means. Refuses a text without a meaning, and want of memory.
 pub fn parse_schema(alloc: Global, text: &str) -> Result<Schema, WordsFault>
     ensures schema { IfOk result (λ schema. schema_of text.now ≡ Some schema) }
@@ -234,7 +189,7 @@ pub fn parse_schema(alloc: Global, text: &str) -> Result<Schema, WordsFault>
 {
     let mut schema = Schema::new(alloc);
     let mut rest = text;
-    while let Some((part, behind)) = cut_comma(rest) {
+    while let Some((part, behind)) = cut_at(rest, b',') {
         add_part(alloc, &mut schema, part)?;
         rest = behind;
     }

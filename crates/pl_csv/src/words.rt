@@ -4,10 +4,11 @@ ghost use Rattle.std.specs.List.{list_all, list_any, slice_split};
 ghost use Rattle.std.specs.Option.{option_map, option_and_then};
 ghost use Rattle.std.specs.Str.{bytes_eq};
 ghost use Rattle.pl_frame.specs.Schema.{names_in};
-ghost use Rattle.pl_csv.specs.Words.{is_value, at_equals_sign, flags, whole_part, parts_of, settings_of_words};
+ghost use Rattle.pl_csv.specs.Words.{is_value, flags, whole_part, parts_of, settings_of_words};
 
 use crate::options::{Given, give_part, settings_of};
 use crate::settings::Settings;
+use crate::splitting::cut_at;
 use pl_frame::data_type::DataType;
 use pl_frame::name::PlSmallStr;
 use pl_frame::schema::Schema;
@@ -29,13 +30,6 @@ fn is_value_word(text: &str) -> bool
         [] => false,
         [first, ..] => *first != b'-',
     }
-}
-
-/// The parts of a word before and behind its first equals sign, where there is one.
-pub fn cut_equals_sign(word: &str) -> Option<(&str, &str)>
-    ensures { option_map (λ cut. (cut.0.now, cut.1.now)) result ≡ at_equals_sign word.now }
-{
-    word.split_once('=')
 }
 
 // Whether a word is a flag.
@@ -61,7 +55,7 @@ fn read_whole(word: &str) -> Option<(&str, Option<&str>)>
     if is_flag(word) {
         return Some((word, None));
     }
-    match cut_equals_sign(word) {
+    match cut_at(word, b'=') {
         Some((name, value)) => Some((name, Some(value))),
         None => None,
     }

@@ -15,7 +15,7 @@ returns-in_default-clause-given c =
     let given = c.args.given.now in
     let name = c.args.name.now in
     let value = c.args.value.now in
-    let other = with_value-other given name value (nonempty c.args.value.now (sym c.is_empty.ensures ∙ c.if-is_empty.false)) not.not-text not.not-text-2 not.not-text-3 not.not-text-4 not.not-text-5 not.not-text-6 not.not-text-7 not.not-text-8 in
+    let other = with_value-other given name value (nonempty c.args.value.now (sym c.is_empty.ensures ∙ c.if-is_empty.false)) not.not-text not.not-text-2 not.not-text-3 not.not-text-4 not.not-text-5 not.not-text-6 not.not-text-7 not.not-text-8 not.not-text-9 not.not-text-10 not.not-text-11 in
     on_ok_weaker c.give_output.result (with_value-output given name value c.give_output.new.given other) c.give_output.ensures.given
 
 pub returns-in_default-clause-refused : goal.returns-in_default-clause-refused
@@ -24,5 +24,5 @@ returns-in_default-clause-refused c =
     let given = c.args.given.now in
     let name = c.args.name.now in
     let value = c.args.value.now in
-    let other = with_value-other given name value (nonempty c.args.value.now (sym c.is_empty.ensures ∙ c.if-is_empty.false)) not.not-text not.not-text-2 not.not-text-3 not.not-text-4 not.not-text-5 not.not-text-6 not.not-text-7 not.not-text-8 in
+    let other = with_value-other given name value (nonempty c.args.value.now (sym c.is_empty.ensures ∙ c.if-is_empty.false)) not.not-text not.not-text-2 not.not-text-3 not.not-text-4 not.not-text-5 not.not-text-6 not.not-text-7 not.not-text-8 not.not-text-9 not.not-text-10 not.not-text-11 in
     λ refused. with_value-none given name value other (c.give_output.ensures.refused refused)

@@ -8,4 +8,5 @@ pub mod FrameLaws
 pub mod PlaceLaws
 pub mod CauseLaws
 pub mod RunLaws
+pub mod TellLaws
 pub mod WordLaws

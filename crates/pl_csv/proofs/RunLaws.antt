@@ -1,15 +1,18 @@
 -- What a run answers, by its outcome.
-use Rattle.std.proofs.Common.{◌≡◌, ◌≢◌, ℕ, ◌^◌, ◌<◌, ◌≤◌, ◌==◌, if◌then◌else◌, Bool, true, false, List, ◌++◌, length, refl, sym, ◌∙◌, ap, subst, append-nil, arith, inl, inr, length-append}
-use Rattle.std.specs.Prelude.{Option, None, Some, IsSome}
-use Rattle.std.specs.Io.KnownBytes.{Consumes, IsAtEnd}
+use Rattle.std.proofs.Common.{◌≡◌, ℕ, ◌^◌, ◌<◌, ◌≤◌, Bool, true, false, List, ◌++◌, length, refl, sym, ◌∙◌, ap, subst, append-nil, arith, inl, inr, length-append}
+use Rattle.std.specs.Prelude.{Option, None, Some, IsSome, nat_eq, nat_lt, not}
+use Rattle.std.specs.Io.KnownBytes.{Consumes, IsAtEnd, Keeps}
+use Rattle.std.proofs.lemmas.Bool.Decides.{nat_tests}
+use Rattle.pl_frame.specs.Causes.{Rose}
 use Rattle.pl_frame.specs.Frame.{ColumnValue}
-use Rattle.pl_csv.specs.declared.reading.ReadFault.{ReadFault}
-use Rattle.pl_csv.specs.declared.reading.ReadFault.TheVariants as read_fault
+use Rattle.pl_frame.specs.declared.error.FaultKind.{FaultKind}
+use Rattle.pl_csv.specs.declared.reading.Cause.{Cause}
+use Rattle.pl_csv.specs.declared.reading.Cause.TheVariants as cause
 use Rattle.pl_csv.specs.declared.run.Refusal.{Refusal}
 use Rattle.pl_csv.specs.declared.run.Refusal.TheVariants as refusal
 use Rattle.pl_csv.specs.declared.settings.Settings.{Settings}
-use Rattle.pl_csv.specs.Reading.{IsValidRead, IsReadFault, is_faulty}
-use Rattle.pl_csv.specs.Run.{HasRead, HasCause, Views, IsRefused, status_of, status_of_fault, IsDue, EndsAsDue, Converted}
+use Rattle.pl_csv.specs.Reading.{IsRefusal, IsValidRead, IsCause, Tells, causes, quote_cause, first_some, when}
+use Rattle.pl_csv.specs.Run.{HasRead, HasCause, Views, IsRefused, IsOfInput, IsTooLong, ConvertedPart, status_of, status_of_cause, IsDue, EndsAsDue, Converted}
 use Rattle.pl_csv.specs.Words.{settings_of_words}
 
 -- an input that is known is the one that was read
@@ -38,73 +41,36 @@ same_some {X = X} o x y one other = same (sym one ∙ other)
     same : ◌≡◌ {A = Option X} (Some x) (Some y) → x ≡ y
     same h = cc
 
-true_false : (b : Bool) → b ≡ true → b ≡ false → ⊥
-true_false true one other = cc
-true_false false one other = cc
+-- ---- an input has one first cause, or none
 
--- an input whose frame can be written has no fault
-no_fault : (s : Settings) (input : List ℕ) (frame : List ColumnValue) (fault : ReadFault) → IsValidRead s input frame → IsReadFault s input fault → fault ≢ read_fault.OutOfMemory → ⊥
-no_fault s input frame read_fault.Dialect read is other = is read.1.can_start.0
-no_fault s input frame read_fault.Option read is other = read.1.can_start.1 is.1
-no_fault s input frame read_fault.Quote read is other = omega (arith, read.0, is.1)
-no_fault s input frame read_fault.Compressed read is other = true_false _ is.1 read.1.no_mark
-no_fault s input frame read_fault.Skip read is other = none_some _ read.1.records is.2 read.1.place
-no_fault s input frame read_fault.Record read is other =
-    let same = same_some _ is.2 read.1.records is.3 read.1.place in
-    true_false _ (sym (ap (is_faulty s) same) ∙ is.4) read.1.whole
-no_fault s input frame read_fault.OutOfMemory read is other = other refl
+-- a truth value that tells whether something holds is one
+same_answer : (a b : Bool) (holds : Type 0) → Tells a holds → Tells b holds → a ≡ b
+same_answer true true holds x y = refl
+same_answer true false holds x y = absurd (y x)
+same_answer false true holds x y = absurd (x y)
+same_answer false false holds x y = refl
 
--- an input has one first cause
-one_fault : (s : Settings) (input : List ℕ) (f g : ReadFault) → IsReadFault s input f → IsReadFault s input g → f ≢ read_fault.OutOfMemory → g ≢ read_fault.OutOfMemory → f ≡ g
-one_fault s input read_fault.Dialect read_fault.Dialect x y known_x known_y = refl
-one_fault s input read_fault.Dialect read_fault.Option x y known_x known_y = absurd (x y.0)
-one_fault s input read_fault.Dialect read_fault.Quote x y known_x known_y = absurd (x y.0.0)
-one_fault s input read_fault.Dialect read_fault.Compressed x y known_x known_y = absurd (x y.0.0.0)
-one_fault s input read_fault.Dialect read_fault.Skip x y known_x known_y = absurd (x y.0.0.0)
-one_fault s input read_fault.Dialect read_fault.Record x y known_x known_y = absurd (x y.0.0.0)
-one_fault s input read_fault.Dialect read_fault.OutOfMemory x y known_x known_y = absurd (known_y refl)
-one_fault s input read_fault.Option read_fault.Dialect x y known_x known_y = absurd (y x.0)
-one_fault s input read_fault.Option read_fault.Option x y known_x known_y = refl
-one_fault s input read_fault.Option read_fault.Quote x y known_x known_y = absurd (y.0.1 x.1)
-one_fault s input read_fault.Option read_fault.Compressed x y known_x known_y = absurd (y.0.0.1 x.1)
-one_fault s input read_fault.Option read_fault.Skip x y known_x known_y = absurd (y.0.0.1 x.1)
-one_fault s input read_fault.Option read_fault.Record x y known_x known_y = absurd (y.0.0.1 x.1)
-one_fault s input read_fault.Option read_fault.OutOfMemory x y known_x known_y = absurd (known_y refl)
-one_fault s input read_fault.Quote read_fault.Dialect x y known_x known_y = absurd (y x.0.0)
-one_fault s input read_fault.Quote read_fault.Option x y known_x known_y = absurd (x.0.1 y.1)
-one_fault s input read_fault.Quote read_fault.Quote x y known_x known_y = refl
-one_fault s input read_fault.Quote read_fault.Compressed x y known_x known_y = absurd (omega (arith, x.1, y.0.1))
-one_fault s input read_fault.Quote read_fault.Skip x y known_x known_y = absurd (omega (arith, x.1, y.0.1))
-one_fault s input read_fault.Quote read_fault.Record x y known_x known_y = absurd (omega (arith, x.1, y.0.1))
-one_fault s input read_fault.Quote read_fault.OutOfMemory x y known_x known_y = absurd (known_y refl)
-one_fault s input read_fault.Compressed read_fault.Dialect x y known_x known_y = absurd (y x.0.0.0)
-one_fault s input read_fault.Compressed read_fault.Option x y known_x known_y = absurd (x.0.0.1 y.1)
-one_fault s input read_fault.Compressed read_fault.Quote x y known_x known_y = absurd (omega (arith, y.1, x.0.1))
-one_fault s input read_fault.Compressed read_fault.Compressed x y known_x known_y = refl
-one_fault s input read_fault.Compressed read_fault.Skip x y known_x known_y = absurd (true_false _ x.1 y.1)
-one_fault s input read_fault.Compressed read_fault.Record x y known_x known_y = absurd (true_false _ x.1 y.1)
-one_fault s input read_fault.Compressed read_fault.OutOfMemory x y known_x known_y = absurd (known_y refl)
-one_fault s input read_fault.Skip read_fault.Dialect x y known_x known_y = absurd (y x.0.0.0)
-one_fault s input read_fault.Skip read_fault.Option x y known_x known_y = absurd (x.0.0.1 y.1)
-one_fault s input read_fault.Skip read_fault.Quote x y known_x known_y = absurd (omega (arith, y.1, x.0.1))
-one_fault s input read_fault.Skip read_fault.Compressed x y known_x known_y = absurd (true_false _ y.1 x.1)
-one_fault s input read_fault.Skip read_fault.Skip x y known_x known_y = refl
-one_fault s input read_fault.Skip read_fault.Record x y known_x known_y = absurd (none_some _ y.2 x.2 y.3)
-one_fault s input read_fault.Skip read_fault.OutOfMemory x y known_x known_y = absurd (known_y refl)
-one_fault s input read_fault.Record read_fault.Dialect x y known_x known_y = absurd (y x.0.0.0)
-one_fault s input read_fault.Record read_fault.Option x y known_x known_y = absurd (x.0.0.1 y.1)
-one_fault s input read_fault.Record read_fault.Quote x y known_x known_y = absurd (omega (arith, y.1, x.0.1))
-one_fault s input read_fault.Record read_fault.Compressed x y known_x known_y = absurd (true_false _ y.1 x.1)
-one_fault s input read_fault.Record read_fault.Skip x y known_x known_y = absurd (none_some _ x.2 y.2 x.3)
-one_fault s input read_fault.Record read_fault.Record x y known_x known_y = refl
-one_fault s input read_fault.Record read_fault.OutOfMemory x y known_x known_y = absurd (known_y refl)
-one_fault s input read_fault.OutOfMemory read_fault.Dialect x y known_x known_y = absurd (known_x refl)
-one_fault s input read_fault.OutOfMemory read_fault.Option x y known_x known_y = absurd (known_x refl)
-one_fault s input read_fault.OutOfMemory read_fault.Quote x y known_x known_y = absurd (known_x refl)
-one_fault s input read_fault.OutOfMemory read_fault.Compressed x y known_x known_y = absurd (known_x refl)
-one_fault s input read_fault.OutOfMemory read_fault.Skip x y known_x known_y = absurd (known_x refl)
-one_fault s input read_fault.OutOfMemory read_fault.Record x y known_x known_y = absurd (known_x refl)
-one_fault s input read_fault.OutOfMemory read_fault.OutOfMemory x y known_x known_y = absurd (known_x refl)
+same_refusal : (quote : Option Cause) (s : Settings) (input : List ℕ) (f g : Option Cause) → IsRefusal quote s input f → IsRefusal quote s input g → f ≡ g
+same_refusal quote s input f g x y = x.is ∙ ap (λ d. first_some (causes quote d s input)) (same_answer x.is_dialect y.is_dialect _ x.tells y.tells) ∙ sym y.is
+
+-- the quote of the output is ASCII, and so no cause
+quote_none : (quote : ℕ) → quote < 128 → when (not (nat_lt quote 128)) cause.Quote ≡ None
+quote_none quote small = by (nat_lt quote 128) refl
+  where
+    by : (t : Bool) → nat_lt quote 128 ≡ t → when (not t) cause.Quote ≡ None
+    by true e = refl
+    by false e = absurd (grind (arith, nat_tests, e, small))
+
+-- an input whose frame can be written has no cause
+no_cause : (s : Settings) (input : List ℕ) (frame : List ColumnValue) (first : Cause) → IsValidRead s input frame → IsCause s input first → ⊥
+no_cause s input frame first read is =
+    let plain : IsRefusal None s input (Some first) = subst (λ q. IsRefusal q s input (Some first)) (quote_none s.write.serialize_options.quote_char read.0) is in
+    none_some (Some first) first (sym (same_refusal None s input None (Some first) read.1.0 plain)) refl
+
+one_cause : (s : Settings) (input : List ℕ) (f g : Cause) → IsCause s input f → IsCause s input g → f ≡ g
+one_cause s input f g x y = same_some (Some f) f g refl (same_refusal (quote_cause s) s input (Some f) (Some g) x y)
+
+-- ---- what is due
 
 -- words and a known input that were read have settings and a length that are known
 pub record WasRead (words : List (List ℕ)) (input : List ℕ) : Type 0 where
@@ -124,29 +90,28 @@ due-read words input status was frame read (inr (inr (inl due))) = due.1
 due-read words input status was frame read (inr (inr (inr due))) =
     let invalid = due.1 in
     let same = same_some _ was.settings invalid.settings was.meaning invalid.meaning in
-    absurd (no_fault invalid.settings input frame due.0 (subst (λ s. IsValidRead s input frame) same read) invalid.cause invalid.known)
+    absurd (no_cause invalid.settings input frame due.0 (subst (λ s. IsValidRead s input frame) same read) invalid.is)
 
--- what is due to an input that has none
-due-fault : (words : List (List ℕ)) (input : List ℕ) (status : ℕ) (was : WasRead words input) (fault : ReadFault) → IsReadFault was.settings input fault → fault ≢ read_fault.OutOfMemory
-    → IsDue words input status → status ≡ status_of_fault fault
-due-fault words input status was fault is known (inl due) = absurd (none_some _ was.settings due.0 was.meaning)
-due-fault words input status was fault is known (inr (inl due)) = absurd (omega (arith, due.1, was.within))
-due-fault words input status was fault is known (inr (inr (inl due))) =
+-- what is due to an input that has a cause
+due-invalid : (words : List (List ℕ)) (input : List ℕ) (status : ℕ) (was : WasRead words input) (first : Cause) → IsCause was.settings input first → IsDue words input status → status ≡ status_of_cause first
+due-invalid words input status was first is (inl due) = absurd (none_some _ was.settings due.0 was.meaning)
+due-invalid words input status was first is (inr (inl due)) = absurd (omega (arith, due.1, was.within))
+due-invalid words input status was first is (inr (inr (inl due))) =
     let valid = due.0 in
     let same = same_some _ was.settings valid.settings was.meaning valid.meaning in
-    absurd (no_fault valid.settings input valid.frame fault valid.read (subst (λ s. IsReadFault s input fault) same is) known)
-due-fault words input status was fault is known (inr (inr (inr due))) =
+    absurd (no_cause valid.settings input valid.frame first valid.read (subst (λ s. IsCause s input first) same is))
+due-invalid words input status was first is (inr (inr (inr due))) =
     let invalid = due.1 in
     let same = same_some _ was.settings invalid.settings was.meaning invalid.meaning in
-    due.2 ∙ ap status_of_fault (one_fault invalid.settings input due.0 fault invalid.cause (subst (λ s. IsReadFault s input fault) same is) invalid.known known)
+    due.2 ∙ ap status_of_cause (one_cause invalid.settings input due.0 first invalid.is (subst (λ s. IsCause s input first) same is))
 
 -- what is due where a cause was found
-due-cause : (words : List (List ℕ)) (left left_now : Option (List ℕ)) (input : List ℕ) (status : ℕ) (fault : ReadFault) → HasCause words left left_now fault → fault ≢ read_fault.OutOfMemory
-    → left ≡ Some input → IsDue words input status → status ≡ status_of_fault fault
-due-cause words left left_now input status fault cause known told due =
-    let read = cause.read in
+due-cause : (words : List (List ℕ)) (left left_now : Option (List ℕ)) (input : List ℕ) (status : ℕ) (first : Cause) → HasCause words left left_now first
+    → left ≡ Some input → IsDue words input status → status ≡ status_of_cause first
+due-cause words left left_now input status first has told due =
+    let read = has.read in
     let same = known_input words input left left_now read told in
-    due-fault words input status (was_read words input left left_now read told) fault (subst (λ i. IsReadFault read.settings i fault) (sym same) cause.is) known due
+    due-invalid words input status (was_read words input left left_now read told) first (subst (λ i. IsCause read.settings i first) (sym same) has.is) due
 
 -- a told input that was converted was due to be
 pub due-converted : (words : List (List ℕ)) (before now : Views) (input : List ℕ) (status : ℕ) → Converted words before.left now.left before.received now.received
@@ -155,14 +120,6 @@ due-converted words before now input status converted told due =
     let read = converted.read in
     let same = known_input words input before.left now.left read told in
     inl (sym (due-read words input status (was_read words input before.left now.left read told) converted.is.0 (subst (λ i. IsValidRead read.settings i converted.is.0) (sym same) converted.is.1) due))
-
--- a cause, and no want of memory
-abbrev is_known : ReadFault → Bool
-is_known read_fault.OutOfMemory = false
-is_known _ = true
-
-other_fault : (fault : ReadFault) → is_known fault ≡ true → fault ≢ read_fault.OutOfMemory
-other_fault fault h e = true_false _ h (ap is_known e)
 
 none_is_some : {X : Type 0} {o : Option X} → o ≡ None → IsSome o → ⊥
 none_is_some {o = None} e some = cc
@@ -197,47 +154,240 @@ due-refused words before now input status refusal.TooLong is told due =
     let came = is.1 in
     let least = longer_input input came.0 now.left (subst (λ l. Consumes l now.left came.0) told came.1) in
     inl (sym (due-long words input status is.0 (omega (arith, came.2, least)) due))
-due-refused words before now input status refusal.Dialect is told due =
-    inl (sym (due-cause words before.left now.left input status read_fault.Dialect is.0 (other_fault read_fault.Dialect refl) told due))
-due-refused words before now input status refusal.Option is told due =
-    inl (sym (due-cause words before.left now.left input status read_fault.Option is.0 (other_fault read_fault.Option refl) told due))
-due-refused words before now input status refusal.Quote is told due =
-    inl (sym (due-cause words before.left now.left input status read_fault.Quote is.0 (other_fault read_fault.Quote refl) told due))
-due-refused words before now input status refusal.Compressed is told due =
-    inl (sym (due-cause words before.left now.left input status read_fault.Compressed is.0 (other_fault read_fault.Compressed refl) told due))
-due-refused words before now input status refusal.Skip is told due =
-    inl (sym (due-cause words before.left now.left input status read_fault.Skip is.0 (other_fault read_fault.Skip refl) told due))
-due-refused words before now input status refusal.Record is told due =
-    inl (sym (due-cause words before.left now.left input status read_fault.Record is.0 (other_fault read_fault.Record refl) told due))
+due-refused words before now input status (refusal.Input first) is told due = inl (sym (due-cause words before.left now.left input status first is.0 told due))
 
--- the refusal of a status
-abbrev named : ℕ → Refusal
-named status =
-    if status == 2 then refusal.Words
-    else if status == 3 then refusal.Source
-    else if status == 4 then refusal.Sink
-    else if status == 6 then refusal.TooLong
-    else if status == 11 then refusal.Dialect
-    else if status == 12 then refusal.Option
-    else if status == 13 then refusal.Quote
-    else if status == 14 then refusal.Compressed
-    else if status == 20 then refusal.Skip
-    else if status == 24 then refusal.Record
-    else refusal.OutOfMemory
+-- a refusal by the input has its cause
+pub of_input : (words : List (List ℕ)) (before now : Views) (r : Refusal) → IsRefused words before now r → IsOfInput words before.left now.left r
+of_input words before now refusal.Words is = tt
+of_input words before now refusal.Source is = tt
+of_input words before now refusal.Sink is = tt
+of_input words before now refusal.OutOfMemory is = tt
+of_input words before now refusal.TooLong is = tt
+of_input words before now (refusal.Input first) is = is.0
 
-named-status : (r : Refusal) → named (status_of r) ≡ r
-named-status refusal.Words = refl
-named-status refusal.Source = refl
-named-status refusal.Sink = refl
-named-status refusal.OutOfMemory = refl
-named-status refusal.TooLong = refl
-named-status refusal.Dialect = refl
-named-status refusal.Option = refl
-named-status refusal.Quote = refl
-named-status refusal.Compressed = refl
-named-status refusal.Skip = refl
-named-status refusal.Record = refl
+-- ---- what a status says
 
--- what a status says of the refusal
-pub refused-as : (words : List (List ℕ)) (before now : Views) (r : Refusal) (status : ℕ) → IsRefused words before now r → status_of r ≡ status → IsRefused words before now (named status)
-refused-as words before now r status is e = subst (IsRefused words before now) (sym (named-status r) ∙ ap named e) is
+-- the cause is the first, and the sink kept what it had
+abbrev pub Refuses : List (List ℕ) → Views → Views → Cause → Type 0
+Refuses words before now first = HasCause words before.left now.left first × Keeps before.received now.received
+
+-- what each status of a refusal says
+pub record Says (words : List (List ℕ)) (before now : Views) (status : ℕ) : Type 0 where
+  pub words_form : status ≡ 2 → (settings_of_words words ≡ None) × Keeps before.received now.received
+  pub source_fault : status ≡ 3 → IsSome (settings_of_words words) × Rose before.source_faults now.source_faults × Keeps before.received now.received
+  pub sink_fault : status ≡ 4 → Rose before.sink_faults now.sink_faults × ConvertedPart words before.left now.left before.received now.received
+  pub memory : status ≡ 5 → IsRefused words before now refusal.OutOfMemory
+  pub too_long : status ≡ 6 → IsSome (settings_of_words words) × IsTooLong before.left now.left × Keeps before.received now.received
+  pub dialect : status ≡ 11 → Refuses words before now cause.Dialect
+  pub option : status ≡ 12 → Refuses words before now cause.Option
+  pub quote : status ≡ 13 → Refuses words before now cause.Quote
+  pub compressed : status ≡ 14 → Refuses words before now cause.Compressed
+  pub dtype : status ≡ 18 → (column : ℕ) × Refuses words before now (cause.Dtype column)
+  pub not_found : status ≡ 19 → (name : List ℕ) × Refuses words before now (cause.NotFound name)
+  pub skip : status ≡ 20 → Refuses words before now cause.Skip
+  pub faulty : status ≡ 24 → (row : ℕ) × (column : ℕ) × (kind : FaultKind) × Refuses words before now (cause.Record row column kind)
+
+-- statuses that differ
+differ : {X : Type 0} (a b : ℕ) → nat_eq a b ≡ false → a ≡ b → X
+differ a b unlike same = absurd (grind (arith, nat_tests, unlike, same))
+
+pub says-refused : (words : List (List ℕ)) (before now : Views) (r : Refusal) → IsRefused words before now r → Says words before now (status_of r)
+says-refused words before now refusal.Words is = record {
+  words_form = λ e. is;
+  source_fault = λ e. differ 2 3 refl e;
+  sink_fault = λ e. differ 2 4 refl e;
+  memory = λ e. differ 2 5 refl e;
+  too_long = λ e. differ 2 6 refl e;
+  dialect = λ e. differ 2 11 refl e;
+  option = λ e. differ 2 12 refl e;
+  quote = λ e. differ 2 13 refl e;
+  compressed = λ e. differ 2 14 refl e;
+  dtype = λ e. differ 2 18 refl e;
+  not_found = λ e. differ 2 19 refl e;
+  skip = λ e. differ 2 20 refl e;
+  faulty = λ e. differ 2 24 refl e;
+}
+says-refused words before now refusal.Source is = record {
+  words_form = λ e. differ 3 2 refl e;
+  source_fault = λ e. is;
+  sink_fault = λ e. differ 3 4 refl e;
+  memory = λ e. differ 3 5 refl e;
+  too_long = λ e. differ 3 6 refl e;
+  dialect = λ e. differ 3 11 refl e;
+  option = λ e. differ 3 12 refl e;
+  quote = λ e. differ 3 13 refl e;
+  compressed = λ e. differ 3 14 refl e;
+  dtype = λ e. differ 3 18 refl e;
+  not_found = λ e. differ 3 19 refl e;
+  skip = λ e. differ 3 20 refl e;
+  faulty = λ e. differ 3 24 refl e;
+}
+says-refused words before now refusal.Sink is = record {
+  words_form = λ e. differ 4 2 refl e;
+  source_fault = λ e. differ 4 3 refl e;
+  sink_fault = λ e. is;
+  memory = λ e. differ 4 5 refl e;
+  too_long = λ e. differ 4 6 refl e;
+  dialect = λ e. differ 4 11 refl e;
+  option = λ e. differ 4 12 refl e;
+  quote = λ e. differ 4 13 refl e;
+  compressed = λ e. differ 4 14 refl e;
+  dtype = λ e. differ 4 18 refl e;
+  not_found = λ e. differ 4 19 refl e;
+  skip = λ e. differ 4 20 refl e;
+  faulty = λ e. differ 4 24 refl e;
+}
+says-refused words before now refusal.OutOfMemory is = record {
+  words_form = λ e. differ 5 2 refl e;
+  source_fault = λ e. differ 5 3 refl e;
+  sink_fault = λ e. differ 5 4 refl e;
+  memory = λ e. is;
+  too_long = λ e. differ 5 6 refl e;
+  dialect = λ e. differ 5 11 refl e;
+  option = λ e. differ 5 12 refl e;
+  quote = λ e. differ 5 13 refl e;
+  compressed = λ e. differ 5 14 refl e;
+  dtype = λ e. differ 5 18 refl e;
+  not_found = λ e. differ 5 19 refl e;
+  skip = λ e. differ 5 20 refl e;
+  faulty = λ e. differ 5 24 refl e;
+}
+says-refused words before now refusal.TooLong is = record {
+  words_form = λ e. differ 6 2 refl e;
+  source_fault = λ e. differ 6 3 refl e;
+  sink_fault = λ e. differ 6 4 refl e;
+  memory = λ e. differ 6 5 refl e;
+  too_long = λ e. is;
+  dialect = λ e. differ 6 11 refl e;
+  option = λ e. differ 6 12 refl e;
+  quote = λ e. differ 6 13 refl e;
+  compressed = λ e. differ 6 14 refl e;
+  dtype = λ e. differ 6 18 refl e;
+  not_found = λ e. differ 6 19 refl e;
+  skip = λ e. differ 6 20 refl e;
+  faulty = λ e. differ 6 24 refl e;
+}
+says-refused words before now (refusal.Input cause.Dialect) is = record {
+  words_form = λ e. differ 11 2 refl e;
+  source_fault = λ e. differ 11 3 refl e;
+  sink_fault = λ e. differ 11 4 refl e;
+  memory = λ e. differ 11 5 refl e;
+  too_long = λ e. differ 11 6 refl e;
+  dialect = λ e. is;
+  option = λ e. differ 11 12 refl e;
+  quote = λ e. differ 11 13 refl e;
+  compressed = λ e. differ 11 14 refl e;
+  dtype = λ e. differ 11 18 refl e;
+  not_found = λ e. differ 11 19 refl e;
+  skip = λ e. differ 11 20 refl e;
+  faulty = λ e. differ 11 24 refl e;
+}
+says-refused words before now (refusal.Input cause.Option) is = record {
+  words_form = λ e. differ 12 2 refl e;
+  source_fault = λ e. differ 12 3 refl e;
+  sink_fault = λ e. differ 12 4 refl e;
+  memory = λ e. differ 12 5 refl e;
+  too_long = λ e. differ 12 6 refl e;
+  dialect = λ e. differ 12 11 refl e;
+  option = λ e. is;
+  quote = λ e. differ 12 13 refl e;
+  compressed = λ e. differ 12 14 refl e;
+  dtype = λ e. differ 12 18 refl e;
+  not_found = λ e. differ 12 19 refl e;
+  skip = λ e. differ 12 20 refl e;
+  faulty = λ e. differ 12 24 refl e;
+}
+says-refused words before now (refusal.Input cause.Quote) is = record {
+  words_form = λ e. differ 13 2 refl e;
+  source_fault = λ e. differ 13 3 refl e;
+  sink_fault = λ e. differ 13 4 refl e;
+  memory = λ e. differ 13 5 refl e;
+  too_long = λ e. differ 13 6 refl e;
+  dialect = λ e. differ 13 11 refl e;
+  option = λ e. differ 13 12 refl e;
+  quote = λ e. is;
+  compressed = λ e. differ 13 14 refl e;
+  dtype = λ e. differ 13 18 refl e;
+  not_found = λ e. differ 13 19 refl e;
+  skip = λ e. differ 13 20 refl e;
+  faulty = λ e. differ 13 24 refl e;
+}
+says-refused words before now (refusal.Input cause.Compressed) is = record {
+  words_form = λ e. differ 14 2 refl e;
+  source_fault = λ e. differ 14 3 refl e;
+  sink_fault = λ e. differ 14 4 refl e;
+  memory = λ e. differ 14 5 refl e;
+  too_long = λ e. differ 14 6 refl e;
+  dialect = λ e. differ 14 11 refl e;
+  option = λ e. differ 14 12 refl e;
+  quote = λ e. differ 14 13 refl e;
+  compressed = λ e. is;
+  dtype = λ e. differ 14 18 refl e;
+  not_found = λ e. differ 14 19 refl e;
+  skip = λ e. differ 14 20 refl e;
+  faulty = λ e. differ 14 24 refl e;
+}
+says-refused words before now (refusal.Input (cause.Dtype column)) is = record {
+  words_form = λ e. differ 18 2 refl e;
+  source_fault = λ e. differ 18 3 refl e;
+  sink_fault = λ e. differ 18 4 refl e;
+  memory = λ e. differ 18 5 refl e;
+  too_long = λ e. differ 18 6 refl e;
+  dialect = λ e. differ 18 11 refl e;
+  option = λ e. differ 18 12 refl e;
+  quote = λ e. differ 18 13 refl e;
+  compressed = λ e. differ 18 14 refl e;
+  dtype = λ e. (column, is);
+  not_found = λ e. differ 18 19 refl e;
+  skip = λ e. differ 18 20 refl e;
+  faulty = λ e. differ 18 24 refl e;
+}
+says-refused words before now (refusal.Input (cause.NotFound name)) is = record {
+  words_form = λ e. differ 19 2 refl e;
+  source_fault = λ e. differ 19 3 refl e;
+  sink_fault = λ e. differ 19 4 refl e;
+  memory = λ e. differ 19 5 refl e;
+  too_long = λ e. differ 19 6 refl e;
+  dialect = λ e. differ 19 11 refl e;
+  option = λ e. differ 19 12 refl e;
+  quote = λ e. differ 19 13 refl e;
+  compressed = λ e. differ 19 14 refl e;
+  dtype = λ e. differ 19 18 refl e;
+  not_found = λ e. (name, is);
+  skip = λ e. differ 19 20 refl e;
+  faulty = λ e. differ 19 24 refl e;
+}
+says-refused words before now (refusal.Input cause.Skip) is = record {
+  words_form = λ e. differ 20 2 refl e;
+  source_fault = λ e. differ 20 3 refl e;
+  sink_fault = λ e. differ 20 4 refl e;
+  memory = λ e. differ 20 5 refl e;
+  too_long = λ e. differ 20 6 refl e;
+  dialect = λ e. differ 20 11 refl e;
+  option = λ e. differ 20 12 refl e;
+  quote = λ e. differ 20 13 refl e;
+  compressed = λ e. differ 20 14 refl e;
+  dtype = λ e. differ 20 18 refl e;
+  not_found = λ e. differ 20 19 refl e;
+  skip = λ e. is;
+  faulty = λ e. differ 20 24 refl e;
+}
+says-refused words before now (refusal.Input (cause.Record row column kind)) is = record {
+  words_form = λ e. differ 24 2 refl e;
+  source_fault = λ e. differ 24 3 refl e;
+  sink_fault = λ e. differ 24 4 refl e;
+  memory = λ e. differ 24 5 refl e;
+  too_long = λ e. differ 24 6 refl e;
+  dialect = λ e. differ 24 11 refl e;
+  option = λ e. differ 24 12 refl e;
+  quote = λ e. differ 24 13 refl e;
+  compressed = λ e. differ 24 14 refl e;
+  dtype = λ e. differ 24 18 refl e;
+  not_found = λ e. differ 24 19 refl e;
+  skip = λ e. differ 24 20 refl e;
+  faulty = λ e. (row, column, kind, is);
+}
+
+-- the same of a status that is told
+pub said : (words : List (List ℕ)) (before now : Views) (r : Refusal) (status : ℕ) → IsRefused words before now r → status ≡ status_of r → Says words before now status
+said words before now r status is e = subst (Says words before now) (sym e) (says-refused words before now r is)

@@ -15,15 +15,14 @@ use Rattle.pl_frame.specs.declared.data_type.DataType.{DataType}
 use Rattle.pl_frame.specs.declared.data_type.DataType.TheVariants as dtype
 use Rattle.pl_frame.specs.Schema.{names_in, place_of, with_type}
 use Rattle.pl_frame.proofs.SchemaLaws.{none_passes}
-use Rattle.pl_csv.specs.Buffers.{is_carried}
 use Rattle.pl_csv.specs.Settings.{SchemaValue}
 use Rattle.std.proofs.Math.Nat.{pow-le-pow_right, pow-suc, mul-le-mul_right, mul_assoc}
 use Rattle.std.proofs.lemmas.Bool.Decides.{nat_tests}
 use Rattle.std.specs.Char.{is_ascii_digit}
 use Rattle.pl_cells.specs.Integers.{number_after, number_of, number_below}
 use Rattle.pl_cells.proofs.IntegerLaws.{digit_small}
-use Rattle.pl_csv.specs.Reading.{types_of}
-use Rattle.pl_csv.specs.Words.{named_type, entry_of, all_of, are_distinct, schema_of, is_comma, is_colon, is_equals_sign, at_equals_sign, Part, parts_of, count_of, once, with_value, with_output, with_part, with_parts, settings_of_given}
+use Rattle.pl_csv.specs.SchemaText.{entry_of, all_of, are_distinct, schema_of, is_comma, is_slash, at_slash}
+use Rattle.pl_csv.specs.Words.{is_equals_sign, at_equals_sign, Part, parts_of, count_of, once, with_value, with_output, with_part, with_parts, settings_of_given}
 use Rattle.pl_csv.specs.declared.settings.Settings.{Settings}
 use Rattle.pl_csv.specs.declared.options.Given.{Given}
 use Rattle.pl_csv.specs.declared.output.GivenOutput.{GivenOutput}
@@ -230,54 +229,6 @@ with_entries-more done now (Some e) es is = by (list_any (bytes_eq e.0) (names_i
         let there : Some (done ++ e ∷ []) ≡ Some now = sym (ap (λ t. if t then None else Some (done ++ e ∷ [])) at) ∙ is in
         let same : done ++ e ∷ [] ≡ now = cc in
         ap (λ t. elim t [ true ↦ None | false ↦ with_entries (done ++ e ∷ []) es ]) at ∙ ap (λ l. with_entries l es) same
-
--- ---- types
-
--- the entries have types of which cells can be read
-carried_type : (text : List ℕ) (type : DataType) → named_type text ≡ Some type → is_carried type ≡ true
-carried_type text type is = by (bytes_eq text (codes "int64")) (bytes_eq text (codes "string")) is
-  where
-    by : (s t : Bool) → (if s then Some dtype.Int64 else if t then Some dtype.String else None) ≡ Some type → is_carried type ≡ true
-    by true t e = let same : dtype.Int64 ≡ type = cc in sym (ap is_carried same)
-    by false true e = let same : dtype.String ≡ type = cc in sym (ap is_carried same)
-    by false false e = cc
-
-carried_entry : (part : List ℕ) (e : Named) → entry_of part ≡ Some e → is_carried e.1 ≡ true
-carried_entry part e is = by (named_type (after_first is_colon part)) refl is
-  where
-    by : (o : Option DataType) → named_type (after_first is_colon part) ≡ o → option_map (λ (type : DataType). (before_first is_colon part, type)) o ≡ Some e → is_carried e.1 ≡ true
-    by None at given = cc
-    by (Some type) at given =
-        let same : (before_first is_colon part, type) ≡ e = cc in
-        sym (ap (λ (d : Named). is_carried d.1) same) ∙ carried_type (after_first is_colon part) type at
-
-carried_all : (parts : List (List ℕ)) (es : SchemaValue) → all_of (map entry_of parts) ≡ Some es → list_all is_carried (types_of es) ≡ true
-carried_all [] es is = let same : [] ≡ es = cc in sym (ap (λ (l : SchemaValue). list_all is_carried (types_of l)) same)
-carried_all (part ∷ parts) es is = by (entry_of part) (all_of (map entry_of parts)) refl refl (carried_all parts)
-  where
-    by : (o : Option Named) (others : Option SchemaValue) → entry_of part ≡ o → all_of (map entry_of parts) ≡ others
-        → ((xs : SchemaValue) → all_of (map entry_of parts) ≡ Some xs → list_all is_carried (types_of xs) ≡ true)
-        → list_all is_carried (types_of es) ≡ true
-    by None others at rest deeper = let no_way : None ≡ Some es = sym (ap (λ o. all_of (o ∷ map entry_of parts)) at) ∙ is in cc
-    by (Some e) None at rest deeper =
-        let no_way : None ≡ Some es = sym (ap (λ o. all_of (o ∷ map entry_of parts)) at ∙ ap (option_map (λ (xs : SchemaValue). e ∷ xs)) rest) ∙ is in cc
-    by (Some e) (Some xs) at rest deeper =
-        let there : Some (e ∷ xs) ≡ Some es = sym (ap (λ o. all_of (o ∷ map entry_of parts)) at ∙ ap (option_map (λ (xs : SchemaValue). e ∷ xs)) rest) ∙ is in
-        let same : e ∷ xs ≡ es = cc in
-        sym (ap (λ (l : SchemaValue). list_all is_carried (types_of l)) same)
-        ∙ (λ j. carried_entry part e at j && deeper xs rest j)
-
-pub schema_of-carried : (text : List ℕ) (schema : SchemaValue) → schema_of text ≡ Some schema → list_all is_carried (types_of schema) ≡ true
-schema_of-carried text schema is = by (all_of (map entry_of (slice_split is_comma text))) refl is
-  where
-    by : (o : Option SchemaValue) → all_of (map entry_of (slice_split is_comma text)) ≡ o
-        → option_and_then (λ (es : SchemaValue). if are_distinct (names_in es) then Some es else None) o ≡ Some schema → list_all is_carried (types_of schema) ≡ true
-    by None at given = cc
-    by (Some es) at given = inner (are_distinct (names_in es)) given
-      where
-        inner : (t : Bool) → (if t then Some es else None) ≡ Some schema → list_all is_carried (types_of schema) ≡ true
-        inner true e = let same : es ≡ schema = cc in sym (ap (λ (l : SchemaValue). list_all is_carried (types_of l)) same) ∙ carried_all (slice_split is_comma text) es at
-        inner false e = cc
 
 -- ---- numbers
 

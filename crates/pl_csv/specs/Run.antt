@@ -83,28 +83,45 @@ kind_name fault.Utf8 = codes "utf8"
 kind_name fault.Value = codes "value"
 kind_name fault.Fields = codes "fields"
 
--- a cause, with its place
-abbrev pub cause_text : Cause → List ℕ
-cause_text cause.Dialect = codes "refusal 1 dialect"
-cause_text cause.Option = codes "refusal 2 option"
-cause_text cause.Quote = codes "refusal 3 quote"
-cause_text cause.Compressed = codes "refusal 4 compressed"
-cause_text (cause.Dtype column) = codes "refusal 8 dtype column " ++ decimal column
-cause_text (cause.NotFound name) = codes "refusal 9 not found " ++ name
-cause_text cause.Skip = codes "refusal 10 skip"
-cause_text (cause.Record row column kind) = codes "refusal 14 record " ++ decimal row ++ codes " column " ++ decimal column ++ codes " " ++ kind_name kind
+-- what a cause is called
+abbrev pub cause_name : Cause → List ℕ
+cause_name cause.Dialect = codes "refusal 1 dialect"
+cause_name cause.Option = codes "refusal 2 option"
+cause_name cause.Quote = codes "refusal 3 quote"
+cause_name cause.Compressed = codes "refusal 4 compressed"
+cause_name (cause.Dtype column) = codes "refusal 8 dtype"
+cause_name (cause.NotFound name) = codes "refusal 9 not found"
+cause_name cause.Skip = codes "refusal 10 skip"
+cause_name (cause.Record row column kind) = codes "refusal 14 record"
 
--- the line that the error sink is told, without its line end
-abbrev pub refusal_text : Refusal → List ℕ
-refusal_text refusal.Words = codes "words"
-refusal_text refusal.Source = codes "source"
-refusal_text refusal.Sink = codes "sink"
-refusal_text refusal.OutOfMemory = codes "memory"
-refusal_text refusal.TooLong = codes "too long"
-refusal_text (refusal.Input first) = cause_text first
+-- the place of a record's fault
+abbrev pub place_text : ℕ → ℕ → FaultKind → List ℕ
+place_text row column kind = (codes " " ++ decimal row) ++ ((codes " column " ++ decimal column) ++ (codes " " ++ kind_name kind))
 
+-- the detail of a cause
+abbrev pub cause_detail : Cause → List ℕ
+cause_detail (cause.Dtype column) = codes " column " ++ decimal column
+cause_detail (cause.NotFound name) = codes " " ++ name
+cause_detail (cause.Record row column kind) = place_text row column kind
+cause_detail _ = []
+
+-- the line that the error sink is told begins with what the refusal is called
+abbrev pub refusal_name : Refusal → List ℕ
+refusal_name refusal.Words = codes "words"
+refusal_name refusal.Source = codes "source"
+refusal_name refusal.Sink = codes "sink"
+refusal_name refusal.OutOfMemory = codes "memory"
+refusal_name refusal.TooLong = codes "too long"
+refusal_name (refusal.Input first) = cause_name first
+
+-- and goes on with the detail of a cause
+abbrev pub refusal_detail : Refusal → List ℕ
+refusal_detail (refusal.Input first) = cause_detail first
+refusal_detail _ = []
+
+-- the line ends with a line feed
 abbrev pub fault_line : Refusal → List ℕ
-fault_line given = refusal_text given ++ codes "\n"
+fault_line given = refusal_name given ++ (refusal_detail given ++ codes "\n")
 
 -- where a refusal is one of the input, its cause is the first that the input has
 abbrev pub IsOfInput : List (List ℕ) → Option (List ℕ) → Option (List ℕ) → Refusal → Type 0
@@ -122,12 +139,22 @@ abbrev pub IsTold : List ℕ → Option (List ℕ) → Option (List ℕ) → ℕ
 IsTold line received received_now faults faults_now wants wants_now =
     Appends received received_now line ⊎ (AppendsPrefix received received_now line × (Rose faults faults_now ⊎ Rose wants wants_now))
 
--- a sink received a text, or a prefix of it where one of its counts rose; an answer tells which
-abbrev pub IsTelling : Bool → List ℕ → Option (List ℕ) → Option (List ℕ) → ℕ → ℕ → ℕ → ℕ → Type 0
-IsTelling true text received received_now faults faults_now wants wants_now =
-    Appends received received_now text × (faults ≤ faults_now) × (wants ≤ wants_now)
-IsTelling false text received received_now faults faults_now wants wants_now =
-    AppendsPrefix received received_now text × (Rose faults faults_now ⊎ Rose wants wants_now)
+-- what a sink received, and its counts of faults and of wants
+pub record SinkView : Type 0 where
+  pub received : Option (List ℕ)
+  pub faults : ℕ
+  pub wants : ℕ
+
+abbrev pub sink_view : Option (List ℕ) → ℕ → ℕ → SinkView
+sink_view received faults wants = record { received = received; faults = faults; wants = wants }
+
+-- a sink received a text, where the answer is so, and else a prefix of it, and then one of its counts rose
+pub record IsTelling (answer : Bool) (text : List ℕ) (before now : SinkView) : Type 0 where
+  pub all : answer ≡ true → Appends before.received now.received text
+  pub part : AppendsPrefix before.received now.received text
+  pub rose : answer ≡ false → Rose before.faults now.faults ⊎ Rose before.wants now.wants
+  pub later : before.faults ≤ now.faults
+  pub later_wants : before.wants ≤ now.wants
 
 -- ---- what a conversion answers
 

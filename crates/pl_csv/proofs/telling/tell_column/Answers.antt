@@ -1,0 +1,15 @@
+use Rattle.std.specs.Prelude.{◌++◌, codes, decimal}
+use Rattle.pl_csv.specs.Run.{kind_name}
+use Rattle.std.proofs.Common.{subst}
+use Rattle.pl_csv.specs.Run.{sink_view, IsTelling}
+use Rattle.pl_csv.proofs.TellLaws.{telling-cut, telling-then}
+use Rattle.pl_csv.proofs.telling.tell_column.Goals as goal
+
+pub returns-then-not-tell_counted : goal.returns-then-not-tell_counted
+returns-then-not-tell_counted g c = telling-cut (codes " column " ++ decimal c.args.column) (codes " " ++ kind_name c.args.kind) (sink_view (g.Se.Sink.received c.args.sink.now) (g.Se.Sink.faults c.args.sink.now) (g.Se.Sink.wants c.args.sink.now)) (sink_view (g.Se.Sink.received c.tell_counted.new.sink) (g.Se.Sink.faults c.tell_counted.new.sink) (g.Se.Sink.wants c.tell_counted.new.sink)) c.if-not-tell_counted.ensures
+
+pub returns : goal.returns
+returns g c =
+    let front = codes " column " ++ decimal c.args.column in
+    let told = telling-then front (codes " " ++ c.kind_name.result.now) c.tell_both.result (sink_view (g.Se.Sink.received c.args.sink.now) (g.Se.Sink.faults c.args.sink.now) (g.Se.Sink.wants c.args.sink.now)) (sink_view (g.Se.Sink.received c.tell_counted.new.sink) (g.Se.Sink.faults c.tell_counted.new.sink) (g.Se.Sink.wants c.tell_counted.new.sink)) (sink_view (g.Se.Sink.received c.tell_both.new.sink) (g.Se.Sink.faults c.tell_both.new.sink) (g.Se.Sink.wants c.tell_both.new.sink)) c.if-not-tell_counted.ensures c.tell_both.ensures in
+    subst (λ name. IsTelling c.tell_both.result (front ++ (codes " " ++ name)) (sink_view (g.Se.Sink.received c.args.sink.now) (g.Se.Sink.faults c.args.sink.now) (g.Se.Sink.wants c.args.sink.now)) (sink_view (g.Se.Sink.received c.tell_both.new.sink) (g.Se.Sink.faults c.tell_both.new.sink) (g.Se.Sink.wants c.tell_both.new.sink))) c.kind_name.ensures told

@@ -1,0 +1,10 @@
+use Rattle.std.specs.Prelude.{decimal}
+use Rattle.pl_csv.specs.Run.{sink_view}
+use Rattle.pl_csv.proofs.TellLaws.{telling-cut, telling-then}
+use Rattle.pl_csv.proofs.telling.tell_counted.Goals as goal
+
+pub returns-then-not-tell : goal.returns-then-not-tell
+returns-then-not-tell g c = telling-cut (c.args.text.now) (decimal c.args.number) (sink_view (g.Se.Sink.received c.args.sink.now) (g.Se.Sink.faults c.args.sink.now) (g.Se.Sink.wants c.args.sink.now)) (sink_view (g.Se.Sink.received c.tell.new.sink) (g.Se.Sink.faults c.tell.new.sink) (g.Se.Sink.wants c.tell.new.sink)) c.if-not-tell.ensures
+
+pub returns : goal.returns
+returns g c = telling-then (c.args.text.now) (decimal c.args.number) c.tell_number.result (sink_view (g.Se.Sink.received c.args.sink.now) (g.Se.Sink.faults c.args.sink.now) (g.Se.Sink.wants c.args.sink.now)) (sink_view (g.Se.Sink.received c.tell.new.sink) (g.Se.Sink.faults c.tell.new.sink) (g.Se.Sink.wants c.tell.new.sink)) (sink_view (g.Se.Sink.received c.tell_number.new.sink) (g.Se.Sink.faults c.tell_number.new.sink) (g.Se.Sink.wants c.tell_number.new.sink)) c.if-not-tell.ensures c.tell_number.ensures

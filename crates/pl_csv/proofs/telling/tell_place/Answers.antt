@@ -1,0 +1,11 @@
+use Rattle.std.specs.Prelude.{◌++◌, codes, decimal}
+use Rattle.pl_csv.specs.Run.{kind_name}
+use Rattle.pl_csv.specs.Run.{sink_view}
+use Rattle.pl_csv.proofs.TellLaws.{telling-cut, telling-then}
+use Rattle.pl_csv.proofs.telling.tell_place.Goals as goal
+
+pub returns-then-not-tell_counted : goal.returns-then-not-tell_counted
+returns-then-not-tell_counted g c = telling-cut (codes " " ++ decimal c.args.row) ((codes " column " ++ decimal c.args.column) ++ (codes " " ++ kind_name c.args.kind)) (sink_view (g.Se.Sink.received c.args.sink.now) (g.Se.Sink.faults c.args.sink.now) (g.Se.Sink.wants c.args.sink.now)) (sink_view (g.Se.Sink.received c.tell_counted.new.sink) (g.Se.Sink.faults c.tell_counted.new.sink) (g.Se.Sink.wants c.tell_counted.new.sink)) c.if-not-tell_counted.ensures
+
+pub returns : goal.returns
+returns g c = telling-then (codes " " ++ decimal c.args.row) ((codes " column " ++ decimal c.args.column) ++ (codes " " ++ kind_name c.args.kind)) c.tell_column.result (sink_view (g.Se.Sink.received c.args.sink.now) (g.Se.Sink.faults c.args.sink.now) (g.Se.Sink.wants c.args.sink.now)) (sink_view (g.Se.Sink.received c.tell_counted.new.sink) (g.Se.Sink.faults c.tell_counted.new.sink) (g.Se.Sink.wants c.tell_counted.new.sink)) (sink_view (g.Se.Sink.received c.tell_column.new.sink) (g.Se.Sink.faults c.tell_column.new.sink) (g.Se.Sink.wants c.tell_column.new.sink)) c.if-not-tell_counted.ensures c.tell_column.ensures

@@ -1,5 +1,5 @@
 -- The read behind the causes that speak of the settings and the first bytes alone.
-use Rattle.std.proofs.Common.{◌≡◌, ℕ, Bool, true, List, [], ◌∷◌, refl, sym, ◌∙◌, ap}
+use Rattle.std.proofs.Common.{◌≡◌, ℕ, true, List, [], ◌∷◌, refl, sym, ◌∙◌, ap}
 use Rattle.std.specs.Prelude.{Option, None, Some, unwrap_or, is_none}
 use Rattle.std.specs.Option.{option_map, option_and_then, option_copied}
 use Rattle.std.specs.Borrow.{Bor}
@@ -30,8 +30,7 @@ pub IsValidRead-frame : (s : Settings) (input records : List ℕ) (frame : List 
     → first_faulty (rules_of s) (types_of s.schema) 0 (data_rows s records) ≡ None → frame ≡ frame_of_rows (rules_of s) s.schema (data_rows s records) → IsValidRead s input frame
 IsValidRead-frame s input records frame may known start whole is =
     let no_fault : faulty_record s records ≡ None = rw whole refl in
-    let none : None ≡ first_later s (unknown_null s) (data_of s input) = rw (known, start, no_fault) refl in
-    (
+    let none : None ≡ first_later s (unknown_null s) (data_of s input) = rw (known, start, no_fault) refl in (
       may.quote,
       (later s input may none, is ∙ ap (λ (o : Option (List ℕ)). frame_of_rows (rules_of s) s.schema (data_rows s (unwrap_or o []))) (sym start)),
     )

@@ -1,7 +1,7 @@
 -- The columns of a schema by their places.
-use Rattle.std.proofs.Common.{◌≡◌, ℕ, zero, suc, ◌+◌, ◌<◌, Bool, true, false, not, List, [], ◌∷◌, ◌++◌, map, length, get_or, refl, sym, ◌∙◌, ap, add-one, arith}
-use Rattle.std.specs.Prelude.{Option, None, Some, find, position}
-use Rattle.std.specs.List.{range_with_len, list_any, slice_index}
+use Rattle.std.proofs.Common.{◌≡◌, ℕ, zero, suc, ◌+◌, ◌<◌, Bool, true, false, not, List, [], ◌∷◌, ◌++◌, map, length, get_or, refl, ◌∙◌, ap, add-one, arith}
+use Rattle.std.specs.Prelude.{Option, None, Some, find}
+use Rattle.std.specs.List.{range_with_len, slice_index}
 use Rattle.std.proofs.lemmas.List.FromFn.{length-range_with_len, get_or-range_with_len}
 use Rattle.pl_frame.specs.declared.error.ComputeFault.TheVariants as compute
 use Rattle.pl_frame.specs.declared.error.PolarsError.{PolarsError}

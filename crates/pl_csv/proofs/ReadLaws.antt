@@ -1,5 +1,5 @@
 -- The rows of a text, one after another.
-use Rattle.std.proofs.Common.{◌≡◌, ◌≢◌, ℕ, zero, suc, ◌+◌, ◌<◌, ◌≤◌, true, false, ◌==◌, not, Bool, cond, List, [], ◌∷◌, ◌++◌, map, length, take, drop, refl, sym, ◌∙◌, ap, subst, append_assoc, append-nil, arith, length-drop}
+use Rattle.std.proofs.Common.{◌≡◌, ℕ, zero, suc, ◌+◌, ◌<◌, ◌≤◌, true, false, ◌==◌, not, Bool, cond, List, [], ◌∷◌, ◌++◌, map, length, take, drop, refl, sym, ◌∙◌, ap, subst, append_assoc, append-nil, arith, length-drop}
 use Rattle.std.specs.Prelude.{Option, None, Some, take_while}
 use Rattle.std.specs.List.{filter_map, cons_option, prefix_len}
 use Rattle.std.proofs.lemmas.List.{length-take-le, drop-drop}
@@ -16,7 +16,7 @@ use Rattle.pl_scan.proofs.RecordLaws.{fields-text}
 use Rattle.pl_csv.specs.declared.rows.RowFault.{RowFault}
 use Rattle.pl_csv.specs.declared.rows.RowFault.TheVariants as row_fault
 use Rattle.pl_cells.specs.Cells.{value_of}
-use Rattle.pl_cells.specs.Buffers.{BufferValue, with_value}
+use Rattle.pl_cells.specs.Buffers.{BufferValue}
 use Rattle.pl_csv.specs.Cells.{RowRules, cell}
 use Rattle.pl_csv.specs.Reading.{Row, items_behind_within, items_behind, row_of, row_at, rows, first_fault, first_faulty, field_at}
 use Rattle.pl_csv.specs.Rows.{state_types, with_row, with_rows, FollowRules, IsRowFault, IsRecordFault, record_fault_of}

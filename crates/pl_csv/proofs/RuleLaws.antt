@@ -1,5 +1,5 @@
 -- Buffers that read by the rules, and columns that have their null texts.
-use Rattle.std.proofs.Common.{◌≡◌, ℕ, zero, suc, ◌+◌, ◌≤◌, List, [], ◌∷◌, map, drop, length, refl, sym, ap, subst, arith}
+use Rattle.std.proofs.Common.{◌≡◌, ℕ, zero, suc, ◌+◌, ◌≤◌, List, [], ◌∷◌, drop, refl, subst, arith}
 use Rattle.std.specs.Prelude.{Option, None, Some}
 use Rattle.std.specs.Borrow.{Bor}
 use Rattle.pl_frame.specs.Schema.{Entry}

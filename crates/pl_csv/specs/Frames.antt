@@ -1,6 +1,5 @@
 -- From a schema to buffers, and from buffers to columns.
-use Rattle.std.specs.Prelude.{ℕ, List, map}
-use Rattle.std.specs.List.{enumerate_from}
+use Rattle.std.specs.Prelude.{List, map}
 use Rattle.pl_frame.specs.Frame.{ColumnValue}
 use Rattle.pl_cells.specs.BufferState.{empty_buffer}
 use Rattle.pl_cells.specs.Buffers.{BufferValue, column_of}

@@ -17,7 +17,6 @@ use Rattle.pl_cells.specs.Cells.{NullTest, value_of}
 use Rattle.pl_cells.specs.NullValues.{HasColumns}
 use Rattle.pl_cells.specs.Quoting.{is_well_quoted, inside}
 use Rattle.pl_cells.specs.declared.null_values.NullValuesCompiled.{NullValuesCompiled}
-use Rattle.pl_cells.specs.declared.utf8.CsvEncoding.{CsvEncoding}
 use Rattle.pl_csv.specs.declared.rows.RowRest.{RowRest}
 use Rattle.pl_csv.specs.declared.rows.RowRest.TheVariants as rest
 use Rattle.pl_csv.specs.declared.rows.RowFault.{RowFault}

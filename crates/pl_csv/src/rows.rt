@@ -1,5 +1,5 @@
 //! Rows of fields into buffers, in one pass over the data.
-ghost use Rattle.std.specs.Prelude.{◌≡◌, ◌≢◌, ◌+◌, true, [], Ok, Err, Some, None, suc, length, drop, OnOk, IfOk, IfErr, MatchResult, not, ◌==◌};
+ghost use Rattle.std.specs.Prelude.{◌≡◌, ◌+◌, None, suc, length, drop, OnOk, IfOk, IfErr, MatchResult, not, ◌==◌};
 ghost use Rattle.std.specs.List.{prefix_len};
 ghost use Rattle.std.specs.Option.{option_copied};
 ghost use Rattle.pl_frame.specs.Dialect.{marks, AreDistinct};

@@ -1,4 +1,4 @@
-use Rattle.std.proofs.Common.{◌≡◌, length, sym, ◌∙◌, ap, subst}
+use Rattle.std.proofs.Common.{◌≡◌, length, ◌∙◌, ap, subst}
 use Rattle.std.specs.List.{range_with_len}
 use Rattle.pl_cells.specs.BufferState.{empty_buffers, first_unreadable, IsTypeFault}
 use Rattle.pl_csv.proofs.PlaceLaws.{places_below, empty_buffers-all, all_readable}

@@ -1,8 +1,8 @@
-use Rattle.std.proofs.Common.{◌≡◌, length, sym, ◌∙◌, ap, subst, arith}
+use Rattle.std.proofs.Common.{◌≡◌, sym, ◌∙◌, ap, subst, arith}
 use Rattle.pl_frame.specs.Dialect.{marks}
 use Rattle.pl_frame.specs.Frame.{IsFrame}
 use Rattle.pl_scan.specs.Comment.{prefix_of}
-use Rattle.pl_csv.specs.Reading.{rows, first_faulty, types_of, frame_of_rows}
+use Rattle.pl_csv.specs.Reading.{rows, first_faulty}
 use Rattle.pl_csv.specs.Rows.{FollowRules, IsRecordFault, stated_rules, states, state_types, with_rows}
 use Rattle.pl_csv.specs.Frames.{columns_of, empty_columns}
 use Rattle.pl_csv.proofs.FrameLaws.{IsFrame-rows, state_types-empty, columns_of-rows, written_back}

@@ -1,4 +1,4 @@
-use Rattle.std.proofs.Common.{◌≡◌, ◌<◌, ◌≤◌, ◌+◌, suc, Ok, ◌++◌, ◌∷◌, [], set, get_or, length, drop, refl, sym, ◌∙◌, ap, subst, arith}
+use Rattle.std.proofs.Common.{◌≡◌, ◌<◌, ◌≤◌, ◌+◌, suc, Ok, ◌∷◌, set, get_or, length, drop, refl, sym, ◌∙◌, ap, subst, arith}
 use Rattle.std.proofs.lemmas.List.{get_or-map, map-set, length-map, drop_more}
 use Rattle.pl_frame.specs.Dialect.{marks}
 use Rattle.pl_scan.specs.Fields.{fields}

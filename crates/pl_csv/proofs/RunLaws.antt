@@ -182,10 +182,10 @@ pub record Says (words : List (List ℕ)) (before now : Views) (status : ℕ) : 
   pub option : status ≡ 12 → Refuses words before now cause.Option
   pub quote : status ≡ 13 → Refuses words before now cause.Quote
   pub compressed : status ≡ 14 → Refuses words before now cause.Compressed
-  pub dtype : status ≡ 18 → (column : ℕ) × Refuses words before now (cause.Dtype column)
-  pub not_found : status ≡ 19 → (name : List ℕ) × Refuses words before now (cause.NotFound name)
+  pub dtype : status ≡ 18 → (column : ℕ) × HasCause words before.left now.left (cause.Dtype column) × Keeps before.received now.received
+  pub not_found : status ≡ 19 → (name : List ℕ) × HasCause words before.left now.left (cause.NotFound name) × Keeps before.received now.received
   pub skip : status ≡ 20 → Refuses words before now cause.Skip
-  pub faulty : status ≡ 24 → (row : ℕ) × (column : ℕ) × (kind : FaultKind) × Refuses words before now (cause.Record row column kind)
+  pub faulty : status ≡ 24 → (row : ℕ) × (column : ℕ) × (kind : FaultKind) × HasCause words before.left now.left (cause.Record row column kind) × Keeps before.received now.received
 
 -- statuses that differ
 differ : {X : Type 0} (a b : ℕ) → nat_eq a b ≡ false → a ≡ b → X
@@ -337,7 +337,7 @@ says-refused words before now (refusal.Input (cause.Dtype column)) is = record {
   option = λ e. differ 18 12 refl e;
   quote = λ e. differ 18 13 refl e;
   compressed = λ e. differ 18 14 refl e;
-  dtype = λ e. (column, is);
+  dtype = λ e. (column, is.0, is.1);
   not_found = λ e. differ 18 19 refl e;
   skip = λ e. differ 18 20 refl e;
   faulty = λ e. differ 18 24 refl e;
@@ -353,7 +353,7 @@ says-refused words before now (refusal.Input (cause.NotFound name)) is = record 
   quote = λ e. differ 19 13 refl e;
   compressed = λ e. differ 19 14 refl e;
   dtype = λ e. differ 19 18 refl e;
-  not_found = λ e. (name, is);
+  not_found = λ e. (name, is.0, is.1);
   skip = λ e. differ 19 20 refl e;
   faulty = λ e. differ 19 24 refl e;
 }
@@ -385,7 +385,7 @@ says-refused words before now (refusal.Input (cause.Record row column kind)) is 
   dtype = λ e. differ 24 18 refl e;
   not_found = λ e. differ 24 19 refl e;
   skip = λ e. differ 24 20 refl e;
-  faulty = λ e. (row, column, kind, is);
+  faulty = λ e. (row, column, kind, is.0, is.1);
 }
 
 -- the same of a status that is told

@@ -1,18 +1,14 @@
 -- The schema of a text, entry by entry.
-use Rattle.std.proofs.Common.{◌≡◌, ℕ, ◌+◌, ◌-◌, ◌*◌, ◌^◌, ◌<◌, ◌≤◌, Bool, true, false, not, cond, if◌then◌else◌, ◌&&◌, ◌||◌, ◌==◌, List, [], ◌∷◌, ◌++◌, map, length, position, suc, refl, sym, ◌∙◌, ap, append_assoc, append-nil, arith, lit<}
-use Rattle.std.specs.Prelude.{Option, Some, None, codes, is_some, slice_set, MatchOption, ◌≢◌}
-use Rattle.std.specs.Borrow.{Bor}
-use Rattle.std.specs.List.{list_all, list_any, position_or_len, slice_split, onto_first, before_first, after_first}
+use Rattle.std.proofs.Common.{◌≡◌, ℕ, ◌+◌, ◌-◌, ◌*◌, ◌^◌, ◌<◌, ◌≤◌, Bool, true, false, not, if◌then◌else◌, ◌&&◌, ◌||◌, ◌==◌, List, [], ◌∷◌, ◌++◌, map, length, position, suc, refl, sym, ◌∙◌, ap, append_assoc, append-nil, arith, lit<}
+use Rattle.std.specs.Prelude.{Option, Some, None, codes, is_some, slice_set, ◌≢◌}
+use Rattle.std.specs.List.{list_any}
 use Rattle.std.specs.Option.{option_map, option_map_or, option_and_then}
 use Rattle.std.specs.Str.{bytes_eq, all_ascii_digits}
 use Rattle.std.proofs.lemmas.List.{map-append}
 use Rattle.std.proofs.lemmas.List.Folds.{list_any-append, list_any_at}
 use Rattle.std.proofs.lemmas.List.Quantifiers.{position-Some}
-use Rattle.std.proofs.lemmas.List.Splits.{slice_split-cons_no, slice_split_first}
-use Rattle.std.proofs.lemmas.Str.Pattern.{IsSplitOnceResult, split_once_first}
 use Rattle.std.proofs.lemmas.Slice.Eq.{bytes_eq-Decides}
 use Rattle.pl_frame.specs.declared.data_type.DataType.{DataType}
-use Rattle.pl_frame.specs.declared.data_type.DataType.TheVariants as dtype
 use Rattle.pl_frame.specs.Schema.{names_in, place_of, with_type}
 use Rattle.pl_frame.proofs.SchemaLaws.{none_passes}
 use Rattle.pl_csv.specs.Settings.{SchemaValue}
@@ -27,6 +23,8 @@ use Rattle.pl_csv.specs.Words.{ Part, parts_of, count_of, once, with_value, with
 use Rattle.pl_csv.specs.declared.settings.Settings.{Settings}
 use Rattle.pl_csv.specs.declared.options.Given.{Given}
 use Rattle.pl_csv.specs.declared.output.GivenOutput.{GivenOutput}
+use Rattle.pl_cells.specs.declared.null_values.NullValues.{NullValues}
+use Rattle.pl_cells.specs.declared.null_values.NullValues.TheVariants as values
 use Rattle.pl_scan.specs.Comment.{prefix_from}
 use Rattle.pl_scan.specs.declared.comment.CommentPrefix.{CommentPrefix}
 
@@ -240,6 +238,13 @@ pub with_value-comment : (given : Given) (name value : List ℕ) (prefix : Optio
 with_value-comment given name [] prefix some is e = absurd (omega (arith, some))
 with_value-comment given name (x ∷ xs) prefix some is e =
     ap (λ n. with_value given n (x ∷ xs)) is ∙ ap (option_map (λ (o : Option CommentPrefix). record given { comment_prefix = o })) e
+
+-- texts that mean null
+pub with_value-nulls : (given : Given) (name value : List ℕ) (nulls : Option NullValues) → 0 < length value → name ≡ codes "--nulls"
+    → once given.null_values (Some (values.AllColumns (parts_at 44 value))) ≡ Some nulls → with_value given name value ≡ Some (record given { null_values = nulls })
+with_value-nulls given name [] nulls some is e = absurd (omega (arith, some))
+with_value-nulls given name (x ∷ xs) nulls some is e =
+    ap (λ n. with_value given n (x ∷ xs)) is ∙ ap (option_map (λ (o : Option NullValues). record given { null_values = o })) e
 
 -- a name that is none of the input's
 pub with_value-other : (given : Given) (name value : List ℕ) → 0 < length value

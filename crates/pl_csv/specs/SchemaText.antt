@@ -1,5 +1,5 @@
 -- The text of a schema (docs/command-line.md, "Schema text").
-use Rattle.std.specs.Prelude.{ℕ, Bool, true, false, not, ◌&&◌, nat_le, if◌then◌else◌, List, [], ◌∷◌, map, length, codes, Option, None, Some}
+use Rattle.std.specs.Prelude.{ℕ, Bool, true, not, ◌&&◌, nat_le, if◌then◌else◌, List, [], ◌∷◌, map, length, codes, Option, None, Some}
 use Rattle.std.specs.List.{list_any}
 use Rattle.std.specs.Option.{option_map, option_and_then}
 use Rattle.std.specs.Str.{bytes_eq}

@@ -1,18 +1,14 @@
 -- The words of the command line and the text of a schema (docs/command-line.md).
-use Rattle.std.specs.Prelude.{ℕ, ◌+◌, ◌-◌, ◌*◌, Bool, true, false, not, ◌&&◌, ◌==◌, ◌≡◌, nat_lt, nat_le, if◌then◌else◌, List, [], ◌∷◌, map, length, codes, Option, None, Some, MatchOption}
+use Rattle.std.specs.Prelude.{ℕ, ◌+◌, ◌-◌, ◌*◌, Bool, true, false, not, ◌&&◌, ◌==◌, nat_lt, nat_le, if◌then◌else◌, List, [], ◌∷◌, map, length, codes, Option, None, Some}
 use Rattle.std.specs.List.{list_any}
 use Rattle.std.specs.Option.{option_map, option_and_then, unwrap_or}
 use Rattle.std.specs.Str.{bytes_eq}
-use Rattle.pl_frame.specs.declared.data_type.DataType.{DataType}
-use Rattle.pl_frame.specs.declared.data_type.DataType.TheVariants as dtype
-use Rattle.pl_frame.specs.Schema.{names_in}
 use Rattle.pl_scan.specs.Comment.{prefix_from}
 use Rattle.pl_csv.specs.declared.settings.Settings.{Settings}
 use Rattle.pl_csv.specs.declared.options.Given.{Given}
 use Rattle.pl_csv.specs.declared.output.GivenOutput.{GivenOutput}
 use Rattle.pl_cells.specs.Integers.{is_digits, number_of}
 use Rattle.pl_cells.specs.NullValues.{NamedTexts}
-use Rattle.pl_cells.specs.declared.null_values.NullValues.{NullValues}
 use Rattle.pl_cells.specs.declared.null_values.NullValues.TheVariants as values
 use Rattle.pl_cells.specs.declared.utf8.CsvEncoding.{CsvEncoding}
 use Rattle.pl_cells.specs.declared.utf8.CsvEncoding.TheVariants as encoding

@@ -1,6 +1,6 @@
 use Rattle.std.proofs.Common.{sym, ◌∙◌}
 use Rattle.std.proofs.lemmas.Result.{on_ok_weaker}
-use Rattle.pl_csv.proofs.WordLaws.{nonempty, with_value-comment, with_value-other, with_value-output, with_value-none}
+use Rattle.pl_csv.proofs.WordLaws.{nonempty, with_value-comment, with_value-nulls, with_value-other, with_value-output, with_value-none}
 use Rattle.pl_csv.proofs.options.give_value.Goals as goal
 
 pub returns-in-text-5-clause-given : goal.returns-in-text-5-clause-given
@@ -8,6 +8,12 @@ returns-in-text-5-clause-given c =
     on_ok_weaker c.give_comment.result
     (with_value-comment c.args.given.now c.args.name.now c.args.value.now c.give_comment.new.given (nonempty c.args.value.now (sym c.is_empty.ensures ∙ c.if-is_empty.false)) c.in-text-5.is)
     c.give_comment.ensures.given
+
+pub returns-in-text-10-clause-given : goal.returns-in-text-10-clause-given
+returns-in-text-10-clause-given c =
+    on_ok_weaker c.give_null_list.result
+    (with_value-nulls c.args.given.now c.args.name.now c.args.value.now c.give_null_list.new.given (nonempty c.args.value.now (sym c.is_empty.ensures ∙ c.if-is_empty.false)) c.in-text-10.is)
+    c.give_null_list.ensures.given
 
 pub returns-in_default-clause-given : goal.returns-in_default-clause-given
 returns-in_default-clause-given c =

@@ -1,6 +1,6 @@
-use Rattle.std.proofs.Common.{◌≡◌, ℕ, map, string_bytes, sym, subst, inl, inr, refl}
-use Rattle.pl_csv.specs.Run.{views, EndsAsDue, IsOfInput, IsLine, IsRefused, fault_line}
-use Rattle.pl_csv.proofs.RunLaws.{Says, due-converted, due-refused, said, of_input}
+use Rattle.std.proofs.Common.{map, string_bytes, sym, subst, inr, refl}
+use Rattle.pl_csv.specs.Run.{views, EndsAsDue, fault_line}
+use Rattle.pl_csv.proofs.RunLaws.{due-converted, due-refused, said, of_input}
 use Rattle.pl_csv.proofs.run.run.Goals as goal
 
 pub returns-in-Ok-clause-due : goal.returns-in-Ok-clause-due
@@ -22,7 +22,7 @@ returns-in-Err-clause-told g c =
     let words = map string_bytes c.args.words.now in
     let before = views (g.So.Source.left c.args.source.now) (g.Si.Sink.received c.args.out.now) (g.So.Source.faults c.args.source.now) (g.Si.Sink.faults c.args.out.now) in
     let now = views (g.So.Source.left c.convert.new.source) (g.Si.Sink.received c.convert.new.out) (g.So.Source.faults c.convert.new.source) (g.Si.Sink.faults c.convert.new.out) in
-    (fault_line c.in-Err.refusal, (inr (c.in-Err.refusal, (c.status.ensures, of_input words before now c.in-Err.refusal c.in-Err.ensures.refused, refl)), c.tell_refusal.ensures.told))
+    (fault_line c.in-Err.refusal, inr (c.in-Err.refusal, c.status.ensures, of_input words before now c.in-Err.refusal c.in-Err.ensures.refused, refl), c.tell_refusal.ensures.told)
 
 pub returns-in-Err-clause-words_form : goal.returns-in-Err-clause-words_form
 returns-in-Err-clause-words_form g c =

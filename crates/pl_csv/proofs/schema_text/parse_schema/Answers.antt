@@ -1,5 +1,5 @@
 use Rattle.std.proofs.Common.{map, sym, ◌∙◌, ap}
-use Rattle.pl_csv.specs.SchemaText.{entry_of, schema_of}
+use Rattle.pl_csv.specs.SchemaText.{entry_of}
 use Rattle.pl_csv.specs.Splitting.{parts_at}
 use Rattle.pl_csv.proofs.WordLaws.{with_entries, schema_of-entries}
 use Rattle.pl_csv.proofs.schema_text.parse_schema.Goals as goal

@@ -1,2 +1,4 @@
+pub mod Left
 pub mod Options
+pub mod Serializing
 pub mod Writing

@@ -1,11 +1,13 @@
 //! Frames written as CSV: the text of each cell, and of a whole frame.
 #![tactic(auto)]
 
+pub mod cells;
 pub mod csv_writer;
 pub mod dates;
 pub mod decimals;
 pub mod digits;
 pub mod options;
+pub mod serializer;
 pub mod texts;
 pub mod times;
 mod values;

@@ -6,6 +6,7 @@ ghost use Rattle.pl_frame.specs.Types.{is_within, datetime_range, range_of, unit
 ghost use Rattle.pl_frame.specs.Printed.{datetime_text, number_text, printed};
 ghost use Rattle.pl_frame.specs.Text.{kind_of, written_value};
 ghost use Rattle.pl_write.specs.Options.{cell_options, in_range, style_number, is_number_kind, is_bare};
+ghost use Rattle.pl_write.specs.Writing.{StaysInFront};
 
 use crate::dates::push_date;
 use crate::decimals::push_decimal;
@@ -16,9 +17,11 @@ use pl_frame::data_type::DataType;
 use std::alloc::AllocError;
 
 // Appends a whole number of any width.
+#[tactic(auto, using(crate::proofs::KeptLaws::keeping))]
 #[inline]
 fn push_whole(block: &mut Vec<u8>, number: i128) -> Result<(), AllocError>
-    ensures { OnOk result (block.new.items ≡ block.old.items ++ signed_decimal number) }
+    ensures text { OnOk result (block.new.items ≡ block.old.items ++ signed_decimal number) }
+    ensures kept { StaysInFront block.old.items block.new.items }
 {
     let mut digits = itoa::Buffer::new();
     match i64::try_from(number) {
@@ -28,10 +31,12 @@ fn push_whole(block: &mut Vec<u8>, number: i128) -> Result<(), AllocError>
 }
 
 // Appends a day or a time of the day, which fits 64 bits.
+#[tactic(auto, using(crate::proofs::KeptLaws::keeping))]
 #[inline]
 fn push_number(block: &mut Vec<u8>, dtype: &DataType, number: i128) -> Result<(), AllocError>
     requires { in_range dtype.now number ≡ true }
-    ensures { OnOk result (block.new.items ≡ block.old.items ++ number_text dtype.now number) }
+    ensures text { OnOk result (block.new.items ≡ block.old.items ++ number_text dtype.now number) }
+    ensures kept { StaysInFront block.old.items block.new.items }
 {
     match dtype {
         DataType::Date => push_date(block, number as i64),
@@ -43,9 +48,11 @@ fn push_number(block: &mut Vec<u8>, dtype: &DataType, number: i128) -> Result<()
 }
 
 // Appends a truth value.
+#[tactic(auto, using(crate::proofs::KeptLaws::keeping))]
 #[inline]
 fn push_truth(block: &mut Vec<u8>, dtype: &DataType, truth: bool) -> Result<(), AllocError>
-    ensures { OnOk result (block.new.items ≡ block.old.items ++ printed dtype.now (Truth truth)) }
+    ensures text { OnOk result (block.new.items ≡ block.old.items ++ printed dtype.now (Truth truth)) }
+    ensures kept { StaysInFront block.old.items block.new.items }
 {
     if truth {
         block.extend_from_slice(b"true")
@@ -80,6 +87,7 @@ fn is_quoted(dtype: &DataType, style: QuoteStyle) -> bool
 
 /// Appends the cell of a number of the type, quoted as the style asks. `scratch` is a buffer for its own use, of which
 /// nothing is expected.
+#[tactic(auto, using(crate::proofs::KeptLaws::keeping))]
 #[inline]
 pub fn push_number_cell(
     block: &mut Vec<u8>,
@@ -89,7 +97,8 @@ pub fn push_number_cell(
     options: &SerializeOptions,
 ) -> Result<(), AllocError>
     requires { in_range dtype.now number ≡ true }
-    ensures { OnOk result (block.new.items ≡ block.old.items ++ written_value (cell_options options.now) (kind_of dtype.now) (number_text dtype.now number)) }
+    ensures text { OnOk result (block.new.items ≡ block.old.items ++ written_value (cell_options options.now) (kind_of dtype.now) (number_text dtype.now number)) }
+    ensures kept { StaysInFront block.old.items block.new.items }
 {
     if is_quoted(dtype, options.quote_style) {
         scratch.clear();
@@ -102,6 +111,7 @@ pub fn push_number_cell(
 
 /// Appends the cell of a truth value, quoted as the style asks. `scratch` is a buffer for its own use, of which nothing is
 /// expected.
+#[tactic(auto, using(crate::proofs::KeptLaws::keeping))]
 #[inline]
 pub fn push_truth_cell(
     block: &mut Vec<u8>,
@@ -110,7 +120,8 @@ pub fn push_truth_cell(
     truth: bool,
     options: &SerializeOptions,
 ) -> Result<(), AllocError>
-    ensures { OnOk result (block.new.items ≡ block.old.items ++ written_value (cell_options options.now) (kind_of dtype.now) (printed dtype.now (Truth truth))) }
+    ensures text { OnOk result (block.new.items ≡ block.old.items ++ written_value (cell_options options.now) (kind_of dtype.now) (printed dtype.now (Truth truth))) }
+    ensures kept { StaysInFront block.old.items block.new.items }
 {
     if is_quoted(dtype, options.quote_style) {
         scratch.clear();

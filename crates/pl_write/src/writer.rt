@@ -5,7 +5,7 @@ ghost use Rattle.pl_frame.specs.Causes.{Rose};
 ghost use Rattle.pl_frame.specs.Frame.{cell_at, HaveHeight, height_of, names_of};
 ghost use Rattle.pl_frame.specs.Text.{written_cell, written_text, row_line, header_line, head_text, byte_order_mark, text_of_frame};
 ghost use Rattle.pl_write.specs.Options.{cell_options, frame_options};
-ghost use Rattle.pl_write.specs.Writing.{separator_before, HasRow, AppendsPrefix};
+ghost use Rattle.pl_write.specs.Writing.{separator_before, HasRow, AppendsPrefix, StaysInFront};
 
 use crate::options::{CsvWriterOptions, SerializeOptions};
 use crate::texts::{push_null, push_text};
@@ -18,8 +18,9 @@ use std::alloc::{AllocError, Global};
 const BLOCK: usize = 1 << 17;
 
 // Appends the text of a cell.
+#[tactic(auto, using(crate::proofs::KeptLaws::keeping))]
 #[inline]
-fn push_cell(
+pub(crate) fn push_cell(
     block: &mut Vec<u8>,
     scratch: &mut Vec<u8>,
     column: &Column,
@@ -27,7 +28,8 @@ fn push_cell(
     options: &SerializeOptions,
 ) -> Result<(), AllocError>
     requires { row < length column.now.values }
-    ensures { OnOk result (block.new.items ≡ block.old.items ++ written_cell (cell_options options.now) column.now.dtype (cell_at column.now row)) }
+    ensures text { OnOk result (block.new.items ≡ block.old.items ++ written_cell (cell_options options.now) column.now.dtype (cell_at column.now row)) }
+    ensures kept { StaysInFront block.old.items block.new.items }
 {
     match column.get(row) {
         Value::Null => push_null(block, options),

@@ -12,5 +12,5 @@ loop-place-preserved c =
     let i = c.loop-place.place in
     let d = c.index-columns-place.result in
     let now = c.loop-place.block.items in
-    let next = c.in_ok-push_cell.ensures ∙ ap (λ l. l ++ f d) c.in_ok-push_separator.ensures ∙ ap (λ column. (now ++ separator_before c.args.options.now.separator i) ++ f column) c.index-columns-place.is in
+    let next = c.in_ok-push_cell.ensures.text ∙ ap (λ l. l ++ f d) c.in_ok-push_separator.ensures ∙ ap (λ column. (now ++ separator_before c.args.options.now.separator i) ++ f column) c.index-columns-place.is in
     joined_more c.args.options.now.separator f c.args.columns.now i d c.args.block.now.items now c.push_cell.new.block.items c.loop-place-test.true c.loop-place.invariant next

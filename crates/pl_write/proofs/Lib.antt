@@ -1,10 +1,12 @@
 mod BlockLaws
 mod DateLaws
+mod DigitLaws
 mod DoubledLaws
 mod HeldLaws
 pub mod KeptLaws
 mod LeftLaws
 mod LineLaws
+mod MarkLaws
 mod PaddedLaws
 mod TimeLaws
 pub mod WriteLaws

@@ -1,4 +1,5 @@
 pub mod Left
+pub mod Marks
 pub mod Options
 pub mod Serializing
 pub mod Writing

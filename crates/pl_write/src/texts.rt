@@ -1,21 +1,13 @@
 //! Texts and nulls as they are written.
 ghost use Rattle.std.specs.Prelude.{◌≡◌, ◌++◌, ◌∷◌, ◌==◌, ◌||◌, [], OnOk, if◌then◌else◌};
-ghost use Rattle.std.specs.List.{list_any};
 ghost use Rattle.pl_frame.specs.Text.{needs_quotes, doubled, quoted, quoted_null, written_text, written_null};
 ghost use Rattle.pl_write.specs.Options.{cell_options};
 ghost use Rattle.pl_write.specs.Writing.{StaysInFront};
 
+use crate::marks::holds_mark;
 use crate::options::{QuoteStyle, SerializeOptions};
 use memchr::memchr;
 use std::alloc::AllocError;
-
-// Whether a text holds what only a quoted text may hold.
-#[inline]
-fn holds_mark(text: &[u8], separator: u8, quote: u8) -> bool
-    ensures { result ≡ list_any (λ x. x == separator || x == 10 || x == 13 || x == quote) text.now }
-{
-    text.iter().any(|x| *x == separator || *x == b'\n' || *x == b'\r' || *x == quote)
-}
 
 // Whether a text is quoted where quotes are written only if necessary.
 #[inline]

@@ -1,6 +1,5 @@
 //! Values that are no texts, as they are written.
 ghost use Rattle.std.specs.Prelude.{◌≡◌, ◌++◌, true, not, unwrap_or, unsigned_abs, OnOk, if◌then◌else◌};
-ghost use Rattle.std.specs.Fmt.{signed_decimal};
 ghost use Rattle.pl_frame.specs.Frame.{Truth};
 ghost use Rattle.pl_frame.specs.Types.{is_within, datetime_range, range_of, units_in_second};
 ghost use Rattle.pl_frame.specs.Printed.{datetime_text, number_text, printed};
@@ -13,24 +12,11 @@ use crate::decimals::push_decimal;
 use crate::options::{QuoteStyle, SerializeOptions};
 use crate::texts::push_quoted;
 use crate::times::{push_datetime, push_time};
+use crate::wholes::push_whole;
 use pl_frame::data_type::DataType;
 use std::alloc::AllocError;
 
-// Appends a whole number of any width.
-#[tactic(auto, using(crate::proofs::KeptLaws::keeping))]
-#[inline]
-fn push_whole(block: &mut Vec<u8>, number: i128) -> Result<(), AllocError>
-    ensures text { OnOk result (block.new.items ≡ block.old.items ++ signed_decimal number) }
-    ensures kept { StaysInFront block.old.items block.new.items }
-{
-    let mut digits = itoa::Buffer::new();
-    match i64::try_from(number) {
-        Ok(number) => block.extend_from_slice(digits.format(number).as_bytes()),
-        Err(_) => block.extend_from_slice(digits.format(number).as_bytes()),
-    }
-}
-
-// Appends a day or a time of the day, which fits 64 bits.
+// Appends a number, as its type is printed.
 #[tactic(auto, using(crate::proofs::KeptLaws::keeping))]
 #[inline]
 fn push_number(block: &mut Vec<u8>, dtype: &DataType, number: i128) -> Result<(), AllocError>

@@ -9,4 +9,5 @@ mod LineLaws
 mod MarkLaws
 mod PaddedLaws
 mod TimeLaws
+pub mod WayLaws
 pub mod WriteLaws

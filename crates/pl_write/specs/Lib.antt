@@ -2,4 +2,5 @@ pub mod Left
 pub mod Marks
 pub mod Options
 pub mod Serializing
+pub mod Ways
 pub mod Writing

@@ -6,6 +6,7 @@ ghost use Rattle.pl_write.specs.Options.{cell_options};
 ghost use Rattle.pl_write.specs.Writing.{StaysInFront};
 
 use crate::options::SerializeOptions;
+use crate::ways::Way;
 use crate::writer::push_cell;
 use pl_frame::column::Column;
 use std::alloc::AllocError;
@@ -60,7 +61,14 @@ impl<'a> Cells<'a> {
         // `len` is called for its clause: a row is no more than the number of rows.
         let _len = self.column.len();
         let mut scratch = Vec::new(*buf.allocator());
-        push_cell(buf, &mut scratch, self.column, self.next, options)?;
+        push_cell(
+            buf,
+            &mut scratch,
+            self.column,
+            Way::ByCell,
+            self.next,
+            options,
+        )?;
         self.next += 1;
         Ok(())
     }

@@ -12,5 +12,6 @@ pub mod serializer;
 pub mod texts;
 pub mod times;
 mod values;
+pub mod ways;
 pub mod wholes;
 pub mod writer;

@@ -49,7 +49,7 @@ pub fn push_quoted(block: &mut Vec<u8>, text: &[u8], quote: u8) -> Result<(), Al
 // Appends a text, quoted where it is empty or holds the separator, a line feed, a carriage return or the quote.
 #[tactic(auto, using(crate::proofs::KeptLaws::keeping))]
 #[inline]
-fn push_as_needed(
+pub(crate) fn push_as_needed(
     block: &mut Vec<u8>,
     text: &[u8],
     separator: u8,

@@ -1,5 +1,5 @@
 -- From a vector's mask to bytes that are no marks.
-use Rattle.std.proofs.Common.{◌≡◌, ℕ, zero, suc, ◌+◌, ◌-◌, ◌%◌, ◌^◌, ◌<◌, ◌≤◌, Bool, true, false, not, ◌||◌, cond, ◌==◌, eqb, List, [], ◌∷◌, length, get_or, map, replicate, bit_or, refl, sym, ap, ap₂, ◌∙◌, arith}
+use Rattle.std.proofs.Common.{◌≡◌, ℕ, suc, ◌+◌, ◌-◌, ◌%◌, ◌^◌, ◌<◌, ◌≤◌, Bool, true, false, not, ◌||◌, cond, ◌==◌, eqb, List, [], ◌∷◌, length, get_or, map, replicate, bit_or, refl, sym, ap, ap₂, ◌∙◌, arith}
 use Rattle.std.proofs.lemmas.Bool.{not-true, eqb-true}
 use Rattle.std.proofs.lemmas.Simd.{length-chunk, leading_from_mask_l, get_or-chunk, zip2_splat, mask_l-mod}
 use Rattle.std.proofs.lemmas.List.{length-map}

@@ -1,5 +1,5 @@
 -- The ways in which columns are written.
-use Rattle.std.proofs.Common.{◌≡◌, ◌≢◌, ℕ, ℤ, zero, suc, ◌<◌, Bool, true, false, if◌then◌else◌, ◌==◌, List, [], ◌∷◌, ◌++◌, length, get_or, refl, sym, ap, true≢false, arith}
+use Rattle.std.proofs.Common.{◌≡◌, ℕ, zero, suc, ◌<◌, Bool, true, false, if◌then◌else◌, ◌==◌, List, [], ◌∷◌, ◌++◌, length, get_or, refl, sym, ap, true≢false, arith}
 use Rattle.pl_frame.specs.declared.data_type.DataType.{DataType}
 use Rattle.pl_frame.specs.declared.data_type.DataType.TheVariants as dtype
 use Rattle.pl_frame.specs.Frame.{ColumnValue}

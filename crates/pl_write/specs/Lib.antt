@@ -1,2 +1,6 @@
+pub mod Left
+pub mod Marks
 pub mod Options
+pub mod Serializing
+pub mod Ways
 pub mod Writing

@@ -1,5 +1,5 @@
 -- What a row and a line are made of.
-use Rattle.std.specs.Prelude.{◌≡◌, ℕ, ◌<◌, ◌≤◌, zero, suc, List, [], ◌∷◌, length, take, Option}
+use Rattle.std.specs.Prelude.{◌≡◌, ℕ, ◌<◌, ◌≤◌, zero, suc, List, [], ◌∷◌, ◌++◌, length, take, Option}
 use Rattle.std.specs.Io.KnownBytes.{Appends, Keeps}
 use Rattle.std.specs.List.{AllByRecursion}
 use Rattle.pl_frame.specs.Causes.{Rose}
@@ -14,6 +14,11 @@ use Rattle.pl_write.specs.declared.options.CsvWriterOptions.{CsvWriterOptions}
 abbrev pub separator_before : ℕ → ℕ → List ℕ
 separator_before separator zero = []
 separator_before separator (suc place) = separator ∷ []
+
+-- bytes grew at their end, or not at all: the old ones stay in front
+pub record StaysInFront (old new : List ℕ) : Type 0 where
+  pub added : List ℕ
+  pub is : new ≡ old ++ added
 
 -- every column has the row
 abbrev pub HasRow : ℕ → List ColumnValue → Type 0

@@ -133,6 +133,17 @@ impl<S: Sink> CsvWriter<S> {
     }
 }
 
+impl<S: Sink + Drop> CsvWriter<S> {
+    /// Sets all of these options; sink and threads stay. Refuses only want of memory.
+    pub fn with_options(mut self, options: &CsvWriterOptions) -> PolarsResult<Self>
+        ensures set { IfOk result (λ made. made ≡ with_change (λ _. options.now) self) }
+        ensures refused { IsOkUnless result error.OutOfMemory }
+    {
+        self.options = options.try_clone()?;
+        Ok(self)
+    }
+}
+
 // Refuses no threads, and then a quote that is not ASCII.
 fn can_write(n_threads: usize, quote: u8) -> PolarsResult<()>
     ensures can { OnOk result (CanWrite n_threads quote) }
@@ -294,6 +305,22 @@ mod tests {
         writer.finish(&frame)?;
         let text = "\u{FEFF}'b'\r\n'true'\r\n''\r\n'false'\r\n";
         assert_eq!(rt; writer.sink.received(), text.as_bytes());
+        Ok(())
+    }
+
+    #[test]
+    fn all_options_are_set_at_once(rt: HostRuntime) -> Result<(), Fail> {
+        let alloc = rt.alloc();
+        let frame = truths(alloc)?;
+        let mut options = CsvWriterOptions::new(alloc)?;
+        options.include_header = false;
+        options.serialize_options.null = PlSmallStr::from_str(alloc, "NA")?;
+        let writer = CsvWriter::new(alloc, MemSink::new(alloc))?.with_quote_style(
+            QuoteStyle::Always,
+        );
+        let mut writer = writer.with_options(&options)?;
+        writer.finish(&frame)?;
+        assert_eq!(rt; writer.sink.received(), b"true\nNA\nfalse\n".as_slice());
         Ok(())
     }
 

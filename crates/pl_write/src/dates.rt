@@ -2,6 +2,7 @@
 ghost use Rattle.std.specs.Prelude.{◌≡◌, ◌++◌, ◌<◌, true, OnOk};
 ghost use Rattle.pl_frame.specs.Types.{is_within, day_range};
 ghost use Rattle.pl_frame.specs.Printed.{civil, civil_text, date_text};
+ghost use Rattle.pl_write.specs.Writing.{StaysInFront};
 
 use crate::digits::{four_digits, two_digits};
 use jiff_core::civil::Date;
@@ -32,10 +33,12 @@ pub fn date_digits(day: i64) -> [u8; 10]
 }
 
 /// Appends the date of a day number, as `YYYY-MM-DD`.
+#[tactic(auto, using(crate::proofs::KeptLaws::keeping))]
 #[inline]
 pub fn push_date(block: &mut Vec<u8>, day: i64) -> Result<(), AllocError>
     requires { is_within day_range day ≡ true }
-    ensures { OnOk result (block.new.items ≡ block.old.items ++ date_text day) }
+    ensures text { OnOk result (block.new.items ≡ block.old.items ++ date_text day) }
+    ensures kept { StaysInFront block.old.items block.new.items }
 {
     block.extend_from_slice(&date_digits(day))
 }

@@ -1,12 +1,17 @@
 //! Frames written as CSV: the text of each cell, and of a whole frame.
 #![tactic(auto)]
 
+pub mod cells;
 pub mod csv_writer;
 pub mod dates;
 pub mod decimals;
 pub mod digits;
+pub mod marks;
 pub mod options;
+pub mod serializer;
 pub mod texts;
 pub mod times;
 mod values;
+pub mod ways;
+pub mod wholes;
 pub mod writer;

@@ -22,7 +22,7 @@ pub enum QuoteStyle {
 }
 
 /// How a cell is written.
-#[derive(Debug, Drop)]
+#[derive(Debug, Drop, PartialEq, Eq)]
 pub struct SerializeOptions {
     /// What stands between two cells.
     pub separator: u8,
@@ -49,10 +49,24 @@ impl SerializeOptions {
             quote_style: QuoteStyle::Necessary,
         })
     }
+
+    /// Equal options. Refuses only want of memory.
+    pub fn try_clone(&self) -> PolarsResult<SerializeOptions>
+        ensures equal { IfOk result (λ o. o ≡ self.now) }
+        ensures refused { IsOkUnless result error.OutOfMemory }
+    {
+        Ok(SerializeOptions {
+            separator: self.separator,
+            quote_char: self.quote_char,
+            null: self.null.try_clone()?,
+            line_terminator: self.line_terminator.try_clone()?,
+            quote_style: self.quote_style,
+        })
+    }
 }
 
 /// How a frame is written.
-#[derive(Debug, Drop)]
+#[derive(Debug, Drop, PartialEq, Eq)]
 pub struct CsvWriterOptions {
     /// Whether the text begins with a byte order mark.
     pub include_bom: bool,
@@ -78,5 +92,38 @@ impl CsvWriterOptions {
             maintain_order: false,
             serialize_options: SerializeOptions::new(alloc)?,
         })
+    }
+
+    /// Equal options. Refuses only want of memory.
+    pub fn try_clone(&self) -> PolarsResult<CsvWriterOptions>
+        ensures equal { IfOk result (λ o. o ≡ self.now) }
+        ensures refused { IsOkUnless result error.OutOfMemory }
+    {
+        Ok(CsvWriterOptions {
+            include_bom: self.include_bom,
+            include_header: self.include_header,
+            batch_size: self.batch_size,
+            maintain_order: self.maintain_order,
+            serialize_options: self.serialize_options.try_clone()?,
+        })
+    }
+}
+
+#[cfg(test)]
+mod tests {
+    use super::*;
+    use std::test::Fail;
+
+    #[test]
+    fn copies_are_equal(rt: HostRuntime) -> Result<(), Fail> {
+        let mut options = CsvWriterOptions::new(rt.alloc())?;
+        options.include_bom = true;
+        options.serialize_options.null = PlSmallStr::from_str(rt.alloc(), "NA")?;
+        options.serialize_options.quote_style = QuoteStyle::Always;
+        let mut copy = options.try_clone()?;
+        assert!(rt; copy == options);
+        copy.serialize_options.separator = b';';
+        assert!(rt; copy != options);
+        Ok(())
     }
 }

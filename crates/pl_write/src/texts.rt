@@ -1,20 +1,13 @@
 //! Texts and nulls as they are written.
 ghost use Rattle.std.specs.Prelude.{◌≡◌, ◌++◌, ◌∷◌, ◌==◌, ◌||◌, [], OnOk, if◌then◌else◌};
-ghost use Rattle.std.specs.List.{list_any};
 ghost use Rattle.pl_frame.specs.Text.{needs_quotes, doubled, quoted, quoted_null, written_text, written_null};
 ghost use Rattle.pl_write.specs.Options.{cell_options};
+ghost use Rattle.pl_write.specs.Writing.{StaysInFront};
 
+use crate::marks::holds_mark;
 use crate::options::{QuoteStyle, SerializeOptions};
 use memchr::memchr;
 use std::alloc::AllocError;
-
-// Whether a text holds what only a quoted text may hold.
-#[inline]
-fn holds_mark(text: &[u8], separator: u8, quote: u8) -> bool
-    ensures { result ≡ list_any (λ x. x == separator || x == 10 || x == 13 || x == quote) text.now }
-{
-    text.iter().any(|x| *x == separator || *x == b'\n' || *x == b'\r' || *x == quote)
-}
 
 // Whether a text is quoted where quotes are written only if necessary.
 #[inline]
@@ -25,8 +18,10 @@ fn is_quoting_needed(text: &[u8], separator: u8, quote: u8) -> bool
 }
 
 // Appends the text with each quote doubled.
+#[tactic(auto, using(crate::proofs::KeptLaws::keeping))]
 fn push_doubled(block: &mut Vec<u8>, text: &[u8], quote: u8) -> Result<(), AllocError>
-    ensures { OnOk result (block.new.items ≡ block.old.items ++ doubled quote text.now) }
+    ensures text { OnOk result (block.new.items ≡ block.old.items ++ doubled quote text.now) }
+    ensures kept { StaysInFront block.old.items block.new.items }
 {
     let mut rest = text;
     while let Some(at) = memchr(quote, rest) {
@@ -40,8 +35,10 @@ fn push_doubled(block: &mut Vec<u8>, text: &[u8], quote: u8) -> Result<(), Alloc
 }
 
 /// Appends a text between quotes, with each quote in it doubled.
+#[tactic(auto, using(crate::proofs::KeptLaws::keeping))]
 pub fn push_quoted(block: &mut Vec<u8>, text: &[u8], quote: u8) -> Result<(), AllocError>
-    ensures { OnOk result (block.new.items ≡ block.old.items ++ quoted quote text.now) }
+    ensures text { OnOk result (block.new.items ≡ block.old.items ++ quoted quote text.now) }
+    ensures kept { StaysInFront block.old.items block.new.items }
 {
     block.push(quote)?;
     push_doubled(block, text, quote)?;
@@ -50,14 +47,16 @@ pub fn push_quoted(block: &mut Vec<u8>, text: &[u8], quote: u8) -> Result<(), Al
 }
 
 // Appends a text, quoted where it is empty or holds the separator, a line feed, a carriage return or the quote.
+#[tactic(auto, using(crate::proofs::KeptLaws::keeping))]
 #[inline]
-fn push_as_needed(
+pub(crate) fn push_as_needed(
     block: &mut Vec<u8>,
     text: &[u8],
     separator: u8,
     quote: u8,
 ) -> Result<(), AllocError>
-    ensures { OnOk result (block.new.items ≡ block.old.items ++ (if needs_quotes separator quote text.now then quoted quote text.now else text.now)) }
+    ensures text { OnOk result (block.new.items ≡ block.old.items ++ (if needs_quotes separator quote text.now then quoted quote text.now else text.now)) }
+    ensures kept { StaysInFront block.old.items block.new.items }
 {
     if is_quoting_needed(text, separator, quote) {
         push_quoted(block, text, quote)
@@ -67,13 +66,15 @@ fn push_as_needed(
 }
 
 /// Appends a text, quoted as the style asks.
+#[tactic(auto, using(crate::proofs::KeptLaws::keeping))]
 #[inline]
 pub fn push_text(
     block: &mut Vec<u8>,
     text: &[u8],
     options: &SerializeOptions,
 ) -> Result<(), AllocError>
-    ensures { OnOk result (block.new.items ≡ block.old.items ++ written_text (cell_options options.now) text.now) }
+    ensures text { OnOk result (block.new.items ≡ block.old.items ++ written_text (cell_options options.now) text.now) }
+    ensures kept { StaysInFront block.old.items block.new.items }
 {
     match options.quote_style {
         QuoteStyle::Necessary => {
@@ -86,8 +87,10 @@ pub fn push_text(
 }
 
 // Appends the null text between quotes, which is never doubled.
+#[tactic(auto, using(crate::proofs::KeptLaws::keeping))]
 fn push_quoted_null(block: &mut Vec<u8>, null: &[u8], quote: u8) -> Result<(), AllocError>
-    ensures { OnOk result (block.new.items ≡ block.old.items ++ quoted_null quote null.now) }
+    ensures text { OnOk result (block.new.items ≡ block.old.items ++ quoted_null quote null.now) }
+    ensures kept { StaysInFront block.old.items block.new.items }
 {
     block.push(quote)?;
     block.extend_from_slice(null)?;
@@ -96,9 +99,11 @@ fn push_quoted_null(block: &mut Vec<u8>, null: &[u8], quote: u8) -> Result<(), A
 }
 
 /// Appends what stands for a null.
+#[tactic(auto, using(crate::proofs::KeptLaws::keeping))]
 #[inline]
 pub fn push_null(block: &mut Vec<u8>, options: &SerializeOptions) -> Result<(), AllocError>
-    ensures { OnOk result (block.new.items ≡ block.old.items ++ written_null (cell_options options.now)) }
+    ensures text { OnOk result (block.new.items ≡ block.old.items ++ written_null (cell_options options.now)) }
+    ensures kept { StaysInFront block.old.items block.new.items }
 {
     let null = options.null.as_str().as_bytes();
     match options.quote_style {

@@ -4,6 +4,7 @@ ghost use Rattle.std.specs.Int.{int_div_euclid, int_rem_euclid};
 ghost use Rattle.jiff_core.specs.Calendar.{IsBetween};
 ghost use Rattle.pl_frame.specs.Types.{is_within, day_range, time_range, datetime_range, units_in_second};
 ghost use Rattle.pl_frame.specs.Printed.{padded, clock_text, time_text, places_of, second_text, datetime_text};
+ghost use Rattle.pl_write.specs.Writing.{StaysInFront};
 
 use crate::dates::push_date;
 use crate::digits::{nine_digits, six_digits, three_digits, two_digits};
@@ -43,29 +44,35 @@ fn clock_in_datetime(second: u32) -> [u8; 10]
 }
 
 // Appends a time of the day, given in nanoseconds.
+#[tactic(auto, using(crate::proofs::KeptLaws::keeping))]
 #[inline]
 fn push_nanoseconds(block: &mut Vec<u8>, nanoseconds: u64) -> Result<(), AllocError>
     requires { nanoseconds < 86400 * 10 ^ 9 }
-    ensures { OnOk result (block.new.items ≡ block.old.items ++ time_text nanoseconds) }
+    ensures text { OnOk result (block.new.items ≡ block.old.items ++ time_text nanoseconds) }
+    ensures kept { StaysInFront block.old.items block.new.items }
 {
     block.extend_from_slice(&clock_and_point((nanoseconds / 1_000_000_000) as u32))?;
     block.extend_from_slice(&nine_digits((nanoseconds % 1_000_000_000) as u32))
 }
 
 /// Appends a time of the day, given in nanoseconds, as `HH:MM:SS.` and nine digits.
+#[tactic(auto, using(crate::proofs::KeptLaws::keeping))]
 #[inline]
 pub fn push_time(block: &mut Vec<u8>, nanoseconds: i64) -> Result<(), AllocError>
     requires { is_within time_range nanoseconds ≡ true }
-    ensures { OnOk result (block.new.items ≡ block.old.items ++ time_text (unsigned_abs nanoseconds)) }
+    ensures text { OnOk result (block.new.items ≡ block.old.items ++ time_text (unsigned_abs nanoseconds)) }
+    ensures kept { StaysInFront block.old.items block.new.items }
 {
     push_nanoseconds(block, nanoseconds.unsigned_abs())
 }
 
 // Appends the time of the day in a datetime, as far as its point.
+#[tactic(auto, using(crate::proofs::KeptLaws::keeping))]
 #[inline]
 fn push_clock(block: &mut Vec<u8>, second: u32) -> Result<(), AllocError>
     requires { second < 86400 }
-    ensures { OnOk result (block.new.items ≡ block.old.items ++ 84 ∷ (clock_text second ++ 46 ∷ [])) }
+    ensures text { OnOk result (block.new.items ≡ block.old.items ++ 84 ∷ (clock_text second ++ 46 ∷ [])) }
+    ensures kept { StaysInFront block.old.items block.new.items }
 {
     block.extend_from_slice(&clock_in_datetime(second))
 }
@@ -80,20 +87,24 @@ fn second_of_day(second: i64) -> u32
 }
 
 // Appends the date and the time of the day at a count of seconds from 1970-01-01T00:00:00, with a point behind them.
+#[tactic(auto, using(crate::proofs::KeptLaws::keeping))]
 #[inline]
 fn push_second(block: &mut Vec<u8>, second: i64) -> Result<(), AllocError>
     requires { is_within day_range (int_div_euclid second (pos 86400)) ≡ true }
-    ensures { OnOk result (block.new.items ≡ block.old.items ++ (second_text second ++ 46 ∷ [])) }
+    ensures text { OnOk result (block.new.items ≡ block.old.items ++ (second_text second ++ 46 ∷ [])) }
+    ensures kept { StaysInFront block.old.items block.new.items }
 {
     push_date(block, second.div_euclid(86_400))?;
     push_clock(block, second_of_day(second))
 }
 
 // Appends what is less than a second.
+#[tactic(auto, using(crate::proofs::KeptLaws::keeping))]
 #[inline]
 fn push_places(block: &mut Vec<u8>, unit: TimeUnit, rest: u32) -> Result<(), AllocError>
     requires { rest < units_in_second unit }
-    ensures { OnOk result (block.new.items ≡ block.old.items ++ padded (places_of unit) rest) }
+    ensures text { OnOk result (block.new.items ≡ block.old.items ++ padded (places_of unit) rest) }
+    ensures kept { StaysInFront block.old.items block.new.items }
 {
     match unit {
         TimeUnit::Milliseconds => block.extend_from_slice(&three_digits(rest)),
@@ -133,10 +144,12 @@ fn rest_of(unit: TimeUnit, count: i64) -> u32
 }
 
 // Appends a datetime whose count fits 64 bits.
+#[tactic(auto, using(crate::proofs::KeptLaws::keeping))]
 #[inline]
 fn push_narrow_datetime(block: &mut Vec<u8>, unit: TimeUnit, count: i64) -> Result<(), AllocError>
     requires { is_within (datetime_range (units_in_second unit)) count ≡ true }
-    ensures { OnOk result (block.new.items ≡ block.old.items ++ datetime_text unit count) }
+    ensures text { OnOk result (block.new.items ≡ block.old.items ++ datetime_text unit count) }
+    ensures kept { StaysInFront block.old.items block.new.items }
 {
     push_second(block, second_of(unit, count))?;
     push_places(block, unit, rest_of(unit, count))
@@ -161,10 +174,12 @@ fn wide_rest_of(unit: TimeUnit, count: i128) -> u32
 }
 
 // Appends a datetime of any count.
+#[tactic(auto, using(crate::proofs::KeptLaws::keeping))]
 #[cold]
 fn push_wide_datetime(block: &mut Vec<u8>, unit: TimeUnit, count: i128) -> Result<(), AllocError>
     requires { is_within (datetime_range (units_in_second unit)) count ≡ true }
-    ensures { OnOk result (block.new.items ≡ block.old.items ++ datetime_text unit count) }
+    ensures text { OnOk result (block.new.items ≡ block.old.items ++ datetime_text unit count) }
+    ensures kept { StaysInFront block.old.items block.new.items }
 {
     push_second(block, wide_second_of(unit, count))?;
     push_places(block, unit, wide_rest_of(unit, count))
@@ -172,10 +187,12 @@ fn push_wide_datetime(block: &mut Vec<u8>, unit: TimeUnit, count: i128) -> Resul
 
 /// Appends a date and a time of the day, given in units from 1970-01-01T00:00:00, as `YYYY-MM-DDTHH:MM:SS.` and three, six
 /// or nine digits.
+#[tactic(auto, using(crate::proofs::KeptLaws::keeping))]
 #[inline]
 pub fn push_datetime(block: &mut Vec<u8>, unit: TimeUnit, count: i128) -> Result<(), AllocError>
     requires { is_within (datetime_range (units_in_second unit)) count ≡ true }
-    ensures { OnOk result (block.new.items ≡ block.old.items ++ datetime_text unit count) }
+    ensures text { OnOk result (block.new.items ≡ block.old.items ++ datetime_text unit count) }
+    ensures kept { StaysInFront block.old.items block.new.items }
 {
     match i64::try_from(count) {
         Ok(count) => push_narrow_datetime(block, unit, count),

@@ -1,37 +1,28 @@
 //! Values that are no texts, as they are written.
 ghost use Rattle.std.specs.Prelude.{◌≡◌, ◌++◌, true, not, unwrap_or, unsigned_abs, OnOk, if◌then◌else◌};
-ghost use Rattle.std.specs.Fmt.{signed_decimal};
 ghost use Rattle.pl_frame.specs.Frame.{Truth};
 ghost use Rattle.pl_frame.specs.Types.{is_within, datetime_range, range_of, units_in_second};
 ghost use Rattle.pl_frame.specs.Printed.{datetime_text, number_text, printed};
 ghost use Rattle.pl_frame.specs.Text.{kind_of, written_value};
 ghost use Rattle.pl_write.specs.Options.{cell_options, in_range, style_number, is_number_kind, is_bare};
+ghost use Rattle.pl_write.specs.Writing.{StaysInFront};
 
 use crate::dates::push_date;
 use crate::decimals::push_decimal;
 use crate::options::{QuoteStyle, SerializeOptions};
 use crate::texts::push_quoted;
 use crate::times::{push_datetime, push_time};
+use crate::wholes::push_whole;
 use pl_frame::data_type::DataType;
 use std::alloc::AllocError;
 
-// Appends a whole number of any width.
-#[inline]
-fn push_whole(block: &mut Vec<u8>, number: i128) -> Result<(), AllocError>
-    ensures { OnOk result (block.new.items ≡ block.old.items ++ signed_decimal number) }
-{
-    let mut digits = itoa::Buffer::new();
-    match i64::try_from(number) {
-        Ok(number) => block.extend_from_slice(digits.format(number).as_bytes()),
-        Err(_) => block.extend_from_slice(digits.format(number).as_bytes()),
-    }
-}
-
-// Appends a day or a time of the day, which fits 64 bits.
+// Appends a number, as its type is printed.
+#[tactic(auto, using(crate::proofs::KeptLaws::keeping))]
 #[inline]
 fn push_number(block: &mut Vec<u8>, dtype: &DataType, number: i128) -> Result<(), AllocError>
     requires { in_range dtype.now number ≡ true }
-    ensures { OnOk result (block.new.items ≡ block.old.items ++ number_text dtype.now number) }
+    ensures text { OnOk result (block.new.items ≡ block.old.items ++ number_text dtype.now number) }
+    ensures kept { StaysInFront block.old.items block.new.items }
 {
     match dtype {
         DataType::Date => push_date(block, number as i64),
@@ -43,9 +34,11 @@ fn push_number(block: &mut Vec<u8>, dtype: &DataType, number: i128) -> Result<()
 }
 
 // Appends a truth value.
+#[tactic(auto, using(crate::proofs::KeptLaws::keeping))]
 #[inline]
 fn push_truth(block: &mut Vec<u8>, dtype: &DataType, truth: bool) -> Result<(), AllocError>
-    ensures { OnOk result (block.new.items ≡ block.old.items ++ printed dtype.now (Truth truth)) }
+    ensures text { OnOk result (block.new.items ≡ block.old.items ++ printed dtype.now (Truth truth)) }
+    ensures kept { StaysInFront block.old.items block.new.items }
 {
     if truth {
         block.extend_from_slice(b"true")
@@ -80,6 +73,7 @@ fn is_quoted(dtype: &DataType, style: QuoteStyle) -> bool
 
 /// Appends the cell of a number of the type, quoted as the style asks. `scratch` is a buffer for its own use, of which
 /// nothing is expected.
+#[tactic(auto, using(crate::proofs::KeptLaws::keeping))]
 #[inline]
 pub fn push_number_cell(
     block: &mut Vec<u8>,
@@ -89,7 +83,8 @@ pub fn push_number_cell(
     options: &SerializeOptions,
 ) -> Result<(), AllocError>
     requires { in_range dtype.now number ≡ true }
-    ensures { OnOk result (block.new.items ≡ block.old.items ++ written_value (cell_options options.now) (kind_of dtype.now) (number_text dtype.now number)) }
+    ensures text { OnOk result (block.new.items ≡ block.old.items ++ written_value (cell_options options.now) (kind_of dtype.now) (number_text dtype.now number)) }
+    ensures kept { StaysInFront block.old.items block.new.items }
 {
     if is_quoted(dtype, options.quote_style) {
         scratch.clear();
@@ -102,6 +97,7 @@ pub fn push_number_cell(
 
 /// Appends the cell of a truth value, quoted as the style asks. `scratch` is a buffer for its own use, of which nothing is
 /// expected.
+#[tactic(auto, using(crate::proofs::KeptLaws::keeping))]
 #[inline]
 pub fn push_truth_cell(
     block: &mut Vec<u8>,
@@ -110,7 +106,8 @@ pub fn push_truth_cell(
     truth: bool,
     options: &SerializeOptions,
 ) -> Result<(), AllocError>
-    ensures { OnOk result (block.new.items ≡ block.old.items ++ written_value (cell_options options.now) (kind_of dtype.now) (printed dtype.now (Truth truth))) }
+    ensures text { OnOk result (block.new.items ≡ block.old.items ++ written_value (cell_options options.now) (kind_of dtype.now) (printed dtype.now (Truth truth))) }
+    ensures kept { StaysInFront block.old.items block.new.items }
 {
     if is_quoted(dtype, options.quote_style) {
         scratch.clear();

@@ -5,13 +5,13 @@ use Rattle.pl_frame.specs.Printed.{date_text, second_text, clock_text}
 use Rattle.pl_write.proofs.BlockLaws.{two_parts}
 use Rattle.pl_write.proofs.times.push_second.Goals as goal
 
-pub returns : goal.returns
-returns c =
+pub returns-clause-text : goal.returns-clause-text
+returns-clause-text c =
     let day = c.div_euclid.result in
     let fits : FitsSigned w64 day = record { sfits = c.div_euclid.type_inv } in
     let given = to_z-of_z w64 c.args.second c.ranges.second in
     let is : day ≡ int_div_euclid c.args.second (pos 86400) = simp given at c.div_euclid.ensures in
-    let front = simp (to_z-of_z w64 day fits) at c.in_ok-push_date.ensures in
+    let front = simp (to_z-of_z w64 day fits) at c.in_ok-push_date.ensures.text in
     let second = simp given at c.second_of_day.ensures.value in
     two_parts c.push_clock.result c.args.block.now.items c.push_date.new.block.items c.push_clock.new.block.items
     (date_text day) (84 ∷ (clock_text c.second_of_day.result ++ 46 ∷ [])) (second_text c.args.second ++ 46 ∷ [])
@@ -19,4 +19,4 @@ returns c =
     (ap (λ d. date_text d ++ 84 ∷ (clock_text c.second_of_day.result ++ 46 ∷ [])) is
     ∙ (ap (λ s. date_text (int_div_euclid c.args.second (pos 86400)) ++ 84 ∷ (clock_text s ++ 46 ∷ [])) second
     ∙ sym (append_assoc (date_text (int_div_euclid c.args.second (pos 86400))) (84 ∷ clock_text (unsigned_abs (int_rem_euclid c.args.second (pos 86400)))) (46 ∷ []))))
-    c.push_clock.ensures
+    c.push_clock.ensures.text

@@ -25,7 +25,7 @@ returns-in-Err-write_all-clause-prefix g c =
     let inside : row < height = omega (arith, c.row_count-row-end.ensures) in
     let more = IsWriting-more old now c.loop-row.block.items line (row_lines (frame_options c.args.options.now) columns row (height - row)) left text c.loop-row.invariant.writing (row_lines-step (frame_options c.args.options.now) columns row height inside) in
     let n = c.in-Err-write_all.ensures.prefix.0 in
-    let came = subst (λ l. Appends now next (take n l)) (c.deref.ensures.value ∙ c.in-Ok-push_row.ensures) c.in-Err-write_all.ensures.prefix.1 in
+    let came = subst (λ l. Appends now next (take n l)) (c.deref-then-len-ge-BLOCK.ensures.value ∙ c.in-Ok-push_row.ensures) c.in-Err-write_all.ensures.prefix.1 in
     IsWriting-part old now next block left text n more came
 
 pub loop-row-preserved : goal.loop-row-preserved
@@ -44,7 +44,7 @@ loop-row-preserved g c =
     elim c.if-len-ge-BLOCK.branch [
       | then-len-ge-BLOCK+in-Ok-write_all w ↦
           let next = g.Si.Sink.received w.write_all.new.sink in
-          let came = subst (λ l. Appends now next l) (w.deref.ensures.value ∙ c.in-Ok-push_row.ensures) w.in-Ok-write_all.ensures.ok in
+          let came = subst (λ l. Appends now next l) (w.deref-then-len-ge-BLOCK.ensures.value ∙ c.in-Ok-push_row.ensures) w.in-Ok-write_all.ensures.ok in
           record {
             writing = rw (w.sink-is, w.block-is, w.clear.ensures.items) (IsWriting-flushed old now next block left text more came);
             later = rw w.sink-is (omega (arith, w.in-Ok-write_all.ensures.later, c.loop-row.invariant.later));

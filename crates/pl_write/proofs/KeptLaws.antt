@@ -1,0 +1,33 @@
+-- Bytes that stay in front while others are appended.
+use Rattle.std.proofs.Common.{◌≡◌, ℕ, Bool, true, false, if◌then◌else◌, List, [], ◌++◌, length, take, refl, sym, ◌∙◌, ap, append_assoc, append-nil}
+use Rattle.std.proofs.Math.Seq.{take-append_seam}
+use Rattle.pl_write.specs.Writing.{StaysInFront}
+
+-- nothing was appended
+pub front-same : (old : List ℕ) → StaysInFront old old
+front-same old = record { added = []; is = sym (append-nil old) }
+
+-- these bytes were appended
+pub front-append : (old x : List ℕ) → StaysInFront old (old ++ x)
+front-append old x = record { added = x; is = refl }
+
+pub front-is : (old x new : List ℕ) → new ≡ old ++ x → StaysInFront old new
+front-is old x new is = record { added = x; is = is }
+
+-- these bytes were appended, or nothing was
+pub front-if : (t : Bool) (old x new : List ℕ) → new ≡ (if t then old ++ x else old) → StaysInFront old new
+front-if true old x new is = record { added = x; is = is }
+front-if false old x new is = record { added = []; is = is ∙ sym (append-nil old) }
+
+-- and then others
+pub front-then : {old mid new : List ℕ} → StaysInFront old mid → StaysInFront mid new → StaysInFront old new
+front-then {old} {mid} {new} first next = record {
+  added = first.added ++ next.added;
+  is = next.is ∙ (ap (λ l. l ++ next.added) first.is ∙ append_assoc old first.added next.added);
+}
+
+-- what was appended is cut off again
+pub front-cut : (old new : List ℕ) → StaysInFront old new → take (length old) new ≡ old
+front-cut old new kept = ap (take (length old)) kept.is ∙ take-append_seam old kept.added
+
+pub ruleset keeping = (front-same, front-append, front-if, front-then)

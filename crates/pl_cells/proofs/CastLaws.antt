@@ -1,5 +1,5 @@
 -- Laws of casts of the columns of a frame.
-use Rattle.std.proofs.Common.{◌≡◌, ◌≢◌, ℕ, zero, suc, ◌+◌, ◌<◌, Bool, true, false, ◌&&◌, ◌||◌, cond, if◌then◌else◌, List, [], ◌∷◌, ◌++◌, length, map, take, position, get_or, slice_get, slice_set, Option, None, Some, is_some, AllPairs, refl, sym, ◌∙◌, ap, subst, arith, true≢false}
+use Rattle.std.proofs.Common.{◌≡◌, ◌≢◌, ℕ, zero, suc, ◌+◌, ◌<◌, Bool, true, false, ◌&&◌, ◌||◌, cond, if◌then◌else◌, List, [], ◌∷◌, ◌++◌, length, map, take, position, get_or, slice_get, slice_set, not, unwrap_or, IfSome, Option, None, Some, is_some, AllPairs, refl, sym, ◌∙◌, ap, subst, arith, add-one, true≢false}
 use Rattle.std.specs.List.{AllByRecursion, list_any, find}
 use Rattle.std.specs.Option.{option_map, option_map_or, option_and_then}
 use Rattle.std.specs.Str.{bytes_eq}
@@ -10,10 +10,13 @@ use Rattle.std.proofs.lemmas.Option.{slice_get-map, slice_get_within, slice_get-
 use Rattle.std.proofs.lemmas.Slice.Eq.{bytes_eq-Decides}
 use Rattle.pl_frame.specs.declared.data_type.DataType.{DataType}
 use Rattle.pl_frame.specs.declared.error.ComputeFault.{ComputeFault}
+use Rattle.pl_frame.specs.declared.error.PolarsError.{PolarsError}
+use Rattle.pl_frame.specs.declared.error.PolarsError.TheVariants as error
+use Rattle.pl_frame.specs.Columns.{is_value_of, misfits}
 use Rattle.pl_frame.specs.declared.schema.Field.{Field}
 use Rattle.pl_frame.specs.Frame.{Scalar, ColumnValue, IsFrame, HaveHeight, names_of, height_of}
-use Rattle.pl_frame.proofs.SchemaLaws.{none_passes}
-use Rattle.pl_cells.specs.Casts.{carried_cell, carried_cast, place_named, placed_cast, cast_of, with_casts, with_placed, with_all_placed, FitsAt, field_named, field_fault, first_fault}
+use Rattle.pl_frame.proofs.SchemaLaws.{none_passes, position-map}
+use Rattle.pl_cells.specs.Casts.{IsCastFault, cast_fault, carried_cell, carried_cast, place_named, placed_cast, cast_of, with_casts, with_placed, with_all_placed, FitsAt, field_named, field_fault, first_fault}
 
 some_same : {X : Type 0} (x y : X) → Some x ≡ Some y → x ≡ y
 some_same x y e = cc
@@ -30,7 +33,7 @@ module _ (name : List ℕ) (F G : ColumnValue → ColumnValue) where
   either c = if bytes_eq name c.name then F c else G c
 
   other : (c : ColumnValue) → bytes_eq name c.name ≡ false → either c ≡ G c
-  other c no = ap (λ (b : Bool). if b then F c else G c) no
+  other c miss = ap (λ (b : Bool). if b then F c else G c) miss
 
   differs : (n : List ℕ) → name ≢ n → bytes_eq name n ≡ false
   differs n ne = false_from_ne_true (bytes_eq name n) (λ e. ne ((bytes_eq-Decides name n).0 e))
@@ -41,27 +44,27 @@ module _ (name : List ℕ) (F G : ColumnValue → ColumnValue) where
 
   nowhere : (cols : List ColumnValue) → list_any (bytes_eq name) (names_of cols) ≡ false → map either cols ≡ map G cols
   nowhere [] h = refl
-  nowhere (x ∷ xs) h = by (bytes_eq name x.name) refl
+  nowhere (x ∷ xs) h = by (bytes_eq name x.name) refl (nowhere xs)
     where
-      by : (b : Bool) → bytes_eq name x.name ≡ b → map either (x ∷ xs) ≡ map G (x ∷ xs)
-      by true e = absurd (true≢false (sym (ap (λ b. b || list_any (bytes_eq name) (names_of xs)) e) ∙ h))
-      by false e = λ i. other x e i ∷ nowhere xs (sym (ap (λ b. b || list_any (bytes_eq name) (names_of xs)) e) ∙ h) i
+      by : (b : Bool) → bytes_eq name x.name ≡ b → (list_any (bytes_eq name) (names_of xs) ≡ false → map either xs ≡ map G xs) → map either (x ∷ xs) ≡ map G (x ∷ xs)
+      by true e deeper = absurd (true≢false (sym (ap (λ b. b || list_any (bytes_eq name) (names_of xs)) e) ∙ h))
+      by false e deeper = λ i. other x e i ∷ deeper (sym (ap (λ b. b || list_any (bytes_eq name) (names_of xs)) e) ∙ h) i
 
   there : (cols : List ColumnValue) (p : ℕ) (c : ColumnValue) → slice_get cols p ≡ Some c → bytes_eq name c.name ≡ true → AllPairs (λ a b. a ≢ b) (names_of cols) → slice_set (map G cols) p (F c) ≡ map either cols
-  there [] p c at yes distinct = absurd (none-some c at)
-  there (x ∷ xs) zero c at yes distinct =
+  there [] p c at hit distinct = absurd (none-some c at)
+  there (x ∷ xs) zero c at hit distinct =
       let same : x ≡ c = some_same x c at in
-      let here : bytes_eq name x.name ≡ true = ap (λ (k : ColumnValue). bytes_eq name k.name) same ∙ yes in
+      let here : bytes_eq name x.name ≡ true = ap (λ (k : ColumnValue). bytes_eq name k.name) same ∙ hit in
       let is : name ≡ x.name = (bytes_eq-Decides name x.name).0 here in
       λ i. (ap F (sym same) ∙ sym (ap (λ (b : Bool). if b then F x else G x) here)) i
       ∷ sym (unnamed xs (λ j d l e. distinct 0 (suc j) d (omega arith) (omega arith) (sym is ∙ e))) i
-  there (x ∷ xs) (suc p) c at yes distinct =
+  there (x ∷ xs) (suc p) c at hit distinct =
       let named : slice_get (names_of xs) p ≡ Some c.name = slice_get-map (λ (k : ColumnValue). k.name) xs p ∙ ap (option_map (λ (k : ColumnValue). k.name)) at in
       let within = slice_get_within (names_of xs) p c.name named in
       let stands = get_or_from_slice_get (names_of xs) p c.name [] named in
-      let is : name ≡ c.name = (bytes_eq-Decides name c.name).0 yes in
+      let is : name ≡ c.name = (bytes_eq-Decides name c.name).0 hit in
       λ i. sym (other x (differs x.name (λ e. distinct 0 (suc p) [] (omega arith) (omega (arith, within)) (sym e ∙ is ∙ sym stands)))) i
-      ∷ there xs p c at yes (λ a b d l m. distinct (suc a) (suc b) d (omega arith) (omega arith)) i
+      ∷ there xs p c at hit (λ a b d l m. distinct (suc a) (suc b) d (omega arith) (omega arith)) i
 
   -- the column of the name is put among the others
   put : (cols : List ColumnValue) → AllPairs (λ a b. a ≢ b) (names_of cols) → (o : Option ℕ) → position (bytes_eq name) (names_of cols) ≡ o →
@@ -129,19 +132,24 @@ all_front P (y ∷ ys) x h = let rest = all_front P ys x h.1 in ((h.0, rest.0), 
 
 -- ---- the first fault
 
-pub faultless_more : (ignore : Bool) (columns : List ColumnValue) (fields : List Field) (k : ℕ) (field : Field) → slice_get fields k ≡ Some field → first_fault ignore columns (take k fields) ≡ None →
-    field_fault ignore columns field ≡ None → first_fault ignore columns (take (k + 1) fields) ≡ None
-faultless_more ignore columns [] k field at before here = absurd (none-some field at)
-faultless_more ignore columns (f ∷ fs) zero field at before here =
+faultless_suc : (ignore : Bool) (columns : List ColumnValue) (fields : List Field) (k : ℕ) (field : Field) → slice_get fields k ≡ Some field → first_fault ignore columns (take k fields) ≡ None →
+    field_fault ignore columns field ≡ None → first_fault ignore columns (take (suc k) fields) ≡ None
+faultless_suc ignore columns [] k field at before here = absurd (none-some field at)
+faultless_suc ignore columns (f ∷ fs) zero field at before here =
     let none : field_fault ignore columns f ≡ None = ap (field_fault ignore columns) (some_same f field at) ∙ here in
     ap (λ (o : Option ComputeFault). elim o [ Some wrong ↦ Some wrong | None ↦ None ]) none
-faultless_more ignore columns (f ∷ fs) (suc k) field at before here = by (field_fault ignore columns f) refl
+faultless_suc ignore columns (f ∷ fs) (suc k) field at before here = by (field_fault ignore columns f) refl (λ h. faultless_suc ignore columns fs k field at h here)
   where
-    by : (o : Option ComputeFault) → field_fault ignore columns f ≡ o → first_fault ignore columns (f ∷ take (k + 1) fs) ≡ None
-    by None e =
-        ap (λ (o : Option ComputeFault). elim o [ Some wrong ↦ Some wrong | None ↦ first_fault ignore columns (take (k + 1) fs) ]) e
-        ∙ faultless_more ignore columns fs k field at (sym (ap (λ (o : Option ComputeFault). elim o [ Some wrong ↦ Some wrong | None ↦ first_fault ignore columns (take k fs) ]) e) ∙ before) here
-    by (Some w) e = absurd (none-some w (sym before ∙ ap (λ (o : Option ComputeFault). elim o [ Some wrong ↦ Some wrong | None ↦ first_fault ignore columns (take k fs) ]) e))
+    by : (o : Option ComputeFault) → field_fault ignore columns f ≡ o → (first_fault ignore columns (take k fs) ≡ None → first_fault ignore columns (take (suc k) fs) ≡ None)
+        → first_fault ignore columns (f ∷ take (suc k) fs) ≡ None
+    by None e deeper =
+        ap (λ (o : Option ComputeFault). elim o [ Some wrong ↦ Some wrong | None ↦ first_fault ignore columns (take (suc k) fs) ]) e
+        ∙ deeper (sym (ap (λ (o : Option ComputeFault). elim o [ Some wrong ↦ Some wrong | None ↦ first_fault ignore columns (take k fs) ]) e) ∙ before)
+    by (Some w) e deeper = absurd (none-some w (sym before ∙ ap (λ (o : Option ComputeFault). elim o [ Some wrong ↦ Some wrong | None ↦ first_fault ignore columns (take k fs) ]) e))
+
+pub faultless_more : (ignore : Bool) (columns : List ColumnValue) (fields : List Field) (k : ℕ) (field : Field) → slice_get fields k ≡ Some field → first_fault ignore columns (take k fields) ≡ None →
+    field_fault ignore columns field ≡ None → first_fault ignore columns (take (k + 1) fields) ≡ None
+faultless_more ignore columns fields k field at before here = rw add-one (faultless_suc ignore columns fields k field at before here)
 
 pub fault_first : (ignore : Bool) (columns : List ColumnValue) (fields : List Field) (k : ℕ) (field : Field) (wrong : ComputeFault) → slice_get fields k ≡ Some field → first_fault ignore columns (take k fields) ≡ None →
     field_fault ignore columns field ≡ Some wrong → first_fault ignore columns fields ≡ Some wrong
@@ -149,10 +157,66 @@ fault_first ignore columns [] k field wrong at before here = absurd (none-some f
 fault_first ignore columns (f ∷ fs) zero field wrong at before here =
     let is : field_fault ignore columns f ≡ Some wrong = ap (field_fault ignore columns) (some_same f field at) ∙ here in
     ap (λ (o : Option ComputeFault). elim o [ Some w ↦ Some w | None ↦ first_fault ignore columns fs ]) is
-fault_first ignore columns (f ∷ fs) (suc k) field wrong at before here = by (field_fault ignore columns f) refl
+fault_first ignore columns (f ∷ fs) (suc k) field wrong at before here = by (field_fault ignore columns f) refl (λ h. fault_first ignore columns fs k field wrong at h here)
   where
-    by : (o : Option ComputeFault) → field_fault ignore columns f ≡ o → first_fault ignore columns (f ∷ fs) ≡ Some wrong
-    by None e =
+    by : (o : Option ComputeFault) → field_fault ignore columns f ≡ o → (first_fault ignore columns (take k fs) ≡ None → first_fault ignore columns fs ≡ Some wrong)
+        → first_fault ignore columns (f ∷ fs) ≡ Some wrong
+    by None e deeper =
         ap (λ (o : Option ComputeFault). elim o [ Some w ↦ Some w | None ↦ first_fault ignore columns fs ]) e
-        ∙ fault_first ignore columns fs k field wrong at (sym (ap (λ (o : Option ComputeFault). elim o [ Some w ↦ Some w | None ↦ first_fault ignore columns (take k fs) ]) e) ∙ before) here
-    by (Some w) e = absurd (none-some w (sym before ∙ ap (λ (o : Option ComputeFault). elim o [ Some v ↦ Some v | None ↦ first_fault ignore columns (take k fs) ]) e))
+        ∙ deeper (sym (ap (λ (o : Option ComputeFault). elim o [ Some w ↦ Some w | None ↦ first_fault ignore columns (take k fs) ]) e) ∙ before)
+    by (Some w) e deeper = absurd (none-some w (sym before ∙ ap (λ (o : Option ComputeFault). elim o [ Some v ↦ Some v | None ↦ first_fault ignore columns (take k fs) ]) e))
+
+pub refused_first : (ignore : Bool) (columns : List ColumnValue) (fields : List Field) (k : ℕ) (field : Field) (refusal : PolarsError) → slice_get fields k ≡ Some field
+    → first_fault ignore columns (take k fields) ≡ None → IsCastFault (field_fault ignore columns field) refusal → IsCastFault (first_fault ignore columns fields) refusal
+refused_first ignore columns fields k field (error.ComputeError wrong) at before here = fault_first ignore columns fields k field wrong at before here
+refused_first ignore columns fields k field error.OutOfMemory at before here = tt
+refused_first ignore columns fields k field (error.InvalidOperation w) at before here = here
+refused_first ignore columns fields k field (error.NoData w) at before here = here
+refused_first ignore columns fields k field (error.ColumnNotFound n) at before here = here
+refused_first ignore columns fields k field (error.OutOfBounds i l) at before here = here
+refused_first ignore columns fields k field (error.Duplicate n p) at before here = here
+refused_first ignore columns fields k field error.EmptyProjection at before here = here
+refused_first ignore columns fields k field error.IO at before here = here
+
+-- ---- the column that a field names
+
+abbrev name_of : ColumnValue → List ℕ
+name_of c = c.name
+
+pub placed_there : (columns : List ColumnValue) (field : Field) (p : ℕ) (column : ColumnValue) → position (λ (c : ColumnValue). bytes_eq field.name c.name) columns ≡ Some p → slice_get columns p ≡ Some column
+    → placed_cast columns field ≡ Some (p, carried_cast column field.dtype)
+placed_there columns field p column is at =
+    ap (option_and_then (λ q. option_map (λ (c : ColumnValue). (q, carried_cast c field.dtype)) (slice_get columns q))) (position-map name_of (bytes_eq field.name) columns ∙ is)
+    ∙ ap (option_map (λ (c : ColumnValue). (p, carried_cast c field.dtype))) at
+
+pub fault_there : (ignore : Bool) (columns : List ColumnValue) (field : Field) (p : ℕ) (column : ColumnValue) → position (λ (c : ColumnValue). bytes_eq field.name c.name) columns ≡ Some p
+    → slice_get columns p ≡ Some column → field_fault ignore columns field ≡ cast_fault ignore p column field.dtype
+fault_there ignore columns field p column is at =
+    ap (option_and_then (λ q. option_and_then (λ (c : ColumnValue). cast_fault ignore q c field.dtype) (slice_get columns q))) (position-map name_of (bytes_eq field.name) columns ∙ is)
+    ∙ ap (option_and_then (λ (c : ColumnValue). cast_fault ignore p c field.dtype)) at
+
+pub placed_nowhere : (columns : List ColumnValue) (field : Field) → position (λ (c : ColumnValue). bytes_eq field.name c.name) columns ≡ None → placed_cast columns field ≡ None
+placed_nowhere columns field is =
+    ap (option_and_then (λ q. option_map (λ (c : ColumnValue). (q, carried_cast c field.dtype)) (slice_get columns q))) (position-map name_of (bytes_eq field.name) columns ∙ is)
+
+pub fault_nowhere : (ignore : Bool) (columns : List ColumnValue) (field : Field) → position (λ (c : ColumnValue). bytes_eq field.name c.name) columns ≡ None → field_fault ignore columns field ≡ None
+fault_nowhere ignore columns field is =
+    ap (option_and_then (λ q. option_and_then (λ (c : ColumnValue). cast_fault ignore q c field.dtype) (slice_get columns q))) (position-map name_of (bytes_eq field.name) columns ∙ is)
+
+-- ---- cells
+
+pub cell_cast : (f : Option Scalar → Option Scalar) (values : List (Option Scalar)) (row : ℕ) → row < length values → unwrap_or (slice_get (map f values) row) None ≡ f (unwrap_or (slice_get values row) None)
+cell_cast f values row l =
+    ap (λ o. unwrap_or o None) (slice_get-map f values row ∙ ap (option_map f) (slice_get-get_or values row None l))
+    ∙ ap f (sym (ap (λ o. unwrap_or o None) (slice_get-get_or values row None l)))
+
+pub fits_kept : {T : Type 0} (type : DataType) (scalar : T → Scalar) (r : Option T) → IfSome r (λ v. is_value_of type (scalar v) ≡ true) → misfits type (option_map scalar r) ≡ false
+fits_kept type scalar None h = refl
+fits_kept type scalar (Some v) h = ap not h
+
+-- ---- lists that are made item by item
+
+pub row_made : {X Y : Type 0} (f : X → Y) (xs : List X) (made new : List Y) (k : ℕ) (x : X) → slice_get xs k ≡ Some x → made ≡ map f (take k xs) → new ≡ made ++ f x ∷ [] → new ≡ map f (take (k + 1) xs)
+row_made f xs made new k x at before is =
+    is ∙ ap (λ m. m ++ f x ∷ []) before ∙ sym (map-append f (take k xs) (x ∷ []))
+    ∙ ap (map f) (ap (λ y. take k xs ++ y ∷ []) (sym (get_or_from_slice_get xs k x x at)) ∙ sym (take_more xs k x (slice_get_within xs k x at)))

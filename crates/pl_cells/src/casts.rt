@@ -1,12 +1,13 @@
 //! Casts of the columns of a frame, those from text among them.
-ghost use Rattle.std.specs.Prelude.{◌≡◌, ◌++◌, ◌∷◌, [], true, None, IfOk, IfErr, IfSome, OnOk, OnErr, IsOkUnless, is_none, length, map, ◌<◌};
+ghost use Rattle.std.specs.Prelude.{◌≡◌, ◌++◌, ◌∷◌, [], true, None, IfOk, IfErr, IfSome, OnOk, OnErr, IsOkUnless, is_some, is_none, ◌&&◌, length, map, position, ◌<◌};
 ghost use Rattle.std.specs.List.{AllByRecursion};
 ghost use Rattle.std.specs.Option.{option_map};
+ghost use Rattle.std.specs.Str.{bytes_eq};
 ghost use Rattle.pl_frame.specs.declared.error.PolarsError.TheVariants as error;
 ghost use Rattle.pl_frame.specs.Columns.{HoldsType, is_value_of, scalar_of};
-ghost use Rattle.pl_frame.specs.Frame.{height_of, names_of};
+ghost use Rattle.pl_frame.specs.Frame.{cell_at, height_of, names_of};
 ghost use Rattle.pl_frame.specs.Types.{is_readable};
-ghost use Rattle.pl_cells.specs.Casts.{is_read, is_carried, is_text_cast, read_cell, carried_cell, carried_cast, first_lost, cast_fault, place_named, field_fault, first_fault, IsCastFault, with_casts, placed_cast, with_placed, with_all_placed, FitsAt};
+ghost use Rattle.pl_cells.specs.Casts.{is_read, is_carried, is_text_cast, read_cell, carried_cell, carried_cast, is_lost, first_lost, cast_fault, field_fault, first_fault, IsCastFault, with_casts, placed_cast, with_placed, with_all_placed, FitsAt};
 
 use crate::decimal_type::Decimal;
 use crate::moment_types::{Date, Datetime, Time};
@@ -59,11 +60,23 @@ fn make_casts(
     let mut casts = Vec::new(alloc);
     for field in to_cast {
         let cast = cast_field(alloc, columns, field, ignore_errors)?;
-        if casts.push(cast).is_err() {
-            return Err(PolarsError::OutOfMemory);
-        }
+        push_cast(&mut casts, cast)?;
     }
     Ok(casts)
+}
+
+// Puts a column with its place at the end.
+fn push_cast(
+    casts: &mut Vec<Option<(usize, Column)>>,
+    cast: Option<(usize, Column)>,
+) -> PolarsResult<()>
+    ensures pushed { OnOk result (casts.new.items ≡ casts.old.items ++ cast ∷ []) }
+    ensures refused { IsOkUnless result error.OutOfMemory }
+{
+    if casts.push(cast).is_err() {
+        return Err(PolarsError::OutOfMemory);
+    }
+    Ok(())
 }
 
 // Puts each column at its place, from the last to the first.
@@ -112,7 +125,7 @@ fn cast_field(
 
 // The place of the column of a name.
 fn place_named(columns: &[Column], name: &str) -> Option<usize>
-    ensures place { result ≡ place_named name.now columns.now }
+    ensures place { result ≡ position (λ column. bytes_eq name.now column.name) columns.now }
     ensures within { IfSome result (λ place. place < length columns.now) }
 {
     columns.iter().position(|column| name == column.name())
@@ -188,18 +201,28 @@ fn first_lost(column: &Column, cast: &Column) -> Option<usize>
     ensures { result ≡ first_lost column.now cast.now.dtype }
 {
     for row in 0..column.len() {
-        if is_null(cast.get(row)) && !is_null(column.get(row)) {
+        if is_lost_at(column, cast, row) {
             return Some(row);
         }
     }
     None
 }
 
+// Whether a row is null in the cast column, and was not.
 #[inline]
-fn is_null(value: Value<'_>) -> bool
-    ensures { result ≡ is_none (scalar_of value.entry) }
+fn is_lost_at(column: &Column, cast: &Column, row: usize) -> bool
+    requires row { row < length column.now.values }
+    requires cast { cast.now ≡ carried_cast column.now cast.now.dtype }
+    ensures { result ≡ is_lost column.now.dtype cast.now.dtype (cell_at column.now row) }
 {
-    matches!(value, Value::Null)
+    is_lost(column.get(row), cast.get(row))
+}
+
+#[inline]
+fn is_lost(before: Value<'_>, after: Value<'_>) -> bool
+    ensures { result ≡ (is_some (scalar_of before.entry) && is_none (scalar_of after.entry)) }
+{
+    !matches!(before, Value::Null) && matches!(after, Value::Null)
 }
 
 // The column of the values that texts write.

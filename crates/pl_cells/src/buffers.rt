@@ -118,3 +118,99 @@ fn make_buffers(
     }
     Ok(buffers)
 }
+
+#[cfg(test)]
+mod tests {
+    use super::*;
+    use crate::cell_fault::CellFault;
+    use pl_frame::codes::CodesBuilder;
+    use pl_frame::column::Column;
+    use pl_frame::texts::Texts;
+    use std::test::Fail;
+
+    fn name(alloc: Global) -> Result<PlSmallStr, Fail> {
+        Ok(PlSmallStr::from_str(alloc, "a")?)
+    }
+
+    // A schema of one column `a`.
+    fn schema_of(alloc: Global, dtype: DataType) -> Result<Schema, Fail>
+        ensures { IfOk result (λ schema. length schema ≡ 1) }
+    {
+        let mut schema = Schema::new(alloc);
+        let name = name(alloc)?;
+        schema.with_column(name, dtype)?;
+        Ok(schema)
+    }
+
+    // A buffer of a column `a`, whose texts are read with the quote `"`.
+    fn buffer_of(alloc: Global, dtype: DataType) -> Result<Buffer, Fail> {
+        let schema = schema_of(alloc, dtype)?;
+        let mut buffers = init_buffers(alloc, &[0], 4, &schema, Some(b'"'), CsvEncoding::Utf8)?;
+        Ok(buffers.pop().ok_or("no buffer")?)
+    }
+
+    // What is wrong with a field that is added.
+    fn fault(buffer: &mut Buffer, field: &[u8]) -> Option<CellFault> {
+        let is_quoted = field.first() == Some(&b'"');
+        buffer.add(field, false, is_quoted, true).err()
+    }
+
+    #[test]
+    fn a_decimal_without_a_scale_is_refused(rt: HostRuntime) -> Result<(), Fail> {
+        let alloc = rt.alloc();
+        let schema = schema_of(alloc, DataType::Decimal(None, None))?;
+        let refused = init_buffers(alloc, &[0], 4, &schema, None, CsvEncoding::Utf8);
+        assert!(rt; matches!(
+            refused,
+            Err(PolarsError::ComputeError(ComputeFault::Dtype { column: 0 }))
+        ));
+        Ok(())
+    }
+
+    #[test]
+    fn numbers_lose_blanks_in_front(rt: HostRuntime) -> Result<(), Fail> {
+        let alloc = rt.alloc();
+        let mut buffer = buffer_of(alloc, DataType::Int64)?;
+        assert_eq!(rt; fault(&mut buffer, b"x"), Some(CellFault::Value));
+        assert_eq!(rt; buffer.len(), 0);
+        assert_eq!(rt; fault(&mut buffer, b" 5"), None);
+        assert!(rt; buffer.add_null(true).is_ok());
+        assert!(rt; buffer.dtype()? == DataType::Int64);
+        let column = buffer.into_series()?;
+        let values = vec![in alloc; Some(5), None]?;
+        let expected = Column::whole(alloc, name(alloc)?, DataType::Int64, values)?;
+        assert!(rt; column == expected);
+        Ok(())
+    }
+
+    #[test]
+    fn strings_are_undoubled(rt: HostRuntime) -> Result<(), Fail> {
+        let alloc = rt.alloc();
+        let mut buffer = buffer_of(alloc, DataType::String)?;
+        assert_eq!(rt; fault(&mut buffer, b"\"a\"b\"c\""), None);
+        assert_eq!(rt; fault(&mut buffer, b"\""), Some(CellFault::Escape));
+        assert_eq!(rt; fault(&mut buffer, b"\xFF"), Some(CellFault::Utf8));
+        assert!(rt; buffer.add_null(true).is_ok());
+        let column = buffer.into_series()?;
+        let mut texts = Texts::new(alloc);
+        texts.push("abc")?;
+        texts.push("")?;
+        assert!(rt; column == Column::from_string(name(alloc)?, texts));
+        Ok(())
+    }
+
+    #[test]
+    fn an_empty_category_stands_between_quotes(rt: HostRuntime) -> Result<(), Fail> {
+        let alloc = rt.alloc();
+        let mut buffer = buffer_of(alloc, DataType::Categorical)?;
+        assert_eq!(rt; fault(&mut buffer, b"\"\""), None);
+        assert!(rt; buffer.add(b"", false, false, false).is_ok());
+        let column = buffer.into_series()?;
+        let mut texts = CodesBuilder::new(alloc);
+        texts.push("")?;
+        texts.push_null()?;
+        let expected = Column::from_categories(name(alloc)?, texts.into_codes());
+        assert!(rt; column == expected);
+        Ok(())
+    }
+}

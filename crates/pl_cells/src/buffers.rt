@@ -126,27 +126,28 @@ mod tests {
     use pl_frame::codes::CodesBuilder;
     use pl_frame::column::Column;
     use pl_frame::texts::Texts;
-    use std::test::Fail;
+    use std::process::Abort;
 
-    fn name(alloc: Global) -> Result<PlSmallStr, Fail> {
-        Ok(PlSmallStr::from_str(alloc, "a")?)
+    fn name(rt: &impl Abort, alloc: Global) -> PlSmallStr {
+        PlSmallStr::from_str(alloc, "a").expect(rt, "a name")
     }
 
     // A schema of one column `a`.
-    fn schema_of(alloc: Global, dtype: DataType) -> Result<Schema, Fail>
-        ensures { IfOk result (λ schema. length schema ≡ 1) }
+    fn schema_of(rt: &impl Abort, alloc: Global, dtype: DataType) -> Schema
+        ensures { length result ≡ 1 }
     {
         let mut schema = Schema::new(alloc);
-        let name = name(alloc)?;
-        schema.with_column(name, dtype)?;
-        Ok(schema)
+        schema.with_column(name(rt, alloc), dtype).expect(rt, "a column");
+        schema
     }
 
     // A buffer of a column `a`, whose texts are read with the quote `"`.
-    fn buffer_of(alloc: Global, dtype: DataType) -> Result<Buffer, Fail> {
-        let schema = schema_of(alloc, dtype)?;
-        let mut buffers = init_buffers(alloc, &[0], 4, &schema, Some(b'"'), CsvEncoding::Utf8)?;
-        Ok(buffers.pop().ok_or("no buffer")?)
+    fn buffer_of(rt: &impl Abort, alloc: Global, dtype: DataType) -> Buffer {
+        let schema = schema_of(rt, alloc, dtype);
+        let quote = Some(b'"');
+        let buffers = init_buffers(alloc, &[0], 4, &schema, quote, CsvEncoding::Utf8);
+        let mut buffers = buffers.expect(rt, "buffers");
+        buffers.pop().expect(rt, "a buffer")
     }
 
     // What is wrong with a field that is added.
@@ -155,62 +156,68 @@ mod tests {
         buffer.add(field, false, is_quoted, true).err()
     }
 
+    fn is_int64(rt: &impl Abort, alloc: Global, column: &Column, number: i128) -> bool {
+        let mut numbers = Vec::new(alloc);
+        numbers.push(Some(number)).expect(rt, "a number");
+        numbers.push(None).expect(rt, "a null");
+        let expected = Column::whole(alloc, name(rt, alloc), DataType::Int64, numbers);
+        *column == expected.expect(rt, "a column")
+    }
+
+    fn is_string(rt: &impl Abort, alloc: Global, column: &Column, first: &str, second: &str) -> bool {
+        let mut texts = Texts::new(alloc);
+        texts.push(first).expect(rt, "a text");
+        texts.push(second).expect(rt, "a text");
+        *column == Column::from_string(name(rt, alloc), texts)
+    }
+
+    fn is_category(rt: &impl Abort, alloc: Global, column: &Column, first: &str) -> bool {
+        let mut texts = CodesBuilder::new(alloc);
+        texts.push(first).expect(rt, "a text");
+        texts.push_null().expect(rt, "a null");
+        *column == Column::from_categories(name(rt, alloc), texts.into_codes())
+    }
+
+    fn series(rt: &impl Abort, buffer: Buffer) -> Column {
+        buffer.into_series().expect(rt, "a column")
+    }
+
     #[test]
-    fn a_decimal_without_a_scale_is_refused(rt: HostRuntime) -> Result<(), Fail> {
-        let alloc = rt.alloc();
-        let schema = schema_of(alloc, DataType::Decimal(None, None))?;
-        let refused = init_buffers(alloc, &[0], 4, &schema, None, CsvEncoding::Utf8);
+    fn a_decimal_without_a_scale_is_refused(rt: HostRuntime) {
+        let schema = schema_of(&rt, rt.alloc(), DataType::Decimal(None, None));
+        let refused = init_buffers(rt.alloc(), &[0], 4, &schema, None, CsvEncoding::Utf8);
         assert!(rt; matches!(
             refused,
             Err(PolarsError::ComputeError(ComputeFault::Dtype { column: 0 }))
         ));
-        Ok(())
     }
 
     #[test]
-    fn numbers_lose_blanks_in_front(rt: HostRuntime) -> Result<(), Fail> {
-        let alloc = rt.alloc();
-        let mut buffer = buffer_of(alloc, DataType::Int64)?;
+    fn numbers_lose_blanks_in_front(rt: HostRuntime) {
+        let mut buffer = buffer_of(&rt, rt.alloc(), DataType::Int64);
         assert_eq!(rt; fault(&mut buffer, b"x"), Some(CellFault::Value));
         assert_eq!(rt; buffer.len(), 0);
         assert_eq!(rt; fault(&mut buffer, b" 5"), None);
         assert!(rt; buffer.add_null(true).is_ok());
-        assert!(rt; buffer.dtype()? == DataType::Int64);
-        let column = buffer.into_series()?;
-        let values = vec![in alloc; Some(5), None]?;
-        let expected = Column::whole(alloc, name(alloc)?, DataType::Int64, values)?;
-        assert!(rt; column == expected);
-        Ok(())
+        assert!(rt; buffer.dtype().expect(&rt, "a type") == DataType::Int64);
+        assert!(rt; is_int64(&rt, rt.alloc(), &series(&rt, buffer), 5));
     }
 
     #[test]
-    fn strings_are_undoubled(rt: HostRuntime) -> Result<(), Fail> {
-        let alloc = rt.alloc();
-        let mut buffer = buffer_of(alloc, DataType::String)?;
+    fn strings_are_undoubled(rt: HostRuntime) {
+        let mut buffer = buffer_of(&rt, rt.alloc(), DataType::String);
         assert_eq!(rt; fault(&mut buffer, b"\"a\"b\"c\""), None);
         assert_eq!(rt; fault(&mut buffer, b"\""), Some(CellFault::Escape));
         assert_eq!(rt; fault(&mut buffer, b"\xFF"), Some(CellFault::Utf8));
         assert!(rt; buffer.add_null(true).is_ok());
-        let column = buffer.into_series()?;
-        let mut texts = Texts::new(alloc);
-        texts.push("abc")?;
-        texts.push("")?;
-        assert!(rt; column == Column::from_string(name(alloc)?, texts));
-        Ok(())
+        assert!(rt; is_string(&rt, rt.alloc(), &series(&rt, buffer), "abc", ""));
     }
 
     #[test]
-    fn an_empty_category_stands_between_quotes(rt: HostRuntime) -> Result<(), Fail> {
-        let alloc = rt.alloc();
-        let mut buffer = buffer_of(alloc, DataType::Categorical)?;
+    fn an_empty_category_stands_between_quotes(rt: HostRuntime) {
+        let mut buffer = buffer_of(&rt, rt.alloc(), DataType::Categorical);
         assert_eq!(rt; fault(&mut buffer, b"\"\""), None);
         assert!(rt; buffer.add(b"", false, false, false).is_ok());
-        let column = buffer.into_series()?;
-        let mut texts = CodesBuilder::new(alloc);
-        texts.push("")?;
-        texts.push_null()?;
-        let expected = Column::from_categories(name(alloc)?, texts.into_codes());
-        assert!(rt; column == expected);
-        Ok(())
+        assert!(rt; is_category(&rt, rt.alloc(), &series(&rt, buffer), ""));
     }
 }

@@ -321,89 +321,86 @@ mod tests {
     use super::*;
     use pl_frame::data_type::TimeUnit;
     use pl_frame::texts::Texts;
-    use std::test::Fail;
+    use std::process::Abort;
 
-    // A frame of one column `a` of texts.
-    fn texts(alloc: Global, texts: &[&str]) -> Result<DataFrame, Fail> {
-        let mut kept = Texts::new(alloc);
-        for text in texts {
-            kept.push(text)?;
-        }
-        let column = Column::from_string(PlSmallStr::from_str(alloc, "a")?, kept);
-        Ok(DataFrame::new(alloc, vec![in alloc; column]?)?)
+    fn name(rt: &impl Abort, alloc: Global, text: &str) -> PlSmallStr {
+        PlSmallStr::from_str(alloc, text).expect(rt, "a name")
     }
 
-    // A frame of one column `a` of numbers of 64 bits.
-    fn int64s(alloc: Global, numbers: Vec<Option<i128>>) -> Result<DataFrame, Fail> {
-        let name = PlSmallStr::from_str(alloc, "a")?;
-        let column = Column::whole(alloc, name, DataType::Int64, numbers)?;
-        Ok(DataFrame::new(alloc, vec![in alloc; column]?)?)
+    fn frame_of(rt: &impl Abort, alloc: Global, column: Column) -> DataFrame {
+        let mut columns = Vec::new(alloc);
+        columns.push(column).expect(rt, "a column");
+        DataFrame::new(alloc, columns).expect(rt, "a frame")
     }
 
-    // The same of 16 bits.
-    fn int16s(alloc: Global, numbers: Vec<Option<i128>>) -> Result<DataFrame, Fail> {
-        let name = PlSmallStr::from_str(alloc, "a")?;
-        let column = Column::whole(alloc, name, DataType::Int16, numbers)?;
-        Ok(DataFrame::new(alloc, vec![in alloc; column]?)?)
+    // A frame of one column `a` of two texts.
+    fn texts(rt: &impl Abort, alloc: Global, first: &str, second: &str) -> DataFrame {
+        let mut texts = Texts::new(alloc);
+        texts.push(first).expect(rt, "a text");
+        texts.push(second).expect(rt, "a text");
+        frame_of(rt, alloc, Column::from_string(name(rt, alloc, "a"), texts))
+    }
+
+    // A frame of one column `a` of a number and another or a null.
+    fn int64s(rt: &impl Abort, alloc: Global, first: i64, second: Option<i64>) -> DataFrame {
+        let mut numbers = Numbers::new(alloc);
+        numbers.push(first).expect(rt, "a number");
+        push_option(&mut numbers, second).expect(rt, "a number");
+        frame_of(rt, alloc, Column::from_int64(name(rt, alloc, "a"), numbers))
     }
 
     // Casts the column of a name.
     fn cast(
-        alloc: Global,
+        rt: &impl Abort, alloc: Global,
         df: &mut DataFrame,
-        name: &str,
+        column: &str,
         dtype: DataType,
         ignore_errors: bool,
     ) -> PolarsResult<()> {
-        let name = PlSmallStr::from_str(alloc, name)?;
+        let name = name(rt, alloc, column);
         let field = [Field { name, dtype }];
         cast_columns(alloc, df, &field, true, ignore_errors)
     }
 
-    // The number, or the truth value as a number, of a text under another type.
-    fn value_of(alloc: Global, text: &str, dtype: DataType) -> Result<Option<i128>, Fail> {
-        let mut df = texts(alloc, &[text])?;
-        cast(alloc, &mut df, "a", dtype, true)?;
-        let column = df.columns().first().ok_or("no column")?;
+    // The number, or the truth value as a number, in the first row of the first column.
+    fn first_number(df: &DataFrame) -> Option<i128> {
+        let column = df.columns().first()?;
         if column.len() == 0 {
-            return Ok(None);
+            return None;
         }
         match column.get(0) {
-            Value::Whole(number) => Ok(Some(number)),
-            Value::Boolean(truth) => Ok(Some(i128::from(truth))),
-            _ => Ok(None),
+            Value::Whole(number) => Some(number),
+            Value::Boolean(truth) => Some(i128::from(truth)),
+            _ => None,
         }
     }
 
-    #[test]
-    fn texts_have_the_values_that_they_write(rt: HostRuntime) -> Result<(), Fail> {
-        let alloc = rt.alloc();
-        assert_eq!(rt; value_of(alloc, "TRUE", DataType::Boolean)?, Some(1));
-        assert_eq!(rt; value_of(alloc, "+7", DataType::Int8)?, Some(7));
-        assert_eq!(rt; value_of(alloc, "-1", DataType::UInt64)?, None);
-        assert_eq!(rt; value_of(alloc, " 7", DataType::Int64)?, None);
-        assert_eq!(rt; value_of(alloc, "", DataType::Int64)?, None);
-        assert_eq!(rt; value_of(alloc, "2024-02-29", DataType::Date)?, Some(19782));
-        Ok(())
+    // The number of a text under another type.
+    fn value_of(rt: &impl Abort, alloc: Global, text: &str, dtype: DataType) -> Option<i128> {
+        let mut df = texts(rt, alloc, text, "");
+        cast(rt, alloc, &mut df, "a", dtype, true).expect(rt, "a cast");
+        first_number(&df)
     }
 
     #[test]
-    fn texts_have_times_and_decimals(rt: HostRuntime) -> Result<(), Fail> {
-        let alloc = rt.alloc();
-        let dtype = DataType::Time;
-        assert_eq!(rt; value_of(alloc, "23:59:59.5", dtype)?, Some(86_399_500_000_000));
+    fn texts_have_the_values_that_they_write(rt: HostRuntime) {
+        assert_eq!(rt; value_of(&rt, rt.alloc(), "TRUE", DataType::Boolean), Some(1));
+        assert_eq!(rt; value_of(&rt, rt.alloc(), "+7", DataType::Int8), Some(7));
+        assert_eq!(rt; value_of(&rt, rt.alloc(), "-1", DataType::UInt64), None);
+        assert_eq!(rt; value_of(&rt, rt.alloc(), " 7", DataType::Int64), None);
+        assert_eq!(rt; value_of(&rt, rt.alloc(), "", DataType::Int64), None);
+        assert_eq!(rt; value_of(&rt, rt.alloc(), "2024-02-29", DataType::Date), Some(19782));
+        assert_eq!(rt; value_of(&rt, rt.alloc(), "23:59:59.5", DataType::Time), Some(86_399_500_000_000));
         let dtype = DataType::Datetime(TimeUnit::Milliseconds);
-        assert_eq!(rt; value_of(alloc, "1969-12-31T23:59:59.999", dtype)?, Some(-1));
+        assert_eq!(rt; value_of(&rt, rt.alloc(), "1969-12-31T23:59:59.999", dtype), Some(-1));
         let dtype = DataType::Decimal(None, Some(1));
-        assert_eq!(rt; value_of(alloc, "1.50", dtype)?, Some(15));
-        Ok(())
+        assert_eq!(rt; value_of(&rt, rt.alloc(), "1.50", dtype), Some(15));
     }
 
     #[test]
-    fn a_text_without_a_value_is_refused_or_null(rt: HostRuntime) -> Result<(), Fail> {
-        let alloc = rt.alloc();
-        let mut df = texts(alloc, &["1", "x"])?;
-        let refused = cast(alloc, &mut df, "a", DataType::Int64, false);
+    fn a_text_without_a_value_is_refused_or_null(rt: HostRuntime) {
+        let mut df = texts(&rt, rt.alloc(), "1", "x");
+        let refused = cast(&rt, rt.alloc(), &mut df, "a", DataType::Int64, false);
         assert!(rt; matches!(
             refused,
             Err(PolarsError::ComputeError(ComputeFault::Record {
@@ -412,37 +409,31 @@ mod tests {
                 kind: FaultKind::Value,
             }))
         ));
-        assert!(rt; df.equals(&texts(alloc, &["1", "x"])?));
-        cast(alloc, &mut df, "a", DataType::Int64, true)?;
-        let expected = int64s(alloc, vec![in alloc; Some(1), None]?)?;
-        assert!(rt; df.equals(&expected));
-        Ok(())
+        assert!(rt; df.equals(&texts(&rt, rt.alloc(), "1", "x")));
+        assert!(rt; cast(&rt, rt.alloc(), &mut df, "a", DataType::Int64, true).is_ok());
+        assert!(rt; df.equals(&int64s(&rt, rt.alloc(), 1, None)));
     }
 
     #[test]
-    fn types_go_together_or_are_refused(rt: HostRuntime) -> Result<(), Fail> {
-        let alloc = rt.alloc();
-        let mut df = int64s(alloc, vec![in alloc; Some(300)]?)?;
-        let refused = cast(alloc, &mut df, "a", DataType::Date, true);
+    fn types_go_together_or_are_refused(rt: HostRuntime) {
+        let mut df = int64s(&rt, rt.alloc(), 300, Some(5));
+        let refused = cast(&rt, rt.alloc(), &mut df, "a", DataType::Date, true);
         assert!(rt; matches!(
             refused,
             Err(PolarsError::ComputeError(ComputeFault::Dtype { column: 0 }))
         ));
-        cast(alloc, &mut df, "b", DataType::Date, false)?;
-        cast(alloc, &mut df, "a", DataType::Int16, false)?;
-        let expected = int16s(alloc, vec![in alloc; Some(300)]?)?;
-        assert!(rt; df.equals(&expected));
-        Ok(())
+        assert!(rt; cast(&rt, rt.alloc(), &mut df, "b", DataType::Date, false).is_ok());
+        assert!(rt; df.equals(&int64s(&rt, rt.alloc(), 300, Some(5))));
+        assert!(rt; cast(&rt, rt.alloc(), &mut df, "a", DataType::UInt8, true).is_ok());
+        assert_eq!(rt; first_number(&df), None);
     }
 
     #[test]
-    fn texts_become_categories_and_texts_again(rt: HostRuntime) -> Result<(), Fail> {
-        let alloc = rt.alloc();
-        let mut df = texts(alloc, &["p", "q", "p"])?;
-        cast(alloc, &mut df, "a", DataType::Categorical, false)?;
-        assert!(rt; !df.equals(&texts(alloc, &["p", "q", "p"])?));
-        cast(alloc, &mut df, "a", DataType::String, false)?;
-        assert!(rt; df.equals(&texts(alloc, &["p", "q", "p"])?));
-        Ok(())
+    fn texts_become_categories_and_texts_again(rt: HostRuntime) {
+        let mut df = texts(&rt, rt.alloc(), "p", "q");
+        assert!(rt; cast(&rt, rt.alloc(), &mut df, "a", DataType::Categorical, false).is_ok());
+        assert!(rt; !df.equals(&texts(&rt, rt.alloc(), "p", "q")));
+        assert!(rt; cast(&rt, rt.alloc(), &mut df, "a", DataType::String, false).is_ok());
+        assert!(rt; df.equals(&texts(&rt, rt.alloc(), "p", "q")));
     }
 }

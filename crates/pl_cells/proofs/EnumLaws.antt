@@ -24,7 +24,7 @@ abbrev enum_of : List (List ℕ) → List (Option (List ℕ)) → EnumValue
 enum_of categories texts = record { categories = categories; texts = texts }
 
 -- one value more of a type
-holds_push : (type : DataType) (xs : List (Option Scalar)) (v : Option Scalar) → HoldsType type xs → misfits type v ≡ false → HoldsType type (xs ++ v ∷ [])
+pub holds_push : (type : DataType) (xs : List (Option Scalar)) (v : Option Scalar) → HoldsType type xs → misfits type v ≡ false → HoldsType type (xs ++ v ∷ [])
 holds_push type xs v h fits = grind (arith, common_steps)
 
 false_from_not : (b : Bool) → true ≡ not b → b ≡ false

@@ -1,4 +1,5 @@
 pub mod BufferLaws
+pub mod CastLaws
 pub mod DateLaws
 pub mod DecimalLaws
 pub mod EnumLaws

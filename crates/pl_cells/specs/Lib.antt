@@ -1,6 +1,7 @@
 pub mod Booleans
 pub mod BufferState
 pub mod Buffers
+pub mod Casts
 pub mod Cells
 pub mod Dates
 pub mod Decimals

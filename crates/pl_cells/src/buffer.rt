@@ -70,7 +70,7 @@ impl Buffer {
                 CodesBuilder::new(alloc),
             )),
             DataType::Enum(Some(categories)) => {
-                let texts = EnumTexts::new(alloc, categories.try_clone()?);
+                let texts = EnumTexts::new(alloc, categories.try_clone()?)?;
                 Buffer::Enum(TextBuffer::new(alloc, settings, texts))
             }
             DataType::Date => Buffer::Date(ValueBuffer::new(alloc, settings, Date)),

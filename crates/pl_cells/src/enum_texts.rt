@@ -1,24 +1,81 @@
 //! Texts among the categories of an enum.
-ghost use Rattle.std.specs.Prelude.{◌≡◌, ◌++◌, ◌∷◌, [], Some, position, OnOk, OnErr};
+ghost use Rattle.std.specs.Prelude.{◌≡◌, ◌++◌, ◌∷◌, [], None, Some, position, IfOk, IsOkUnless, OnOk, OnErr};
 ghost use Rattle.std.specs.Str.{bytes_eq};
 ghost use Rattle.pl_frame.specs.declared.data_type.DataType.TheVariants as dtype;
+ghost use Rattle.pl_frame.specs.declared.error.PolarsError.TheVariants as error;
 ghost use Rattle.pl_frame.specs.Columns.{text_cells};
+ghost use Rattle.pl_frame.specs.Names.{first_repeat};
 
 use crate::cell_fault::CellFault;
 use crate::text_types::{TextType, as_text};
 use crate::utf8::CsvEncoding;
 use pl_frame::column::Column;
 use pl_frame::data_type::{Categories, DataType};
-use pl_frame::error::PolarsResult;
+use pl_frame::error::{PolarsError, PolarsResult};
 use pl_frame::name::PlSmallStr;
 use pl_frame::numbers::Numbers;
+use pl_frame::places::Places;
 use std::alloc::{AllocError, Global};
 use std::marker::Model;
 
-/// Texts among categories, with nulls: for each text the first place where it stands among them.
+// Categories of which none stands twice. The place of each is found by its hash.
+#[derive(Drop)]
+struct FoundCategories {
+    texts: Categories,
+    places: Places,
+}
+
+impl Model for FoundCategories {
+    ghost use Rattle.std.specs.Prelude.{◌≡◌, ℕ, List};
+
+    ghost Value = { List (List ℕ) };
+
+    ghost view = { λ c. c.texts };
+
+    ghost invariant = { λ c. c.places ≡ c.texts };
+}
+
+impl FoundCategories {
+    // Refuses only want of memory.
+    fn new(alloc: Global, texts: Categories) -> PolarsResult<Self>
+        requires { first_repeat texts ≡ None }
+        ensures made { IfOk result (λ categories. categories ≡ texts) }
+        ensures refused { IsOkUnless result error.OutOfMemory }
+    {
+        match Places::new(alloc, texts.texts()) {
+            Ok(places) => Ok(FoundCategories { texts, places }),
+            Err(_) => Err(PolarsError::OutOfMemory),
+        }
+    }
+
+    // The place of a text.
+    #[inline]
+    fn find(&self, text: &str) -> Option<usize>
+        ensures { result ≡ position (bytes_eq text.now) self.now }
+    {
+        self.places.find(text)
+    }
+
+    // Equal categories. Refuses only want of memory.
+    fn copy_texts(&self) -> PolarsResult<Categories>
+        ensures equal { IfOk result (λ texts. texts ≡ self.now) }
+        ensures refused { IsOkUnless result error.OutOfMemory }
+    {
+        self.texts.try_clone()
+    }
+
+    fn into_texts(self) -> Categories
+        ensures { result ≡ self }
+    {
+        let FoundCategories { texts, places: _ } = self;
+        texts
+    }
+}
+
+/// Texts among categories, with nulls: for each text the place where it stands among them.
 #[derive(Drop)]
 pub struct EnumTexts {
-    categories: Categories,
+    categories: FoundCategories,
     places: Numbers<u64>,
 }
 
@@ -34,14 +91,17 @@ impl Model for EnumTexts {
 }
 
 impl EnumTexts {
-    /// No texts among these categories, without taking memory.
-    pub fn new(alloc: Global, categories: Categories) -> Self
-        ensures { result ≡ record { categories = categories; texts = [] } }
+    /// No texts among these categories. Refuses only want of memory.
+    pub fn new(alloc: Global, categories: Categories) -> PolarsResult<Self>
+        requires { first_repeat categories ≡ None }
+        ensures empty { IfOk result (λ texts. texts ≡ record { categories = categories; texts = [] }) }
+        ensures refused { IsOkUnless result error.OutOfMemory }
     {
-        EnumTexts {
+        let categories = FoundCategories::new(alloc, categories)?;
+        Ok(EnumTexts {
             categories,
             places: Numbers::new(alloc),
-        }
+        })
     }
 
     // Puts the text of a place at the end.
@@ -59,15 +119,8 @@ impl EnumTexts {
     fn place_of(&self, text: &str) -> Option<usize>
         ensures { result ≡ position (bytes_eq text.now) self.now.categories }
     {
-        place_among(self.categories.texts(), text)
+        self.categories.find(text)
     }
-}
-
-// The first place of a text.
-fn place_among(texts: &[PlSmallStr], text: &str) -> Option<usize>
-    ensures { result ≡ position (bytes_eq text.now) texts.now }
-{
-    texts.iter().position(|other| text == other.as_str())
 }
 
 // Enums.
@@ -77,7 +130,7 @@ impl TextType for EnumTexts {
     ghost values = { λ t. text_cells t.texts };
 
     fn data_type(&self) -> PolarsResult<DataType> {
-        let categories = self.categories.try_clone()?;
+        let categories = self.categories.copy_texts()?;
         Ok(DataType::Enum(Some(categories)))
     }
 
@@ -114,6 +167,10 @@ impl TextType for EnumTexts {
 
     fn column(self, name: PlSmallStr) -> Column {
         let EnumTexts { categories, places } = self;
-        Column::from_enum(name, DataType::Enum(Some(categories)), places)
+        Column::from_enum(
+            name,
+            DataType::Enum(Some(categories.into_texts())),
+            places,
+        )
     }
 }

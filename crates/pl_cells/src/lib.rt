@@ -4,6 +4,7 @@
 pub mod booleans;
 pub mod buffer;
 pub mod buffers;
+pub mod casts;
 pub mod cell_fault;
 pub mod column_settings;
 pub mod dates;

@@ -273,6 +273,18 @@ mod tests {
                 TimeUnit::Nanoseconds,
                 None,
             ),
+            (
+                b"0000-01-01T00:00:00",
+                TimeUnit::Milliseconds,
+                Some(-62167219200000),
+            ),
+            (
+                b"9999-12-31T23:59:59.999999",
+                TimeUnit::Microseconds,
+                Some(253402300799999999),
+            ),
+            (b"0000-01-01T00:00:00", TimeUnit::Nanoseconds, None),
+            (b"9999-12-31T23:59:59", TimeUnit::Nanoseconds, None),
             (b"1970-01-01t00:00:00", TimeUnit::Nanoseconds, None),
             (b"1970-01-01  00:00:00", TimeUnit::Nanoseconds, None),
             (b"1970-01-01", TimeUnit::Nanoseconds, None),

@@ -3,9 +3,10 @@ use Rattle.std.proofs.Common.{◌≡◌, ◌≢◌, ℕ, zero, suc, ◌<◌, Boo
 use Rattle.pl_frame.specs.declared.data_type.DataType.{DataType}
 use Rattle.pl_frame.specs.Casts.{is_cast, can_cast, with_cast, cast_column}
 use Rattle.pl_frame.specs.Frame.{ColumnValue, IsFrame, HaveHeight, height_of, names_of}
-use Rattle.std.specs.Option.{option_map_or}
+use Rattle.std.specs.List.{AllByRecursion}
+use Rattle.std.specs.Option.{option_map, option_map_or}
 use Rattle.std.proofs.lemmas.List.{length-map}
-use Rattle.std.proofs.lemmas.Option.{slice_get-get_or}
+use Rattle.std.proofs.lemmas.Option.{slice_get-get_or, slice_get-map, slice_get_within}
 
 none-some : {X : Type 0} (x : X) → None ≡ Some x → ⊥
 none-some x e = cc
@@ -61,3 +62,35 @@ with_cast-same columns i to column at same = with_cast-at columns i to column at
 
 pub frame_cast : (columns : List ColumnValue) (i : ℕ) (to : DataType) (column : ColumnValue) → slice_get columns i ≡ Some column → IsFrame columns → IsFrame (slice_set columns i (cast_column column to))
 frame_cast columns i to column at frame = frame_set column (cast_column column to) (length-map column.values _) refl columns i at frame
+
+-- ---- a column of a name and height that stand there
+
+all_at : {X : Type 0} (P : X → Type 0) (xs : List X) (i : ℕ) (x : X) → slice_get xs i ≡ Some x → AllByRecursion P xs → P x
+all_at P [] i x at all = absurd (none-some x at)
+all_at P (y ∷ ys) zero x at all = subst P (some_same _ _ at) all.0
+all_at P (y ∷ ys) (suc i) x at all = all_at P ys i x at all.1
+
+module _ (new : ColumnValue) (columns : List ColumnValue) (i : ℕ) (named : slice_get (names_of columns) i ≡ Some new.name) where
+  pub fits_within : i < length columns
+  fits_within = let l = slice_get_within (names_of columns) i new.name named in let same = length-map columns (λ (c : ColumnValue). c.name) in omega (arith, l, same)
+
+  at : slice_get columns i ≡ Some (get_or columns i new)
+  at = slice_get-get_or columns i new fits_within
+
+  same_name : new.name ≡ (get_or columns i new).name
+  same_name = some_same _ _ (sym named ∙ slice_get-map (λ (c : ColumnValue). c.name) columns i ∙ ap (option_map (λ (c : ColumnValue). c.name)) at)
+
+  module _ (one_height : HaveHeight (height_of columns) columns) (tall : length new.values ≡ height_of columns) where
+    same_height : length new.values ≡ length (get_or columns i new).values
+    same_height = tall ∙ sym (all_at (λ (c : ColumnValue). length c.values ≡ height_of columns) columns i (get_or columns i new) at one_height)
+
+    pub fits_names : names_of (slice_set columns i new) ≡ names_of columns
+    fits_names = names_set (get_or columns i new) new same_height same_name columns i at
+
+    pub fits_height : height_of (slice_set columns i new) ≡ height_of columns
+    fits_height = height_of-set (get_or columns i new) new same_height same_name columns i at
+
+pub fits_frame : (new : ColumnValue) (columns : List ColumnValue) (i : ℕ) → slice_get (names_of columns) i ≡ Some new.name → length new.values ≡ height_of columns → IsFrame columns
+    → IsFrame (slice_set columns i new)
+fits_frame new columns i named tall frame =
+    frame_set (get_or columns i new) new (same_height new columns i named frame.one_height tall) (same_name new columns i named) columns i (at new columns i named) frame

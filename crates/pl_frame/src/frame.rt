@@ -1,5 +1,5 @@
 //! Frames: columns of one height with distinct names.
-ghost use Rattle.std.specs.Prelude.{◌≡◌, ◌<◌, length, IfSome, IfOk, OnOk, OnErr, IfErr, true, IsOkUnless, None, Some, slice_index_or, []};
+ghost use Rattle.std.specs.Prelude.{◌≡◌, ◌<◌, length, IfSome, IfOk, OnOk, OnErr, IfErr, true, IsOkUnless, None, Some, slice_get, slice_set, slice_index_or, []};
 ghost use Rattle.std.specs.Bool.{Decides};
 ghost use Rattle.std.specs.Cmp.{partial_equiv_from_equiv};
 ghost use Rattle.std.specs.Cmp.Lexicographic.{lists_equiv, lists_per, pointwise};
@@ -95,6 +95,17 @@ impl DataFrame {
         let cast = self.columns[column].cast(*self.columns.allocator(), to)?;
         self.columns[column] = cast;
         Ok(())
+    }
+
+    /// Puts another column in the place of one of the same name and height. Takes no memory.
+    pub fn set_column(&mut self, place: usize, column: Column)
+        requires name { slice_get (names_of self.old) place ≡ Some column.name }
+        requires height { length column.values ≡ height_of self.old }
+        ensures set { self.new ≡ slice_set self.old place column }
+        ensures names { names_of self.new ≡ names_of self.old }
+        ensures rows { height_of self.new ≡ height_of self.old }
+    {
+        self.columns[place] = column;
     }
 
     /// The number of rows, without taking memory.

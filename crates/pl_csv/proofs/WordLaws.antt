@@ -19,7 +19,7 @@ use Rattle.pl_cells.specs.Integers.{number_after, number_of, number_below}
 use Rattle.pl_cells.proofs.IntegerLaws.{digit_small}
 use Rattle.pl_csv.specs.SchemaText.{entry_of, all_of, are_distinct, schema_of, small_number}
 use Rattle.pl_csv.specs.Splitting.{parts_at}
-use Rattle.pl_csv.specs.Words.{ Part, parts_of, count_of, once, with_value, with_output, with_part, with_parts, settings_of_given}
+use Rattle.pl_csv.specs.Words.{Part, parts_of, count_of, once, with_value, with_output, with_part, with_parts, settings_of_given}
 use Rattle.pl_csv.specs.declared.settings.Settings.{Settings}
 use Rattle.pl_csv.specs.declared.options.Given.{Given}
 use Rattle.pl_csv.specs.declared.output.GivenOutput.{GivenOutput}

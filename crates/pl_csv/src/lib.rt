@@ -12,6 +12,8 @@ pub mod read_all;
 mod reading;
 mod rows;
 pub mod run;
+#[cfg(test)]
+mod run_rows;
 mod schema_text;
 mod settings;
 mod splitting;

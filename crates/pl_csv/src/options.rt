@@ -5,10 +5,10 @@ ghost use Rattle.pl_scan.specs.Comment.{prefix_from};
 ghost use Rattle.pl_csv.specs.SchemaText.{schema_of};
 ghost use Rattle.pl_csv.specs.Words.{encoding_of, hexadecimal_digit, hexadecimal_pair, byte_of, quote_of, count_of, once, once_flag, with_value, with_flag, with_part, nothing_given, settings_of_given};
 
-use crate::output::{GivenOutput, give_output, write_options_of};
-use crate::settings::Settings;
 use crate::null_words::{give_null_list, give_null_names, give_null_text};
+use crate::output::{GivenOutput, give_output, write_options_of};
 use crate::schema_text::parse_schema;
+use crate::settings::Settings;
 use crate::words::WordsFault;
 use pl_cells::integers::number_of;
 use pl_cells::null_values::NullValues;

@@ -197,3 +197,39 @@ pub fn parse_schema(alloc: Global, text: &str) -> Result<Schema, WordsFault>
     Ok(schema)
 }
 
+#[cfg(test)]
+mod tests {
+    use super::*;
+    use std::test::Fail;
+
+    fn width(schema: Result<Schema, WordsFault>) -> Result<usize, WordsFault> {
+        match schema {
+            Ok(schema) => Ok(schema.len()),
+            Err(fault) => Err(fault),
+        }
+    }
+
+    #[test]
+    fn schema_texts(rt: HostRuntime) -> Result<(), Fail> {
+        let alloc = rt.alloc();
+        let refused = Err(WordsFault::Words);
+        for (text, columns) in [
+            ("a:int64,b:string", Ok(2)),
+            (":int64", Ok(1)),
+            ("a:int64,a:string", refused),
+            ("a", refused),
+            ("a:int64,", refused),
+            ("a:int7", refused),
+            ("a:enum/x/,b:decimal/-/2,c:datetime/us,d:null,e:decimal", Ok(5)),
+            ("a:datetime", refused),
+            ("a:decimal/1", refused),
+            ("a:decimal/100/2", refused),
+            ("a:decimal/-/2/3", refused),
+            ("", refused),
+            ("a:b:int64", refused),
+        ] {
+            assert_eq!(rt; width(parse_schema(alloc, text)), columns, "at {text}");
+        }
+        Ok(())
+    }
+}

@@ -9,9 +9,6 @@ ghost use Rattle.pl_csv.specs.Words.{is_value, flags, whole_part, parts_of, sett
 use crate::options::{Given, give_part, settings_of};
 use crate::settings::Settings;
 use crate::splitting::cut_at;
-use pl_frame::data_type::DataType;
-use pl_frame::name::PlSmallStr;
-use pl_frame::schema::Schema;
 use std::alloc::Global;
 
 /// Why words mean no schema.
@@ -104,13 +101,6 @@ mod tests {
     use pl_scan::comment::CommentPrefix;
     use std::test::Fail;
 
-    fn width(schema: Result<Schema, WordsFault>) -> Result<usize, WordsFault> {
-        match schema {
-            Ok(schema) => Ok(schema.len()),
-            Err(fault) => Err(fault),
-        }
-    }
-
     // What a test compares of settings.
     #[derive(Clone, Copy, Debug, PartialEq, Eq)]
     struct Meant {
@@ -171,25 +161,6 @@ mod tests {
             }),
             Err(fault) => Err(fault),
         }
-    }
-
-    #[test]
-    fn schema_texts(rt: HostRuntime) -> Result<(), Fail> {
-        let alloc = rt.alloc();
-        let refused = Err(WordsFault::Words);
-        for (text, columns) in [
-            ("a:int64,b:string", Ok(2)),
-            (":int64", Ok(1)),
-            ("a:int64,a:string", refused),
-            ("a", refused),
-            ("a:int64,", refused),
-            ("a:int8", refused),
-            ("", refused),
-            ("a:b:int64", refused),
-        ] {
-            assert_eq!(rt; width(parse_schema(alloc, text)), columns, "at {text}");
-        }
-        Ok(())
     }
 
     #[test]

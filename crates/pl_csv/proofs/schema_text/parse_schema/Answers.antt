@@ -8,4 +8,3 @@ pub loop-part-init : goal.loop-part-init
 loop-part-init c =
     let entries = map entry_of (parts_at 44 c.args.text.now) in
     (c.utf8.text, schema_of-entries c.args.text.now ∙ ap (λ s. with_entries s entries) (sym c.new-schema.ensures))
-

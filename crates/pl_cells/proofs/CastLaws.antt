@@ -111,9 +111,10 @@ fits_one columns field tall (Some p) = by (slice_get columns p) refl
   where
     by : (r : Option ColumnValue) → slice_get columns p ≡ r → FitsAt (names_of columns) (height_of columns) (option_map (λ (c : ColumnValue). (p, carried_cast c field.dtype)) r)
     by None at = tt
-    by (Some c) at =
-        (slice_get-map (λ (k : ColumnValue). k.name) columns p ∙ ap (option_map (λ (k : ColumnValue). k.name)) at,
-        length-map c.values (carried_cell c.dtype field.dtype) ∙ all_at (λ (k : ColumnValue). length k.values ≡ height_of columns) columns p c at tall)
+    by (Some c) at = (
+      slice_get-map (λ (k : ColumnValue). k.name) columns p ∙ ap (option_map (λ (k : ColumnValue). k.name)) at,
+      length-map c.values (carried_cell c.dtype field.dtype) ∙ all_at (λ (k : ColumnValue). length k.values ≡ height_of columns) columns p c at tall,
+    )
 
 pub casts_fit : (columns : List ColumnValue) (fields : List Field) → HaveHeight (height_of columns) columns → AllByRecursion (FitsAt (names_of columns) (height_of columns)) (map (placed_cast columns) fields)
 casts_fit columns [] tall = tt

@@ -137,7 +137,9 @@ mod tests {
         ensures { length result ≡ 1 }
     {
         let mut schema = Schema::new(alloc);
-        schema.with_column(name(rt, alloc), dtype).expect(rt, "a column");
+        schema
+            .with_column(name(rt, alloc), dtype)
+            .expect(rt, "a column");
         schema
     }
 
@@ -164,7 +166,13 @@ mod tests {
         *column == expected.expect(rt, "a column")
     }
 
-    fn is_string(rt: &impl Abort, alloc: Global, column: &Column, first: &str, second: &str) -> bool {
+    fn is_string(
+        rt: &impl Abort,
+        alloc: Global,
+        column: &Column,
+        first: &str,
+        second: &str,
+    ) -> bool {
         let mut texts = Texts::new(alloc);
         texts.push(first).expect(rt, "a text");
         texts.push(second).expect(rt, "a text");
@@ -186,10 +194,12 @@ mod tests {
     fn a_decimal_without_a_scale_is_refused(rt: HostRuntime) {
         let schema = schema_of(&rt, rt.alloc(), DataType::Decimal(None, None));
         let refused = init_buffers(rt.alloc(), &[0], 4, &schema, None, CsvEncoding::Utf8);
-        assert!(rt; matches!(
-            refused,
-            Err(PolarsError::ComputeError(ComputeFault::Dtype { column: 0 }))
-        ));
+        assert!(rt;
+            matches!(
+                refused,
+                Err(PolarsError::ComputeError(ComputeFault::Dtype { column: 0 }))
+            )
+        );
     }
 
     #[test]

@@ -351,7 +351,8 @@ mod tests {
 
     // Casts the column of a name.
     fn cast(
-        rt: &impl Abort, alloc: Global,
+        rt: &impl Abort,
+        alloc: Global,
         df: &mut DataFrame,
         column: &str,
         dtype: DataType,
@@ -384,15 +385,27 @@ mod tests {
 
     #[test]
     fn texts_have_the_values_that_they_write(rt: HostRuntime) {
-        assert_eq!(rt; value_of(&rt, rt.alloc(), "TRUE", DataType::Boolean), Some(1));
+        assert_eq!(rt;
+            value_of(&rt, rt.alloc(), "TRUE", DataType::Boolean),
+            Some(1)
+        );
         assert_eq!(rt; value_of(&rt, rt.alloc(), "+7", DataType::Int8), Some(7));
         assert_eq!(rt; value_of(&rt, rt.alloc(), "-1", DataType::UInt64), None);
         assert_eq!(rt; value_of(&rt, rt.alloc(), " 7", DataType::Int64), None);
         assert_eq!(rt; value_of(&rt, rt.alloc(), "", DataType::Int64), None);
-        assert_eq!(rt; value_of(&rt, rt.alloc(), "2024-02-29", DataType::Date), Some(19782));
-        assert_eq!(rt; value_of(&rt, rt.alloc(), "23:59:59.5", DataType::Time), Some(86_399_500_000_000));
+        assert_eq!(rt;
+            value_of(&rt, rt.alloc(), "2024-02-29", DataType::Date),
+            Some(19782)
+        );
+        assert_eq!(rt;
+            value_of(&rt, rt.alloc(), "23:59:59.5", DataType::Time),
+            Some(86_399_500_000_000)
+        );
         let dtype = DataType::Datetime(TimeUnit::Milliseconds);
-        assert_eq!(rt; value_of(&rt, rt.alloc(), "1969-12-31T23:59:59.999", dtype), Some(-1));
+        assert_eq!(rt;
+            value_of(&rt, rt.alloc(), "1969-12-31T23:59:59.999", dtype),
+            Some(-1)
+        );
         let dtype = DataType::Decimal(None, Some(1));
         assert_eq!(rt; value_of(&rt, rt.alloc(), "1.50", dtype), Some(15));
     }
@@ -401,14 +414,16 @@ mod tests {
     fn a_text_without_a_value_is_refused_or_null(rt: HostRuntime) {
         let mut df = texts(&rt, rt.alloc(), "1", "x");
         let refused = cast(&rt, rt.alloc(), &mut df, "a", DataType::Int64, false);
-        assert!(rt; matches!(
-            refused,
-            Err(PolarsError::ComputeError(ComputeFault::Record {
-                row: 1,
-                column: 0,
-                kind: FaultKind::Value,
-            }))
-        ));
+        assert!(rt;
+            matches!(
+                refused,
+                Err(PolarsError::ComputeError(ComputeFault::Record {
+                    row: 1,
+                    column: 0,
+                    kind: FaultKind::Value,
+                }))
+            )
+        );
         assert!(rt; df.equals(&texts(&rt, rt.alloc(), "1", "x")));
         assert!(rt; cast(&rt, rt.alloc(), &mut df, "a", DataType::Int64, true).is_ok());
         assert!(rt; df.equals(&int64s(&rt, rt.alloc(), 1, None)));
@@ -418,10 +433,12 @@ mod tests {
     fn types_go_together_or_are_refused(rt: HostRuntime) {
         let mut df = int64s(&rt, rt.alloc(), 300, Some(5));
         let refused = cast(&rt, rt.alloc(), &mut df, "a", DataType::Date, true);
-        assert!(rt; matches!(
-            refused,
-            Err(PolarsError::ComputeError(ComputeFault::Dtype { column: 0 }))
-        ));
+        assert!(rt;
+            matches!(
+                refused,
+                Err(PolarsError::ComputeError(ComputeFault::Dtype { column: 0 }))
+            )
+        );
         assert!(rt; cast(&rt, rt.alloc(), &mut df, "b", DataType::Date, false).is_ok());
         assert!(rt; df.equals(&int64s(&rt, rt.alloc(), 300, Some(5))));
         assert!(rt; cast(&rt, rt.alloc(), &mut df, "a", DataType::UInt8, true).is_ok());

@@ -167,10 +167,6 @@ impl TextType for EnumTexts {
 
     fn column(self, name: PlSmallStr) -> Column {
         let EnumTexts { categories, places } = self;
-        Column::from_enum(
-            name,
-            DataType::Enum(Some(categories.into_texts())),
-            places,
-        )
+        Column::from_enum(name, DataType::Enum(Some(categories.into_texts())), places)
     }
 }

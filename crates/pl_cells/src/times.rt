@@ -113,20 +113,6 @@ pub fn parse_time(text: &[u8]) -> Option<i64>
     }
 }
 
-// How many units make a second.
-#[inline]
-fn units_in(unit: TimeUnit) -> u64
-    ensures value { result ≡ units_in_second unit }
-    ensures some { 0 < result }
-    ensures bound { result ≤ 10 ^ 9 }
-{
-    match unit {
-        TimeUnit::Milliseconds => 1_000,
-        TimeUnit::Microseconds => 1_000_000,
-        TimeUnit::Nanoseconds => NANOSECONDS,
-    }
-}
-
 // The number, where it fits 64 bits.
 #[inline]
 fn in_64_bits(number: i128) -> Option<i64>
@@ -152,7 +138,21 @@ fn count_of(units: u64, day: i64, nanoseconds: u64) -> i128
     whole + i128::from(nanoseconds / (NANOSECONDS / units))
 }
 
-// The same for a unit.
+// The same for a unit. Each has an arm of its own, in which the divisor is known.
+#[inline]
+fn count_in(unit: TimeUnit, day: i64, nanoseconds: u64) -> i128
+    requires day_in { is_within day_range day ≡ true }
+    requires time_in { nanoseconds < 86400 * 10 ^ 9 }
+    ensures { result ≡ count_of_units (units_in_second unit) day nanoseconds }
+{
+    match unit {
+        TimeUnit::Milliseconds => count_of(1_000, day, nanoseconds),
+        TimeUnit::Microseconds => count_of(1_000_000, day, nanoseconds),
+        TimeUnit::Nanoseconds => count_of(NANOSECONDS, day, nanoseconds),
+    }
+}
+
+// The same, which lies in the range of the type.
 #[inline]
 fn units_of(unit: TimeUnit, day: i64, nanoseconds: u64) -> i128
     requires day_in { is_within day_range day ≡ true }
@@ -160,7 +160,7 @@ fn units_of(unit: TimeUnit, day: i64, nanoseconds: u64) -> i128
     ensures value { result ≡ count_of_units (units_in_second unit) day nanoseconds }
     ensures within { is_within (datetime_range (units_in_second unit)) result ≡ true }
 {
-    count_of(units_in(unit), day, nanoseconds)
+    count_in(unit, day, nanoseconds)
 }
 
 // The count of units of a date and a time of day.

@@ -352,6 +352,7 @@ fn place_of(categories: &Places, text: &str) -> Option<u64>
 mod tests {
     use super::*;
     use crate::frame::DataFrame;
+    use std::process::Abort;
     use std::test::Fail;
 
     fn name(alloc: Global) -> Result<PlSmallStr, Fail> {
@@ -370,5 +371,38 @@ mod tests {
         let expected = DataFrame::new(alloc, vec![in alloc; column]?)?;
         assert!(rt; frame.equals(&expected));
         Ok(())
+    }
+
+    fn text(rt: &impl Abort, alloc: Global, text: &str) -> PlSmallStr {
+        PlSmallStr::from_str(alloc, text).expect(rt, "a text")
+    }
+
+    // An enum of the categories p and q.
+    fn enumeration(rt: &impl Abort, alloc: Global) -> DataType {
+        let mut categories = Vec::new(alloc);
+        categories.push(text(rt, alloc, "p")).expect(rt, "a text");
+        categories.push(text(rt, alloc, "q")).expect(rt, "a text");
+        DataType::Enum(Some(Categories::new(categories)))
+    }
+
+    // A column of the texts q and x.
+    fn texts(rt: &impl Abort, alloc: Global) -> Column {
+        let mut texts = Texts::new(alloc);
+        texts.push("q").expect(rt, "a text");
+        texts.push("x").expect(rt, "a text");
+        Column::from_string(text(rt, alloc, "n"), texts)
+    }
+
+    #[test]
+    fn texts_become_categories_of_an_enum(rt: HostRuntime) {
+        let alloc = rt.alloc();
+        let (column, dtype) = (texts(&rt, alloc), enumeration(&rt, alloc));
+        assert!(rt; column.dtype().casts_to(&dtype));
+        let cast = column.cast(alloc, &dtype).expect(&rt, "a cast");
+        assert!(rt; *cast.dtype() == dtype);
+        assert_eq!(rt; cast.null_count(), 1);
+        assert!(rt; cast.dtype().casts_to(&DataType::String));
+        let again = cast.cast(alloc, &DataType::String).expect(&rt, "a cast");
+        assert_eq!(rt; again.null_count(), 1);
     }
 }

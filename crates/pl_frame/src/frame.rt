@@ -186,6 +186,7 @@ fn duplicate(alloc: Global, name: &str) -> PolarsError
 mod tests {
     use super::*;
     use crate::numbers::Numbers;
+    use std::process::Abort;
     use std::test::Fail;
 
     fn column(alloc: Global, name: &str) -> Result<Column, Fail>
@@ -209,5 +210,23 @@ mod tests {
         assert_eq!(rt; (frame.width(), frame.height()), (2, 1));
         assert_eq!(rt; frame.columns().len(), 2);
         Ok(())
+    }
+
+    // A frame of one column.
+    fn frame(rt: &impl Abort, alloc: Global, name: &str) -> DataFrame {
+        let name = PlSmallStr::from_str(alloc, name).expect(rt, "a name");
+        let column = Column::from_int64(name, Numbers::new(alloc));
+        let mut columns = Vec::new(alloc);
+        columns.push(column).expect(rt, "a column");
+        DataFrame::new(alloc, columns).expect(rt, "a frame")
+    }
+
+    #[test]
+    fn a_frame_equals_its_clone(rt: HostRuntime) {
+        let alloc = rt.alloc();
+        let first = frame(&rt, alloc, "a");
+        let copy = first.try_clone().expect(&rt, "a clone");
+        assert!(rt; first.equals(&copy));
+        assert!(rt; !first.equals(&frame(&rt, alloc, "b")));
     }
 }

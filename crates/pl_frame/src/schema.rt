@@ -235,4 +235,27 @@ mod tests {
         assert!(rt; schema.get_at_index(2).is_none());
         Ok(())
     }
+
+    #[test]
+    fn a_clone_is_equal_until_it_changes(rt: HostRuntime) {
+        let alloc = rt.alloc();
+        let mut schema = Schema::new(alloc);
+        let name = PlSmallStr::from_str(alloc, "a").expect(&rt, "a name");
+        assert!(rt; schema.with_column(name, DataType::Date).is_ok());
+        let mut copy = schema.try_clone().expect(&rt, "a clone");
+        assert!(rt; schema == copy);
+        copy.set_dtype_at_index(0, DataType::Time);
+        assert!(rt; schema != copy);
+    }
+
+    #[test]
+    fn a_field_equals_its_clone(rt: HostRuntime) {
+        let name = PlSmallStr::from_str(rt.alloc(), "a").expect(&rt, "a name");
+        let dtype = DataType::Decimal(None, Some(2));
+        let field = Field { name, dtype };
+        let mut copy = field.try_clone().expect(&rt, "a clone");
+        assert!(rt; field == copy);
+        copy.dtype = DataType::Decimal(Some(38), Some(2));
+        assert!(rt; field != copy);
+    }
 }

@@ -3,6 +3,7 @@ pub mod CellLaws
 pub mod RuleLaws
 pub mod RowLaws
 pub mod FaultLaws
+pub mod MissingLaws
 pub mod NameLaws
 pub mod ReadLaws
 pub mod FrameLaws

@@ -1,6 +1,6 @@
 -- Laws of casts of the columns of a frame.
-use Rattle.std.proofs.Common.{◌≡◌, ◌≢◌, ℕ, zero, suc, ◌+◌, ◌<◌, Bool, true, false, ◌&&◌, ◌||◌, cond, if◌then◌else◌, List, [], ◌∷◌, ◌++◌, length, map, take, position, get_or, slice_get, slice_set, not, unwrap_or, IfSome, Option, None, Some, is_some, AllPairs, refl, sym, ◌∙◌, ap, subst, arith, add-one, true≢false}
-use Rattle.std.specs.List.{AllByRecursion, list_any, find}
+use Rattle.std.proofs.Common.{◌≡◌, ◌≢◌, ℕ, zero, suc, ◌+◌, ◌<◌, Bool, true, false, ◌||◌, cond, if◌then◌else◌, List, [], ◌∷◌, ◌++◌, length, map, take, position, get_or, slice_get, slice_set, not, unwrap_or, IfSome, Option, None, Some, AllPairs, refl, sym, ◌∙◌, ap, subst, arith, add-one, true≢false}
+use Rattle.std.specs.List.{AllByRecursion, list_any}
 use Rattle.std.specs.Option.{option_map, option_map_or, option_and_then}
 use Rattle.std.specs.Str.{bytes_eq}
 use Rattle.std.proofs.lemmas.Bool.{false_from_ne_true}

@@ -1,4 +1,4 @@
-use Rattle.std.proofs.Common.{◌≡◌, ℕ, List, Option, Some, rules, sym, ◌∙◌, ap, subst}
+use Rattle.std.proofs.Common.{ℕ, List, Option, Some, rules, sym, ◌∙◌, ap, subst}
 use Rattle.std.specs.List.{position}
 use Rattle.std.specs.Str.{bytes_eq}
 use Rattle.pl_frame.specs.declared.error.ComputeFault.{ComputeFault}

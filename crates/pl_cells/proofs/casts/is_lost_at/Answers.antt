@@ -1,4 +1,4 @@
-use Rattle.std.proofs.Common.{◌≡◌, ℕ, ◌&&◌, is_some, is_none, length, unwrap_or, slice_get, None, sym, ◌∙◌, ap, arith}
+use Rattle.std.proofs.Common.{◌≡◌, ◌&&◌, is_some, is_none, length, ◌∙◌, ap, arith}
 use Rattle.std.proofs.lemmas.List.{length-map}
 use Rattle.pl_frame.specs.Frame.{ColumnValue, cell_at}
 use Rattle.pl_cells.specs.Casts.{carried_cell}

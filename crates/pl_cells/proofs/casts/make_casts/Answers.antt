@@ -1,5 +1,4 @@
-use Rattle.std.proofs.Common.{◌≡◌, rules, Some, [], ◌∷◌, ◌++◌, map, take, sym, ◌∙◌, ap, arith}
-use Rattle.std.proofs.lemmas.List.{map-append, take_more}
+use Rattle.std.proofs.Common.{rules, [], ◌∷◌, ◌++◌, ◌∙◌, ap}
 use Rattle.pl_frame.proofs.FrameLaws.{read_at}
 use Rattle.pl_cells.specs.Casts.{placed_cast, first_fault, IsCastFault}
 use Rattle.pl_cells.proofs.CastLaws.{refused_first, faultless_more, row_made}

@@ -220,7 +220,10 @@ mod tests {
             ("a", refused),
             ("a:int64,", refused),
             ("a:int7", refused),
-            ("a:enum/x/,b:decimal/-/2,c:datetime/us,d:null,e:decimal", Ok(5)),
+            (
+                "a:enum/x/,b:decimal/-/2,c:datetime/us,d:null,e:decimal",
+                Ok(5),
+            ),
             ("a:datetime", refused),
             ("a:decimal/1", refused),
             ("a:decimal/100/2", refused),

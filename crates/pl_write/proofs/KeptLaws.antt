@@ -1,6 +1,5 @@
 -- Bytes that stay in front while others are appended.
-use Rattle.std.proofs.Common.{◌≡◌, ℕ, Bool, true, false, if◌then◌else◌, List, [], ◌++◌, length, take, refl, sym, ◌∙◌, ap, append_assoc, append-nil}
-use Rattle.std.proofs.Math.Seq.{take-append_seam}
+use Rattle.std.proofs.Common.{◌≡◌, ℕ, Bool, true, false, if◌then◌else◌, List, [], ◌++◌, refl, sym, ◌∙◌, ap, append_assoc, append-nil}
 use Rattle.pl_write.specs.Writing.{StaysInFront}
 
 -- nothing was appended
@@ -25,9 +24,5 @@ front-then {old} {mid} {new} first next = record {
   added = first.added ++ next.added;
   is = next.is ∙ (ap (λ l. l ++ next.added) first.is ∙ append_assoc old first.added next.added);
 }
-
--- what was appended is cut off again
-pub front-cut : (old new : List ℕ) → StaysInFront old new → take (length old) new ≡ old
-front-cut old new kept = ap (take (length old)) kept.is ∙ take-append_seam old kept.added
 
 pub ruleset keeping = (front-same, front-append, front-if, front-then)

@@ -1,7 +1,8 @@
 //! How the cells of a column are written: settled once for the column, by its type and the style.
-ghost use Rattle.std.specs.Prelude.{◌≡◌, IfOk};
+ghost use Rattle.std.specs.Prelude.{◌≡◌, true, IfOk};
 ghost use Rattle.pl_frame.specs.Text.{NumberKind};
 ghost use Rattle.pl_write.specs.Options.{cell_options, is_bare, style_number};
+ghost use Rattle.pl_write.specs.declared.ways.Way.TheVariants as Way;
 ghost use Rattle.pl_write.specs.Ways.{FitsWay, HaveWays, is_whole};
 
 use crate::options::{QuoteStyle, SerializeOptions};
@@ -52,10 +53,11 @@ fn way_of_others(dtype: &DataType, options: &SerializeOptions) -> Way
     }
 }
 
-/// The way of a column of a type.
+/// The way of a column of a type: by digits where it holds whole numbers that stand without quotes.
 #[tactic(auto, using(crate::proofs::WayLaws::digits_fit))]
 pub fn way_of(dtype: &DataType, options: &SerializeOptions) -> Way
-    ensures { FitsWay result (cell_options options.now) dtype.now }
+    ensures fits { FitsWay result (cell_options options.now) dtype.now }
+    ensures digits { is_whole dtype.now ≡ true → is_bare (style_number options.now.quote_style) NumberKind ≡ true → result ≡ Way.Digits }
 {
     if is_whole(dtype) && are_numbers_bare(options.quote_style) {
         Way::Digits

@@ -11,6 +11,6 @@ loop-column-preserved c =
     let columns = c.args.columns.now in
     let i = c.loop-column.column-index in
     let column = c.column-item.result in
-    let fits = subst (FitsWay c.way_of.result o) c.dtype.ensures.dtype c.way_of.ensures in
+    let fits = subst (FitsWay c.way_of.result o) c.dtype.ensures.dtype c.way_of.ensures.fits in
     let more : take (i + 1) columns ≡ take i columns ++ column ∷ [] = take_more columns i column c.loop-column-test.true ∙ ap (λ x. take i columns ++ x ∷ []) (sym c.column-item.is) in
     rw (c.in_ok-push.ensures.items, more) (HaveWays-push o (take i columns) c.loop-column.ways.items column c.way_of.result c.loop-column.invariant fits)

@@ -317,16 +317,29 @@ mod tests {
         Ok(NullValues::Named(NamedTexts::new(vec![in alloc; first, last]?)))
     }
 
+    // Whether a text means null in a column, where the columns have texts of their own and the column is one of them.
+    fn is_null_in(values: &NullValuesCompiled, text: &[u8], column: usize) -> Option<bool> {
+        match values {
+            NullValuesCompiled::Columns(texts) if column < texts.texts().len() => {
+                Some(values.is_null(text, column))
+            }
+            _ => None,
+        }
+    }
+
     #[test]
     fn named_texts_mean_null_in_their_columns(rt: HostRuntime) -> Result<(), Fail> {
         let alloc = rt.alloc();
         let schema = two_columns(alloc)?;
-        let compiled = named(alloc, "a")?.try_clone()?.compile(alloc, &schema)?;
-        let compiled = compiled.try_clone()?;
-        assert!(rt; compiled.is_null(b"NA", 0));
-        assert!(rt; !compiled.is_null(b"-", 0));
-        assert!(rt; !compiled.is_null(b"NA", 1));
-        assert!(rt; compiled.is_null(b"", 1));
+        let compiled = named(alloc, "a")?
+            .try_clone()?
+            .compile(alloc, &schema)?
+            .try_clone()?;
+        assert_eq!(rt; is_null_in(&compiled, b"NA", 0), Some(true));
+        assert_eq!(rt; is_null_in(&compiled, b"-", 0), Some(false));
+        assert_eq!(rt; is_null_in(&compiled, b"NA", 1), Some(false));
+        assert_eq!(rt; is_null_in(&compiled, b"", 1), Some(true));
+        assert_eq!(rt; is_null_in(&compiled, b"", 2), None);
         Ok(())
     }
 
@@ -334,7 +347,8 @@ mod tests {
     fn unknown_name_is_refused(rt: HostRuntime) -> Result<(), Fail> {
         let alloc = rt.alloc();
         let schema = two_columns(alloc)?;
-        let refused = match named(alloc, "c")?.compile(alloc, &schema) {
+        let compiled = named(alloc, "c")?.compile(alloc, &schema);
+        let refused = match &compiled {
             Err(PolarsError::ColumnNotFound(name)) => name.as_str() == "c",
             _ => false,
         };

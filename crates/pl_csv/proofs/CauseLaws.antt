@@ -10,7 +10,7 @@ use Rattle.pl_csv.specs.declared.reading.Cause.{Cause}
 use Rattle.pl_csv.specs.declared.reading.Cause.TheVariants as cause
 use Rattle.pl_csv.specs.declared.settings.Settings.{Settings}
 use Rattle.pl_csv.specs.Settings.{rules_of}
-use Rattle.pl_csv.specs.Reading.{types_of, when, unknown_null, data_of, data_rows, first_faulty, faulty_record, frame_of_rows, first_some, IsRefusal, IsValidRead, MayBeRead}
+use Rattle.pl_csv.specs.Reading.{types_of, when, unknown_null, data_of, data_rows, first_faulty, faulty_record, frame_of_rows, first_some, read_causes, IsFirstCause, IsValidRead, MayBeRead}
 
 -- the bytes of a comment prefix that was lent
 pub prefix_of-lent : (lent : Option (Bor CommentPrefix)) (prefix : Option CommentPrefix) → option_copied lent ≡ prefix → prefix_of lent ≡ option_map prefix_bytes prefix
@@ -22,7 +22,7 @@ abbrev first_later : Settings → Option (List ℕ) → Option (List ℕ) → Op
 first_later s unknown start =
     first_some (option_map cause.NotFound unknown ∷ when (is_none start) cause.Skip ∷ option_and_then (faulty_record s) start ∷ [])
 
-later : (s : Settings) (input : List ℕ) → MayBeRead s input → None ≡ first_later s (unknown_null s) (data_of s input) → IsRefusal None s input None
+later : (s : Settings) (input : List ℕ) → MayBeRead s input → None ≡ first_later s (unknown_null s) (data_of s input) → IsFirstCause (read_causes s input) s None
 later s input may is = record { is_dialect = true; tells = may.dialect; is = is ∙ rw (may.skips, may.plain, may.readable) refl }
 
 -- where no row has a fault, there is the frame of the rows

@@ -1,4 +1,5 @@
 pub mod CountingLaws
+pub mod DueLaws
 pub mod CellLaws
 pub mod RuleLaws
 pub mod RowLaws

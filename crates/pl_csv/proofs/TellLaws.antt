@@ -53,6 +53,6 @@ telling-then text other answer before between now told more = record {
 
 -- a text that was told, or cut short
 pub telling-told : (text : List ℕ) (answer : Bool) (before now : SinkView) → IsTelling answer text before now
-    → IsTold text before.received now.received before.faults now.faults before.wants now.wants
+    → IsTold text before now
 telling-told text true before now told = inl (told.all refl)
 telling-told text false before now told = inr (told.part, told.rose refl)

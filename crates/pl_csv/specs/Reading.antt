@@ -1,5 +1,5 @@
 -- The reference read: the frame that an input means (docs/grammar.md, docs/types.md).
-use Rattle.std.specs.Prelude.{◌≡◌, ℕ, zero, suc, ◌+◌, ◌<◌, Bool, true, false, not, ◌&&◌, ◌==◌, nat_eq, nat_lt, if◌then◌else◌, List, [], ◌∷◌, length, drop, map, position, Option, None, Some, unwrap_or, is_none, slice_get}
+use Rattle.std.specs.Prelude.{◌≡◌, ℕ, zero, suc, ◌+◌, ◌<◌, Bool, true, false, not, ◌&&◌, ◌==◌, nat_eq, nat_lt, if◌then◌else◌, List, [], ◌∷◌, ◌++◌, length, drop, map, position, Option, None, Some, unwrap_or, is_none, slice_get}
 use Rattle.std.specs.List.{filter_map, list_any, enumerate_from, starts_with}
 use Rattle.std.specs.Option.{option_map, option_and_then}
 use Rattle.pl_frame.specs.declared.data_type.DataType.{DataType}
@@ -155,18 +155,27 @@ abbrev pub faulty_record : Settings → List ℕ → Option Cause
 faulty_record s records =
     option_map (λ found. cause.Record found.0 found.1.0 found.1.1) (first_faulty (rules_of s) (types_of s.schema) 0 (data_rows s records))
 
--- the causes against a frame in their order, given whether the marks are a dialect, and what is said of the quote of the output
-abbrev pub causes : Option Cause → Bool → Settings → List ℕ → List (Option Cause)
-causes quote is_dialect s input =
-    when (not is_dialect) cause.Dialect
-    ∷ when (skips_twice s) cause.Option
-    ∷ quote
-    ∷ when (is_compressed input) cause.Compressed
+-- the causes that stand before the quote of the output, given whether the marks are a dialect
+abbrev pub early_causes : Bool → Settings → List (Option Cause)
+early_causes is_dialect s = when (not is_dialect) cause.Dialect ∷ when (skips_twice s) cause.Option ∷ []
+
+-- the causes that stand behind it
+abbrev pub late_causes : Settings → List ℕ → List (Option Cause)
+late_causes s input =
+    when (is_compressed input) cause.Compressed
     ∷ option_map cause.Dtype (first_unreadable s.schema)
     ∷ option_map cause.NotFound (unknown_null s)
     ∷ when (is_none (data_of s input)) cause.Skip
     ∷ option_and_then (faulty_record s) (data_of s input)
     ∷ []
+
+-- the causes against the frame of an input, in their order
+abbrev pub read_causes : Settings → List ℕ → Bool → List (Option Cause)
+read_causes s input is_dialect = early_causes is_dialect s ++ late_causes s input
+
+-- the causes against a frame that is written as well
+abbrev pub all_causes : Settings → List ℕ → Bool → List (Option Cause)
+all_causes s input is_dialect = early_causes is_dialect s ++ quote_cause s ∷ late_causes s input
 
 -- the first that is there
 abbrev pub first_some : {X : Type 0} → List (Option X) → Option X
@@ -179,16 +188,15 @@ abbrev pub Tells : Bool → Type 0 → Type 0
 Tells true holds = holds
 Tells false holds = ¬ holds
 
--- the first cause against a frame of an input, or none
-pub record IsRefusal (quote : Option Cause) (s : Settings) (input : List ℕ) (first : Option Cause) : Type 0 where
+-- the first of the causes, or none
+pub record IsFirstCause (causes : Bool → List (Option Cause)) (s : Settings) (first : Option Cause) : Type 0 where
   pub is_dialect : Bool
   pub tells : Tells is_dialect (IsDialect (marks_of s) (comment_of s))
-  pub is : first ≡ first_some (causes quote is_dialect s input)
+  pub is : first ≡ first_some (causes is_dialect)
 
--- The reference read: the frame that an input means. There is none where a cause stands against it; the quote of the output
--- is none.
+-- The reference read: the frame that an input means. There is none where a cause stands against it.
 abbrev pub IsRead : Settings → List ℕ → List ColumnValue → Type 0
-IsRead s input frame = IsRefusal None s input None × (frame ≡ frame_of s input)
+IsRead s input frame = IsFirstCause (read_causes s input) s None × (frame ≡ frame_of s input)
 
 -- the quote with which the frame is written is ASCII
 abbrev pub HasAsciiQuote : Settings → Type 0
@@ -200,7 +208,7 @@ IsValidRead s input frame = HasAsciiQuote s × IsRead s input frame
 
 -- the first cause for which an input has no frame that can be written
 abbrev pub IsCause : Settings → List ℕ → Cause → Type 0
-IsCause s input given = IsRefusal (quote_cause s) s input (Some given)
+IsCause s input given = IsFirstCause (all_causes s input) s (Some given)
 
 -- the first cause, where there is one; want of memory says nothing
 abbrev pub IsReadFault : Settings → List ℕ → ReadFault → Type 0

@@ -1,7 +1,6 @@
 -- What a run has done, by its status (docs/command-line.md).
-use Rattle.std.specs.Prelude.{◌≡◌, ℕ, ◌^◌, ◌<◌, ◌≤◌, ◌==◌, ◌⊎◌, Bool, true, false, List, [], ◌∷◌, ◌++◌, length, codes, decimal, Option, None, Some, IsSome}
-use Rattle.std.specs.Io.KnownBytes.{Consumes, IsAtEnd, Appends, Keeps}
-use Rattle.std.specs.List.{list_any}
+use Rattle.std.specs.Prelude.{◌≡◌, ℕ, ◌^◌, ◌<◌, ◌≤◌, ◌⊎◌, Bool, true, false, List, [], ◌∷◌, ◌++◌, length, codes, decimal, Option, None, Some, IsSome}
+use Rattle.std.specs.Io.KnownBytes.{Consumes, IsAtEnd, Appends}
 use Rattle.pl_frame.specs.Causes.{Rose}
 use Rattle.pl_frame.specs.declared.error.FaultKind.{FaultKind}
 use Rattle.pl_frame.specs.declared.error.FaultKind.TheVariants as fault
@@ -123,22 +122,6 @@ refusal_detail _ = []
 abbrev pub fault_line : Refusal → List ℕ
 fault_line given = refusal_name given ++ (refusal_detail given ++ codes "\n")
 
--- where a refusal is one of the input, its cause is the first that the input has
-abbrev pub IsOfInput : List (List ℕ) → Option (List ℕ) → Option (List ℕ) → Refusal → Type 0
-IsOfInput words left left_now (refusal.Input first) = HasCause words left left_now first
-IsOfInput words left left_now given = Unit {0}
-
--- the line of a refusal with a status; none at status 0
-abbrev pub IsLine : List (List ℕ) → Option (List ℕ) → Option (List ℕ) → ℕ → List ℕ → Type 0
-IsLine words left left_now status line =
-    ((status ≡ 0) × (line ≡ []))
-    ⊎ ((given : Refusal) × (status ≡ status_of given) × IsOfInput words left left_now given × (line ≡ fault_line given))
-
--- a sink received a line, or a prefix of it where one of its counts rose
-abbrev pub IsTold : List ℕ → Option (List ℕ) → Option (List ℕ) → ℕ → ℕ → ℕ → ℕ → Type 0
-IsTold line received received_now faults faults_now wants wants_now =
-    Appends received received_now line ⊎ (AppendsPrefix received received_now line × (Rose faults faults_now ⊎ Rose wants wants_now))
-
 -- what a sink received, and its counts of faults and of wants
 pub record SinkView : Type 0 where
   pub received : Option (List ℕ)
@@ -147,6 +130,11 @@ pub record SinkView : Type 0 where
 
 abbrev pub sink_view : Option (List ℕ) → ℕ → ℕ → SinkView
 sink_view received faults wants = record { received = received; faults = faults; wants = wants }
+
+-- a sink received a line, or a prefix of it where one of its counts rose
+abbrev pub IsTold : List ℕ → SinkView → SinkView → Type 0
+IsTold line before now =
+    Appends before.received now.received line ⊎ (AppendsPrefix before.received now.received line × (Rose before.faults now.faults ⊎ Rose before.wants now.wants))
 
 -- a sink received a text, where the answer is so, and else a prefix of it, and then one of its counts rose
 pub record IsTelling (answer : Bool) (text : List ℕ) (before now : SinkView) : Type 0 where
@@ -158,23 +146,45 @@ pub record IsTelling (answer : Bool) (text : List ℕ) (before now : SinkView) :
 
 -- ---- what a conversion answers
 
--- why a conversion was refused, and what the sink then received
-pub record Views : Type 0 where
+-- what a source has left, and its count of faults
+pub record SourceView : Type 0 where
   pub left : Option (List ℕ)
-  pub received : Option (List ℕ)
-  pub source_faults : ℕ
-  pub sink_faults : ℕ
+  pub faults : ℕ
 
+abbrev pub source_view : Option (List ℕ) → ℕ → SourceView
+source_view left faults = record { left = left; faults = faults }
+
+-- what a run reads from and writes to
+pub record Views : Type 0 where
+  pub source : SourceView
+  pub out : SinkView
+
+abbrev pub views : Option (List ℕ) → ℕ → Option (List ℕ) → ℕ → ℕ → Views
+views left source_faults received out_faults out_wants = record {
+  source = source_view left source_faults;
+  out = sink_view received out_faults out_wants;
+}
+
+-- the source failed, after at most 2 ^ 36 bytes
+abbrev pub HasFailed : SourceView → SourceView → Type 0
+HasFailed before now = Rose before.faults now.faults × Came before.left now.left (λ bytes. length bytes ≤ 2 ^ 36)
+
+-- The cause of a refusal, and what then came of source and sink: words without a meaning leave both as they were, and only a
+-- fault of the sink and want of memory may leave part of the text in the sink.
 abbrev pub IsRefused : List (List ℕ) → Views → Views → Refusal → Type 0
-IsRefused words before now refusal.Words = (settings_of_words words ≡ None) × Keeps before.received now.received
-IsRefused words before now refusal.Source = IsSome (settings_of_words words) × Rose before.source_faults now.source_faults × Keeps before.received now.received
-IsRefused words before now refusal.Sink = Rose before.sink_faults now.sink_faults × ConvertedPart words before.left now.left before.received now.received
-IsRefused words before now refusal.OutOfMemory = Keeps before.received now.received ⊎ ConvertedPart words before.left now.left before.received now.received
-IsRefused words before now refusal.TooLong = IsSome (settings_of_words words) × IsTooLong before.left now.left × Keeps before.received now.received
-IsRefused words before now (refusal.Input first) = HasCause words before.left now.left first × Keeps before.received now.received
+IsRefused words before now refusal.Words = (settings_of_words words ≡ None) × (now ≡ before)
+IsRefused words before now refusal.Source = IsSome (settings_of_words words) × HasFailed before.source now.source × (now.out ≡ before.out)
+IsRefused words before now refusal.Sink = Rose before.out.faults now.out.faults × ConvertedPart words before.source.left now.source.left before.out.received now.out.received
+IsRefused words before now refusal.OutOfMemory = (now.out ≡ before.out) ⊎ ConvertedPart words before.source.left now.source.left before.out.received now.out.received
+IsRefused words before now refusal.TooLong = IsSome (settings_of_words words) × IsTooLong before.source.left now.source.left × (now.out ≡ before.out)
+IsRefused words before now (refusal.Input first) = HasCause words before.source.left now.source.left first × (now.out ≡ before.out)
 
-abbrev pub views : Option (List ℕ) → Option (List ℕ) → ℕ → ℕ → Views
-views left received source_faults sink_faults = record { left = left; received = received; source_faults = source_faults; sink_faults = sink_faults }
+-- a refusal with this status holds, and its fault line was told
+pub record IsRefusedWith (words : List (List ℕ)) (before now : Views) (err err_now : SinkView) (status : ℕ) : Type 0 where
+  pub given : Refusal
+  pub is : status ≡ status_of given
+  pub holds : IsRefused words before now given
+  pub told : IsTold (fault_line given) err err_now
 
 -- the input that the source gave means the frame, which is to be written so
 pub record HasFrame (words : List (List ℕ)) (left left_now : Option (List ℕ)) (frame : List ColumnValue) (write : CsvWriterOptions) : Type 0 where
@@ -183,19 +193,15 @@ pub record HasFrame (words : List (List ℕ)) (left left_now : Option (List ℕ)
   pub so : read.settings.write ≡ write
 
 -- why no frame was read
-abbrev pub IsReadRefused : List (List ℕ) → Option (List ℕ) → Option (List ℕ) → ℕ → ℕ → Refusal → Type 0
-IsReadRefused words left left_now faults faults_now refusal.Words = settings_of_words words ≡ None
-IsReadRefused words left left_now faults faults_now refusal.Source = IsSome (settings_of_words words) × Rose faults faults_now
-IsReadRefused words left left_now faults faults_now refusal.Sink = ⊥
-IsReadRefused words left left_now faults faults_now refusal.OutOfMemory = Unit {0}
-IsReadRefused words left left_now faults faults_now refusal.TooLong = IsSome (settings_of_words words) × IsTooLong left left_now
-IsReadRefused words left left_now faults faults_now (refusal.Input first) = HasCause words left left_now first
+abbrev pub IsReadRefused : List (List ℕ) → SourceView → SourceView → Refusal → Type 0
+IsReadRefused words before now refusal.Words = (settings_of_words words ≡ None) × (now ≡ before)
+IsReadRefused words before now refusal.Source = IsSome (settings_of_words words) × HasFailed before now
+IsReadRefused words before now refusal.Sink = ⊥
+IsReadRefused words before now refusal.OutOfMemory = Unit {0}
+IsReadRefused words before now refusal.TooLong = IsSome (settings_of_words words) × IsTooLong before.left now.left
+IsReadRefused words before now (refusal.Input first) = HasCause words before.left now.left first
 
 -- ---- the status
-
--- the statuses at which a run ends
-abbrev pub is_status : ℕ → Bool
-is_status status = list_any (λ known. status == known) (0 ∷ 2 ∷ 3 ∷ 4 ∷ 5 ∷ 6 ∷ 11 ∷ 12 ∷ 13 ∷ 14 ∷ 18 ∷ 19 ∷ 20 ∷ 24 ∷ [])
 
 -- the words mean settings under which an input of at most 2 ^ 36 bytes has a reference read, which can be written
 pub record IsValid (words : List (List ℕ)) (input : List ℕ) : Type 0 where
@@ -228,5 +234,9 @@ abbrev pub EndsAsDue : ℕ → ℕ → Views → Views → Type 0
 EndsAsDue due status before now =
     (status ≡ due)
     ⊎ (status ≡ 5)
-    ⊎ ((status ≡ 3) × Rose before.source_faults now.source_faults)
-    ⊎ ((status ≡ 4) × (due ≡ 0) × Rose before.sink_faults now.sink_faults)
+    ⊎ ((status ≡ 3) × HasFailed before.source now.source)
+    ⊎ ((status ≡ 4) × (due ≡ 0) × Rose before.out.faults now.out.faults)
+
+-- words and an input have one status that is due
+abbrev pub HasOneDue : List (List ℕ) → List ℕ → Type 0
+HasOneDue words input = (status : ℕ) × IsDue words input status × ((other : ℕ) → IsDue words input other → other ≡ status)

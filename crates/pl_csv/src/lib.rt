@@ -5,6 +5,7 @@ pub mod adapters;
 mod compression;
 pub mod counting;
 mod frames;
+pub mod laws;
 mod null_words;
 mod options;
 mod output;

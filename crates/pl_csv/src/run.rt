@@ -1,10 +1,7 @@
 //! The top call: CSV from a source to a sink, by the words of a command line.
-ghost use Rattle.std.specs.Prelude.{◌≡◌, ◌≤◌, ◌⊎◌, ℕ, List, map, string_bytes, IfOk, IfErr, OnOk, IsSome, IsTrue, None, Some};
-ghost use Rattle.std.specs.Io.KnownBytes.{Keeps};
-ghost use Rattle.pl_frame.specs.Causes.{Rose};
+ghost use Rattle.std.specs.Prelude.{◌≡◌, ◌≢◌, ◌≤◌, ◌⊎◌, ℕ, List, map, string_bytes, IfOk, IfErr, OnOk, None, Some};
 ghost use Rattle.pl_csv.specs.Words.{settings_of_words};
-ghost use Rattle.pl_frame.specs.declared.error.FaultKind.{FaultKind};
-ghost use Rattle.pl_csv.specs.Run.{status_of, status_of_cause, is_status, IsLine, IsTold, IsDue, EndsAsDue, HasFrame, HasCause, IsReadRefused, Converted, ConvertedPart, IsTooLong, IsRefused, views};
+ghost use Rattle.pl_csv.specs.Run.{status_of, status_of_cause, IsDue, EndsAsDue, HasFrame, IsReadRefused, Converted, IsRefused, IsRefusedWith, source_view, sink_view, views};
 
 use crate::read_all::{LIMIT, ReadAllFault, read_all};
 use crate::reading::{Cause, ReadFault, read_frame};
@@ -74,7 +71,7 @@ fn frame_of_source<So: Source>(
     source: &mut So,
 ) -> Result<(DataFrame, CsvWriterOptions), Refusal>
     ensures frame { IfOk result (λ read. HasFrame (map string_bytes words.now) (So.left source.old) (So.left source.new) read.0 read.1) }
-    ensures refused { IfErr result (IsReadRefused (map string_bytes words.now) (So.left source.old) (So.left source.new) (So.faults source.old) (So.faults source.new)) }
+    ensures refused { IfErr result (IsReadRefused (map string_bytes words.now) (source_view (So.left source.old) (So.faults source.old)) (source_view (So.left source.new) (So.faults source.new))) }
     ensures later { So.faults source.old ≤ So.faults source.new }
 {
     let settings = match parse_words(alloc, words) {
@@ -104,8 +101,8 @@ fn convert<So: Source, Si: Sink>(
 ) -> Result<(), Refusal>
     ensures converted { OnOk result (Converted (map string_bytes words.now) (So.left source.old) (So.left source.new) (Si.received out.old) (Si.received out.new)) }
     ensures refused { IfErr result (IsRefused (map string_bytes words.now)
-        (views (So.left source.old) (Si.received out.old) (So.faults source.old) (Si.faults out.old))
-        (views (So.left source.new) (Si.received out.new) (So.faults source.new) (Si.faults out.new))) }
+        (views (So.left source.old) (So.faults source.old) (Si.received out.old) (Si.faults out.old) (Si.wants out.old))
+        (views (So.left source.new) (So.faults source.new) (Si.received out.new) (Si.faults out.new) (Si.wants out.new))) }
     ensures source_later { So.faults source.old ≤ So.faults source.new }
     ensures sink_later { Si.faults out.old ≤ Si.faults out.new }
 {
@@ -137,36 +134,25 @@ pub fn run<So: Source, Si: Sink, Se: Sink>(
     out: &mut Si,
     err: &mut Se,
 ) -> u8
-    // Status 0: the input means a frame, and the sink received exactly its text.
+    // Status 0: the input means a frame, the sink received exactly its text, and the sink of errors nothing.
     ensures converted { result ≡ 0 → Converted (map string_bytes words.now) (So.left source.old) (So.left source.new) (Si.received out.old) (Si.received out.new) }
+    ensures silent { result ≡ 0 → sink_view (Se.received err.new) (Se.faults err.new) (Se.wants err.new) ≡ sink_view (Se.received err.old) (Se.faults err.old) (Se.wants err.old) }
 
-    // Each other status comes only by its cause.
-    ensures words_form { result ≡ 2 → (settings_of_words (map string_bytes words.now) ≡ None) × Keeps (Si.received out.old) (Si.received out.new) }
-    ensures source_fault { result ≡ 3 → IsSome (settings_of_words (map string_bytes words.now)) × Rose (So.faults source.old) (So.faults source.new) × Keeps (Si.received out.old) (Si.received out.new) }
-    ensures sink_fault { result ≡ 4 → Rose (Si.faults out.old) (Si.faults out.new)
-        × ConvertedPart (map string_bytes words.now) (So.left source.old) (So.left source.new) (Si.received out.old) (Si.received out.new) }
-    ensures memory { result ≡ 5 → Keeps (Si.received out.old) (Si.received out.new)
-        ⊎ ConvertedPart (map string_bytes words.now) (So.left source.old) (So.left source.new) (Si.received out.old) (Si.received out.new) }
-    ensures too_long { result ≡ 6 → IsSome (settings_of_words (map string_bytes words.now)) × IsTooLong (So.left source.old) (So.left source.new) × Keeps (Si.received out.old) (Si.received out.new) }
-    ensures dialect { result ≡ 11 → HasCause (map string_bytes words.now) (So.left source.old) (So.left source.new) Cause.Dialect × Keeps (Si.received out.old) (Si.received out.new) }
-    ensures option { result ≡ 12 → HasCause (map string_bytes words.now) (So.left source.old) (So.left source.new) Cause.Option × Keeps (Si.received out.old) (Si.received out.new) }
-    ensures quote { result ≡ 13 → HasCause (map string_bytes words.now) (So.left source.old) (So.left source.new) Cause.Quote × Keeps (Si.received out.old) (Si.received out.new) }
-    ensures compressed { result ≡ 14 → HasCause (map string_bytes words.now) (So.left source.old) (So.left source.new) Cause.Compressed × Keeps (Si.received out.old) (Si.received out.new) }
-    ensures dtype { result ≡ 18 → (column : ℕ) × HasCause (map string_bytes words.now) (So.left source.old) (So.left source.new) (Cause.Dtype column) × Keeps (Si.received out.old) (Si.received out.new) }
-    ensures not_found { result ≡ 19 → (name : List ℕ) × HasCause (map string_bytes words.now) (So.left source.old) (So.left source.new) (Cause.NotFound name) × Keeps (Si.received out.old) (Si.received out.new) }
-    ensures skip { result ≡ 20 → HasCause (map string_bytes words.now) (So.left source.old) (So.left source.new) Cause.Skip × Keeps (Si.received out.old) (Si.received out.new) }
-    ensures faulty { result ≡ 24 → (row : ℕ) × (column : ℕ) × (kind : FaultKind) × HasCause (map string_bytes words.now) (So.left source.old) (So.left source.new) (Cause.Record row column kind) × Keeps (Si.received out.old) (Si.received out.new) }
-    ensures known { IsTrue (is_status result) }
+    // Each other status comes only by its cause, and its fault line was told.
+    ensures refused { result ≢ 0 → IsRefusedWith (map string_bytes words.now)
+        (views (So.left source.old) (So.faults source.old) (Si.received out.old) (Si.faults out.old) (Si.wants out.old))
+        (views (So.left source.new) (So.faults source.new) (Si.received out.new) (Si.faults out.new) (Si.wants out.new))
+        (sink_view (Se.received err.old) (Se.faults err.old) (Se.wants err.old))
+        (sink_view (Se.received err.new) (Se.faults err.new) (Se.wants err.new))
+        result }
 
     // The status that is due to the words and the input comes, up to want of memory and a count that rose.
     ensures no_meaning { settings_of_words (map string_bytes words.now) ≡ None → (result ≡ 2) ⊎ (result ≡ 5) }
     ensures due { (input : List ℕ) (status : ℕ) → So.left source.old ≡ Some input → IsDue (map string_bytes words.now) input status → EndsAsDue status result
-        (views (So.left source.old) (Si.received out.old) (So.faults source.old) (Si.faults out.old))
-        (views (So.left source.new) (Si.received out.new) (So.faults source.new) (Si.faults out.new)) }
+        (views (So.left source.old) (So.faults source.old) (Si.received out.old) (Si.faults out.old) (Si.wants out.old))
+        (views (So.left source.new) (So.faults source.new) (Si.received out.new) (Si.faults out.new) (Si.wants out.new)) }
 
-    // The fault line.
-    ensures told { (line : List ℕ) × IsLine (map string_bytes words.now) (So.left source.old) (So.left source.new) result line
-        × IsTold line (Se.received err.old) (Se.received err.new) (Se.faults err.old) (Se.faults err.new) (Se.wants err.old) (Se.wants err.new) }
+    // No count falls.
     ensures source_later { So.faults source.old ≤ So.faults source.new }
     ensures sink_later { Si.faults out.old ≤ Si.faults out.new }
 {

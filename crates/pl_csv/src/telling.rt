@@ -147,7 +147,7 @@ fn tell_end<Se: Sink>(sink: &mut Se, refusal: &Refusal) -> bool
 /// Tells a sink the fault line of a refusal, with its line feed. A fault of the sink cuts the line short, and is not passed
 /// on.
 pub fn tell_refusal<Se: Sink>(sink: &mut Se, refusal: &Refusal)
-    ensures told { IsTold (fault_line refusal.now) (Se.received sink.old) (Se.received sink.new) (Se.faults sink.old) (Se.faults sink.new) (Se.wants sink.old) (Se.wants sink.new) }
+    ensures told { IsTold (fault_line refusal.now) (sink_view (Se.received sink.old) (Se.faults sink.old) (Se.wants sink.old)) (sink_view (Se.received sink.new) (Se.faults sink.new) (Se.wants sink.new)) }
 {
     if tell(sink, refusal_name(refusal)) {
         tell_end(sink, refusal);

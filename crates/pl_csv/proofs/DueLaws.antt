@@ -1,0 +1,120 @@
+-- Words and an input have a status that is due, and only one.
+use Rattle.std.proofs.Common.{◌≡◌, ℕ, ◌^◌, ◌<◌, ◌≤◌, Bool, true, false, List, [], ◌∷◌, ◌++◌, length, refl, sym, ◌∙◌, ap, subst, arith, inl, inr}
+use Rattle.std.specs.Prelude.{◌≢◌, Option, None, Some, IfSome, IsSome, nat_eq, nat_lt, not, ◌==◌}
+use Rattle.std.specs.List.{list_all}
+use Rattle.std.proofs.lemmas.Bool.Decides.{nat_tests}
+use Rattle.pl_frame.specs.Dialect.{Marks, IsMark, IsQuote, IsCommentPrefix, IsDialect}
+use Rattle.pl_csv.specs.declared.reading.Cause.{Cause}
+use Rattle.pl_csv.specs.declared.reading.Cause.TheVariants as cause
+use Rattle.pl_csv.specs.declared.settings.Settings.{Settings}
+use Rattle.pl_csv.specs.Settings.{marks_of, comment_of}
+use Rattle.pl_csv.specs.Reading.{Tells, early_causes, late_causes, read_causes, all_causes, quote_cause, first_some, when, frame_of, IsCause, IsValidRead}
+use Rattle.pl_csv.specs.Run.{IsDue, HasOneDue, status_of_cause}
+use Rattle.pl_csv.specs.Words.{settings_of_words}
+use Rattle.pl_csv.proofs.RunLaws.{none_some, same_some, due-words, due-long, due-read, due-invalid}
+
+-- ---- whether marks are a dialect can be told
+
+-- a truth value that tells whether something holds
+abbrev Decided : Type 0 → Type 0
+Decided holds = (answer : Bool) × Tells answer holds
+
+both : {P Q : Type 0} → Decided P → Decided Q → Decided (P × Q)
+both (true, p) (true, q) = (true, (p, q))
+both (true, p) (false, q) = (false, λ h. q h.1)
+both (false, p) other = (false, λ h. p h.0)
+
+same_as : {P Q : Type 0} → (P → Q) → (Q → P) → Decided P → Decided Q
+same_as there back (true, p) = (true, there p)
+same_as there back (false, p) = (false, λ q. p (back q))
+
+less : (n m : ℕ) → Decided (n < m)
+less n m = by (nat_lt n m) refl
+  where
+    by : (t : Bool) → nat_lt n m ≡ t → Decided (n < m)
+    by true e = (true, grind (arith, nat_tests, e))
+    by false e = (false, λ h. grind (arith, nat_tests, e, h))
+
+unlike : (n m : ℕ) → Decided (n ≢ m)
+unlike n m = by (nat_eq n m) refl
+  where
+    by : (t : Bool) → nat_eq n m ≡ t → Decided (n ≢ m)
+    by true e = (false, λ h. h (grind (arith, nat_tests, e)))
+    by false e = (true, λ h. grind (arith, nat_tests, e, h))
+
+holds : (t : Bool) → Decided (t ≡ true)
+holds true = (true, refl)
+holds false = (false, λ h. cc)
+
+mark : (x : ℕ) → Decided (IsMark x)
+mark x = both (less x 128) (unlike x 13)
+
+quote : (separator line_end : ℕ) (quote : Option ℕ) → Decided (IsQuote separator line_end quote)
+quote separator line_end None = (true, tt)
+quote separator line_end (Some q) =
+    same_as (λ h. (h.0, h.1.0, h.1.1)) (λ h. (h.0, (h.1, h.2))) (both (mark q) (both (unlike q separator) (unlike q line_end)))
+
+prefix : (line_end : ℕ) (comment : Option (List ℕ)) → Decided (IsCommentPrefix line_end comment)
+prefix line_end None = (true, tt)
+prefix line_end (Some bytes) = both (less 0 (length bytes)) (holds (list_all (λ x. not (x == line_end)) bytes))
+
+dialect : (m : Marks) (comment : Option (List ℕ)) → Decided (IsDialect m comment)
+dialect m comment =
+    same_as
+    (λ h. record { separator = h.0.0; line_end = h.0.1; apart = h.1.0; quote = h.1.1.0; prefix = h.1.1.1 })
+    (λ (d : IsDialect m comment). ((d.separator, d.line_end), (d.apart, (d.quote, d.prefix))))
+    (both (both (mark m.separator) (less m.line_end 128)) (both (unlike m.separator m.line_end) (both (quote m.separator m.line_end m.quote) (prefix m.line_end comment))))
+
+-- ---- where no cause is there
+
+-- where none of the causes is there, neither is the one in the middle, nor one of the others
+none_there : {X : Type 0} (early : List (Option X)) (q : Option X) (late : List (Option X)) → first_some (early ++ q ∷ late) ≡ None → (q ≡ None) × (first_some (early ++ late) ≡ None)
+none_there [] None late e = (refl, e)
+none_there [] (Some x) late e = absurd (none_some (Some x) x e refl)
+none_there (None ∷ early) q late e = none_there early q late e
+none_there (Some x ∷ early) q late e = absurd (none_some (Some x) x e refl)
+
+-- the quote is ASCII where it is no cause
+ascii : (quote : ℕ) → when (not (nat_lt quote 128)) cause.Quote ≡ None → quote < 128
+ascii quote none = by (nat_lt quote 128) refl
+  where
+    by : (t : Bool) → nat_lt quote 128 ≡ t → quote < 128
+    by true e = grind (arith, nat_tests, e)
+    by false e = absurd (none_some (when (not (nat_lt quote 128)) cause.Quote) cause.Quote none (ap (λ t. when (not t) cause.Quote) e))
+
+-- ---- what is due
+
+due-settings : (words : List (List ℕ)) (input : List ℕ) (s : Settings) → settings_of_words words ≡ Some s → length input ≤ 2 ^ 36 → HasOneDue words input
+due-settings words input s meaning within = by_dialect (dialect (marks_of s) (comment_of s))
+  where
+    by_first : (d : Bool) → Tells d (IsDialect (marks_of s) (comment_of s)) → (first : Option Cause) → first_some (all_causes s input d) ≡ first → HasOneDue words input
+    by_first d tells None none =
+        let quiet = none_there (early_causes d s) (quote_cause s) (late_causes s input) none in
+        let read : IsValidRead s input (frame_of s input) = (ascii s.write.serialize_options.quote_char quiet.0, (record { is_dialect = d; tells = tells; is = sym quiet.1 }, refl)) in
+        (0, inr (inr (inl (record { settings = s; meaning = meaning; within = within; frame = frame_of s input; read = read }, refl))),
+          λ other due. due-read words input other (record { settings = s; meaning = meaning; within = within }) (frame_of s input) read due)
+    by_first d tells (Some first) some =
+        let is : IsCause s input first = record { is_dialect = d; tells = tells; is = sym some } in
+        (status_of_cause first, inr (inr (inr (first, record { settings = s; meaning = meaning; within = within; is = is }, refl))),
+          λ other due. due-invalid words input other (record { settings = s; meaning = meaning; within = within }) first is due)
+
+    by_dialect : Decided (IsDialect (marks_of s) (comment_of s)) → HasOneDue words input
+    by_dialect (d, tells) = by_first d tells (first_some (all_causes s input d)) refl
+
+some_is : {X : Type 0} (o : Option X) (x : X) → o ≡ Some x → IsSome o
+some_is {X = X} o x e = subst (λ (p : Option X). IsSome p) (sym e) tt
+
+-- words and an input have one status that is due
+pub one_due : (words : List (List ℕ)) (input : List ℕ) → HasOneDue words input
+one_due words input = by_words (settings_of_words words) refl
+  where
+    by_length : (s : Settings) → settings_of_words words ≡ Some s → (t : Bool) → nat_lt (2 ^ 36) (length input) ≡ t → HasOneDue words input
+    by_length s meaning true e =
+        let long : 2 ^ 36 < length input = grind (arith, nat_tests, e) in
+        let some = some_is (settings_of_words words) s meaning in
+        (6, inr (inl (some, long, refl)), λ other due. due-long words input other some long due)
+    by_length s meaning false e = due-settings words input s meaning (grind (arith, nat_tests, e))
+
+    by_words : (o : Option Settings) → settings_of_words words ≡ o → HasOneDue words input
+    by_words None none = (2, inl (none, refl), λ other due. due-words words input other none due)
+    by_words (Some s) meaning = by_length s meaning (nat_lt (2 ^ 36) (length input)) refl

@@ -1,0 +1,4 @@
+pub mod NameLaws
+pub mod PartLaws
+pub mod SchemaLaws
+pub mod SplitLaws

@@ -8,7 +8,7 @@ use Rattle.pl_scan.specs.declared.comment.CommentPrefix.{CommentPrefix}
 use Rattle.pl_scan.specs.Comment.{prefix_bytes, prefix_of}
 use Rattle.pl_csv.specs.declared.reading.Cause.{Cause}
 use Rattle.pl_csv.specs.declared.reading.Cause.TheVariants as cause
-use Rattle.pl_csv.specs.declared.settings.Settings.{Settings}
+use Rattle.pl_words.specs.declared.settings.Settings.{Settings}
 use Rattle.pl_csv.specs.Settings.{rules_of}
 use Rattle.pl_csv.specs.Reading.{types_of, when, unknown_null, data_of, data_rows, first_faulty, faulty_record, frame_of_rows, first_some, read_causes, IsFirstCause, IsValidRead, MayBeRead}
 

@@ -6,11 +6,11 @@ use Rattle.std.proofs.lemmas.Bool.Decides.{nat_tests}
 use Rattle.pl_frame.specs.Dialect.{Marks, IsMark, IsQuote, IsCommentPrefix, IsDialect}
 use Rattle.pl_csv.specs.declared.reading.Cause.{Cause}
 use Rattle.pl_csv.specs.declared.reading.Cause.TheVariants as cause
-use Rattle.pl_csv.specs.declared.settings.Settings.{Settings}
+use Rattle.pl_words.specs.declared.settings.Settings.{Settings}
 use Rattle.pl_csv.specs.Settings.{marks_of, comment_of}
 use Rattle.pl_csv.specs.Reading.{Tells, early_causes, late_causes, read_causes, all_causes, quote_cause, first_some, when, frame_of, IsCause, IsValidRead}
 use Rattle.pl_csv.specs.Run.{IsDue, HasOneDue, status_of_cause}
-use Rattle.pl_csv.specs.Words.{settings_of_words}
+use Rattle.pl_words.specs.Words.{settings_of_words}
 use Rattle.pl_csv.proofs.RunLaws.{none_some, same_some, due-words, due-long, due-read, due-invalid}
 
 -- ---- whether marks are a dialect can be told
@@ -90,19 +90,23 @@ due-settings words input s meaning within = by_dialect (dialect (marks_of s) (co
     by_first : (d : Bool) → Tells d (IsDialect (marks_of s) (comment_of s)) → (first : Option Cause) → first_some (all_causes s input d) ≡ first → HasOneDue words input
     by_first d tells None none =
         let quiet = none_there (early_causes d s) (quote_cause s) (late_causes s input) none in
-        let read : IsValidRead s input (frame_of s input) = (ascii s.write.serialize_options.quote_char quiet.0, (record { is_dialect = d; tells = tells; is = sym quiet.1 }, refl)) in
-        (0, inr (inr (inl (record { settings = s; meaning = meaning; within = within; frame = frame_of s input; read = read }, refl))),
-          λ other due. due-read words input other (record { settings = s; meaning = meaning; within = within }) (frame_of s input) read due)
+        let read : IsValidRead s input (frame_of s input) = (ascii s.write.serialize_options.quote_char quiet.0, (record { is_dialect = d; tells = tells; is = sym quiet.1 }, refl)) in (
+          0,
+          inr (inr (inl (record { settings = s; meaning = meaning; within = within; frame = frame_of s input; read = read }, refl))),
+          λ other due. due-read words input other (record { settings = s; meaning = meaning; within = within }) (frame_of s input) read due,
+        )
     by_first d tells (Some first) some =
-        let is : IsCause s input first = record { is_dialect = d; tells = tells; is = sym some } in
-        (status_of_cause first, inr (inr (inr (first, record { settings = s; meaning = meaning; within = within; is = is }, refl))),
-          λ other due. due-invalid words input other (record { settings = s; meaning = meaning; within = within }) first is due)
+        let is : IsCause s input first = record { is_dialect = d; tells = tells; is = sym some } in (
+          status_of_cause first,
+          inr (inr (inr (first, record { settings = s; meaning = meaning; within = within; is = is }, refl))),
+          λ other due. due-invalid words input other (record { settings = s; meaning = meaning; within = within }) first is due,
+        )
 
     by_dialect : Decided (IsDialect (marks_of s) (comment_of s)) → HasOneDue words input
     by_dialect (d, tells) = by_first d tells (first_some (all_causes s input d)) refl
 
 some_is : {X : Type 0} (o : Option X) (x : X) → o ≡ Some x → IsSome o
-some_is {X = X} o x e = subst (λ (p : Option X). IsSome p) (sym e) tt
+some_is {X = X} o x e = subst (λ (p : Option X). IsSome p) (sym e) refl
 
 -- words and an input have one status that is due
 pub one_due : (words : List (List ℕ)) (input : List ℕ) → HasOneDue words input

@@ -8,7 +8,7 @@ use Rattle.pl_frame.specs.Frame.{HaveHeight, IsFrame, names_of}
 use Rattle.pl_frame.specs.Schema.{names_in, HaveDistinctNames}
 use Rattle.pl_cells.specs.Cells.{value_of}
 use Rattle.pl_csv.specs.Cells.{RowRules, cell}
-use Rattle.pl_csv.specs.Settings.{SchemaValue}
+use Rattle.pl_words.specs.SchemaText.{SchemaValue}
 use Rattle.pl_csv.specs.Reading.{Row, types_of, field_at, read_column, frame_of_rows}
 use Rattle.pl_csv.specs.Rows.{state_types, with_rows}
 use Rattle.pl_csv.specs.Frames.{empty_columns, columns_of}

@@ -5,12 +5,9 @@ pub mod RuleLaws
 pub mod RowLaws
 pub mod FaultLaws
 pub mod MissingLaws
-pub mod NameLaws
 pub mod ReadLaws
 pub mod FrameLaws
 pub mod PlaceLaws
 pub mod CauseLaws
 pub mod RunLaws
-pub mod SplitLaws
 pub mod TellLaws
-pub mod WordLaws

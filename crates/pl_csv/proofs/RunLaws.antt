@@ -8,10 +8,10 @@ use Rattle.pl_csv.specs.declared.reading.Cause.{Cause}
 use Rattle.pl_csv.specs.declared.reading.Cause.TheVariants as cause
 use Rattle.pl_csv.specs.declared.run.Refusal.{Refusal}
 use Rattle.pl_csv.specs.declared.run.Refusal.TheVariants as refusal
-use Rattle.pl_csv.specs.declared.settings.Settings.{Settings}
+use Rattle.pl_words.specs.declared.settings.Settings.{Settings}
 use Rattle.pl_csv.specs.Reading.{IsFirstCause, IsValidRead, IsCause, Tells, early_causes, late_causes, read_causes, all_causes, quote_cause, first_some, when}
 use Rattle.pl_csv.specs.Run.{HasRead, HasCause, Views, IsRefused, status_of, status_of_cause, IsDue, EndsAsDue, Converted}
-use Rattle.pl_csv.specs.Words.{settings_of_words}
+use Rattle.pl_words.specs.Words.{settings_of_words}
 
 -- an input that is known is the one that was read
 pub same_input : (input came : List ℕ) (now : Option (List ℕ)) → Consumes (Some input) now came → IsAtEnd now → input ≡ came

@@ -4,7 +4,7 @@ use Rattle.pl_frame.specs.Frame.{ColumnValue}
 use Rattle.pl_cells.specs.BufferState.{empty_buffer}
 use Rattle.pl_cells.specs.Buffers.{BufferValue, column_of}
 use Rattle.pl_csv.specs.Cells.{RowRules}
-use Rattle.pl_csv.specs.Settings.{SchemaValue}
+use Rattle.pl_words.specs.SchemaText.{SchemaValue}
 
 -- each column, without cells
 abbrev pub empty_columns : RowRules → SchemaValue → List BufferValue

@@ -16,8 +16,9 @@ use Rattle.pl_csv.specs.declared.reading.Cause.{Cause}
 use Rattle.pl_csv.specs.declared.reading.Cause.TheVariants as cause
 use Rattle.pl_csv.specs.declared.reading.ReadFault.{ReadFault}
 use Rattle.pl_csv.specs.declared.reading.ReadFault.TheVariants as read_fault
-use Rattle.pl_csv.specs.declared.settings.Settings.{Settings}
-use Rattle.pl_csv.specs.Settings.{SchemaValue, marks_of, comment_of, skips_of, keeps_ends, rules_of}
+use Rattle.pl_words.specs.declared.settings.Settings.{Settings}
+use Rattle.pl_csv.specs.Settings.{marks_of, comment_of, skips_of, keeps_ends, rules_of}
+use Rattle.pl_words.specs.SchemaText.{SchemaValue}
 use Rattle.pl_cells.specs.Cells.{value_of, fault_of}
 use Rattle.pl_csv.specs.Cells.{RowRules, cell}
 

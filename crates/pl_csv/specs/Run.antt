@@ -11,9 +11,9 @@ use Rattle.pl_csv.specs.declared.run.Refusal.TheVariants as refusal
 use Rattle.pl_csv.specs.Came.{Came}
 use Rattle.pl_csv.specs.declared.reading.Cause.{Cause}
 use Rattle.pl_csv.specs.declared.reading.Cause.TheVariants as cause
-use Rattle.pl_csv.specs.declared.settings.Settings.{Settings}
+use Rattle.pl_words.specs.declared.settings.Settings.{Settings}
 use Rattle.pl_csv.specs.Reading.{IsValidRead, IsCause}
-use Rattle.pl_csv.specs.Words.{settings_of_words}
+use Rattle.pl_words.specs.Words.{settings_of_words}
 use Rattle.pl_write.specs.Options.{frame_options}
 use Rattle.pl_write.specs.Writing.{AppendsPrefix}
 use Rattle.pl_write.specs.declared.options.CsvWriterOptions.{CsvWriterOptions}

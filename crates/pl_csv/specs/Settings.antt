@@ -1,40 +1,12 @@
--- How an input is read, and how its frame is written (docs/grammar.md, docs/quoting.md, docs/command-line.md).
-use Rattle.std.specs.Prelude.{ℕ, Bool, true, false, nat_le, List, length, Option, None, Some}
+-- How an input is read by its settings (docs/grammar.md, docs/types.md).
+use Rattle.std.specs.Prelude.{ℕ, Bool, nat_le, List, length, Option}
 use Rattle.std.specs.Option.{option_map}
-use Rattle.pl_frame.specs.declared.data_type.DataType.{DataType}
 use Rattle.pl_frame.specs.Dialect.{Marks, marks}
 use Rattle.pl_scan.specs.Comment.{prefix_bytes}
 use Rattle.pl_scan.specs.Start.{Skips, skips}
 use Rattle.pl_cells.specs.NullValues.{compiled_for}
-use Rattle.pl_cells.specs.declared.utf8.CsvEncoding.TheVariants as encoding
-use Rattle.pl_write.specs.Options.{default_options}
 use Rattle.pl_csv.specs.Cells.{RowRules}
-use Rattle.pl_csv.specs.declared.settings.Settings.{Settings}
-
--- names with their types, in order
-abbrev pub SchemaValue : Type 0
-SchemaValue = List (List ℕ × DataType)
-
--- comma, double quote, line feed, a header, no comments and no skips; no null texts, UTF-8, a missing text is null, too many
--- fields and bad cells are faults; and the frame is written by the default options
-abbrev pub default_settings : SchemaValue → Settings
-default_settings schema = record {
-  schema = schema;
-  separator = 44;
-  quote_char = Some 34;
-  eol_char = 10;
-  comment_prefix = None;
-  has_header = true;
-  skip_lines = 0;
-  skip_rows = 0;
-  skip_rows_after_header = 0;
-  null_values = None;
-  encoding = encoding.Utf8;
-  missing_is_null = true;
-  truncate_ragged_lines = false;
-  ignore_errors = false;
-  write = default_options;
-}
+use Rattle.pl_words.specs.declared.settings.Settings.{Settings}
 
 -- the bytes that cut a record
 abbrev pub marks_of : Settings → Marks

@@ -7,5 +7,4 @@ ghost use Rattle.pl_csv.specs.Run.{HasOneDue};
 /// against it (docs/command-line.md, "Statuses").
 pub fn one_status_is_due()
     ensures { (words : List (List ℕ)) (input : List ℕ) → HasOneDue words input }
-{
-}
+{}

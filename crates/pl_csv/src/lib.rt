@@ -6,17 +6,11 @@ mod compression;
 pub mod counting;
 mod frames;
 pub mod laws;
-mod null_words;
-mod options;
-mod output;
 pub mod read_all;
 mod reading;
 mod rows;
 pub mod run;
 #[cfg(test)]
 mod run_rows;
-mod schema_text;
-mod settings;
-mod splitting;
 mod telling;
-mod words;
+pub mod words;

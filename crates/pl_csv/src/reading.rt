@@ -12,7 +12,6 @@ ghost use Rattle.pl_csv.specs.Reading.{types_of, data_of, rows, first_faulty, fr
 use crate::compression::has_compression_mark;
 use crate::frames::{empty_buffers, find_unreadable, into_columns};
 use crate::rows::{Cuts, RecordFault, RowOptions, add_rows};
-use crate::settings::Settings;
 use pl_cells::null_values::NullValuesCompiled;
 use pl_frame::column::Column;
 use pl_frame::error::{FaultKind, PolarsError};
@@ -22,6 +21,7 @@ use pl_frame::schema::Schema;
 use pl_scan::comment::CommentPrefix;
 use pl_scan::dialect::dialect_ok;
 use pl_scan::start::data_of;
+use pl_words::settings::Settings;
 use std::alloc::Global;
 
 /// Why an input means no frame that can be written.

@@ -1,15 +1,15 @@
 //! The top call: CSV from a source to a sink, by the words of a command line.
 ghost use Rattle.std.specs.Prelude.{◌≡◌, ◌≢◌, ◌≤◌, ◌⊎◌, ℕ, List, map, string_bytes, IfOk, IfErr, OnOk, None, Some};
-ghost use Rattle.pl_csv.specs.Words.{settings_of_words};
+ghost use Rattle.pl_words.specs.Words.{settings_of_words};
 ghost use Rattle.pl_csv.specs.Run.{status_of, status_of_cause, IsDue, EndsAsDue, HasFrame, IsReadRefused, Converted, IsRefused, IsRefusedWith, source_view, sink_view, views};
 
 use crate::read_all::{LIMIT, ReadAllFault, read_all};
 use crate::reading::{Cause, ReadFault, read_frame};
 use crate::telling::tell_refusal;
-use crate::words::{WordsFault, parse_words};
 use pl_frame::frame::DataFrame;
 use pl_frame::sink::{Sink, SinkFault};
 use pl_frame::source::Source;
+use pl_words::words::{WordsFault, parse_words};
 use pl_write::options::CsvWriterOptions;
 use pl_write::writer::write_frame;
 use std::alloc::Global;

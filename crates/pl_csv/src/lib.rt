@@ -11,6 +11,6 @@ mod reading;
 mod rows;
 pub mod run;
 #[cfg(test)]
-mod run_rows;
+mod run_devices;
 mod telling;
 pub mod words;

@@ -1,6 +1,6 @@
 -- Laws of codes beside a dictionary.
 use Rattle.std.proofs.Common.{◌≡◌, ℕ, suc, zero, ◌+◌, ◌<◌, Bool, true, false, if◌then◌else◌, List, [], ◌∷◌, ◌++◌, length, map, position, get_or, slice_get, Option, None, Some, is_some, is_none, is_err, Result, Ok, Err, OnOk, OnErr, option_to_list, IsUtf8, refl, sym, ◌∙◌, ap, subst, arith, unwrap_or}
-use Rattle.std.specs.List.{list_any}
+use Rattle.std.specs.List.{AllByRecursion, list_any}
 use Rattle.std.specs.Option.{option_map}
 use Rattle.std.specs.Str.{bytes_eq}
 use Rattle.indexmap.specs.IndexSet.{insert_key}
@@ -11,7 +11,7 @@ use Rattle.std.proofs.lemmas.List.Sums.{fold-append}
 use Rattle.std.proofs.lemmas.Option.{slice_get-map, slice_get-get_or}
 use Rattle.std.proofs.lemmas.Slice.Eq.{bytes_eq-Decides}
 use Rattle.pl_frame.specs.Categories.{with_text, dictionary_of, code_of, decoded, AreCodes, HaveDictionary}
-use Rattle.pl_frame.specs.Optional.{AllUtf8, AreAllUtf8}
+use Rattle.pl_frame.specs.Optional.{AreAllUtf8}
 use Rattle.pl_frame.proofs.ColumnLaws.{position-found}
 use Rattle.pl_frame.proofs.OptionalLaws.{AllUtf8-push, AllUtf8-at}
 use Rattle.pl_frame.proofs.SchemaLaws.{none_passes, position-map}
@@ -20,7 +20,7 @@ use Rattle.pl_frame.proofs.SchemaLaws.{none_passes, position-map}
 abbrev pub text_for : List (List ℕ) → Option ℕ → Option (List ℕ)
 text_for d c = option_map (λ code. get_or d code []) c
 
-dictionary-push : (values : List (Option (List ℕ))) (v : Option (List ℕ)) → dictionary_of (values ++ v ∷ []) ≡ with_text (dictionary_of values) v
+pub dictionary-push : (values : List (Option (List ℕ))) (v : Option (List ℕ)) → dictionary_of (values ++ v ∷ []) ≡ with_text (dictionary_of values) v
 dictionary-push values v = fold-append with_text [] values (v ∷ [])
 
 decoded-push : (d : List (List ℕ)) (cs : List (Option ℕ)) (c : Option ℕ) → decoded d (cs ++ c ∷ []) ≡ decoded d cs ++ text_for d c ∷ []
@@ -79,7 +79,7 @@ get_or-last : {X : Type 0} (d : List X) (x e : X) → get_or (d ++ x ∷ []) (le
 get_or-last [] x e = refl
 get_or-last (y ∷ ys) x e = get_or-last ys x e
 
-place-more : (d : List (List ℕ)) (x t : List ℕ) (k : ℕ) → position (bytes_eq t) d ≡ Some k → position (bytes_eq t) (d ++ x ∷ []) ≡ Some k
+pub place-more : (d : List (List ℕ)) (x t : List ℕ) (k : ℕ) → position (bytes_eq t) d ≡ Some k → position (bytes_eq t) (d ++ x ∷ []) ≡ Some k
 place-more d x t k at =
     let found = position-Some (bytes_eq t) d k [] at in
     let more : length (d ++ x ∷ []) ≡ length d + 1 = length-append d (x ∷ []) in
@@ -94,7 +94,7 @@ absent d t none i l = by (bytes_eq t (get_or d i [])) refl
     by false e = e
     by true e = let seen = list_any_at (bytes_eq t) d i [] l e in let unseen = none_passes (bytes_eq t) d none in absurd (cc)
 
-place-new : (d : List (List ℕ)) (t : List ℕ) → position (bytes_eq t) d ≡ None → position (bytes_eq t) (d ++ t ∷ []) ≡ Some (length d)
+pub place-new : (d : List (List ℕ)) (t : List ℕ) → position (bytes_eq t) d ≡ None → position (bytes_eq t) (d ++ t ∷ []) ≡ Some (length d)
 place-new d t none =
     let more : length (d ++ t ∷ []) ≡ length d + 1 = length-append d (t ∷ []) in
     position-found (bytes_eq t) (d ++ t ∷ []) (length d) [] (omega (arith, more))
@@ -154,7 +154,7 @@ length-decoded d (c ∷ cs) = ap suc (length-decoded d cs)
 pub decoded-at : (d : List (List ℕ)) (cs : List (Option ℕ)) (i : ℕ) (c : Option ℕ) → slice_get cs i ≡ Some c → slice_get (decoded d cs) i ≡ Some (text_for d c)
 decoded-at d cs i c at = slice_get-map (text_for d) cs i ∙ ap (option_map (text_for d)) at
 
-some_same : {X : Type 0} (x y : X) → Some x ≡ Some y → x ≡ y
+pub some_same : {X : Type 0} (x y : X) → Some x ≡ Some y → x ≡ y
 some_same x y e = cc
 
 pub code-at : (d : List (List ℕ)) (cs : List (Option ℕ)) (i : ℕ) (c : Option ℕ) → AreCodes d cs → slice_get cs i ≡ Some c → code_of d (text_for d c) ≡ c
@@ -177,7 +177,7 @@ null_for d (Some k) = refl
 pub null-of_row : (d : List (List ℕ)) (cs : List (Option ℕ)) (i : ℕ) (c : Option ℕ) → slice_get cs i ≡ Some c → is_none c ≡ is_none (unwrap_or (slice_get (decoded d cs) i) None)
 null-of_row d cs i c at = sym (null_for d c) ∙ sym (ap (λ o. is_none (unwrap_or o None)) (decoded-at d cs i c at))
 
-pub decoded-utf8 : (d : List (List ℕ)) (cs : List (Option ℕ)) → AreCodes d cs → AllUtf8 d → AreAllUtf8 (decoded d cs)
+pub decoded-utf8 : (d : List (List ℕ)) (cs : List (Option ℕ)) → AreCodes d cs → AllByRecursion IsUtf8 d → AreAllUtf8 (decoded d cs)
 decoded-utf8 d [] are u = tt
 decoded-utf8 d (None ∷ cs) are u = (tt, decoded-utf8 d cs (head_same _ _ _ _ are).1 u)
 decoded-utf8 d (Some k ∷ cs) are u =

@@ -1,10 +1,11 @@
 -- Laws of values with flags beside them, and of texts in one buffer with their ends.
 use Rattle.std.proofs.Common.{◌≡◌, ℕ, suc, zero, ◌+◌, ◌-◌, ◌<◌, ◌≤◌, Bool, true, false, not, cond, if◌then◌else◌, List, [], ◌∷◌, ◌++◌, length, take, drop, get_or, slice_get, Option, None, Some, is_none, IsUtf8, count_by, refl, sym, ◌∙◌, ap, subst, arith}
+use Rattle.std.specs.List.{AllByRecursion}
 use Rattle.std.proofs.lemmas.List.{length-append, length-drop, append-nil, take-append-le, drop-append-le, drop_at, take_all, get_or_default}
 use Rattle.std.proofs.lemmas.List.Sums.{sum_by-cons}
 use Rattle.std.proofs.lemmas.Option.{get_or_from_slice_get}
 use Rattle.std.proofs.lemmas.Str.{IsUtf8-nil}
-use Rattle.pl_frame.specs.Optional.{flagged, parts_between, RiseTo, AllUtf8, AreTexts}
+use Rattle.pl_frame.specs.Optional.{flagged, parts_between, RiseTo, AreTexts}
 
 pub length-flagged : {X : Type 0} (xs : List X) (flags : List Bool) → length xs ≡ length flags → length (flagged xs flags) ≡ length flags
 length-flagged [] [] h = refl
@@ -18,6 +19,19 @@ flagged-push [] [] y g h = refl
 flagged-push [] (f ∷ fs) y g h = absurd (omega arith)
 flagged-push (x ∷ xs) [] y g h = absurd (omega arith)
 flagged-push (x ∷ xs) (f ∷ fs) y g h = ap (λ rest. (if f then Some x else None) ∷ rest) (flagged-push xs fs y g (omega arith))
+
+pub flagged-take : {X : Type 0} (n : ℕ) (xs : List X) (flags : List Bool) → flagged (take n xs) (take n flags) ≡ take n (flagged xs flags)
+flagged-take zero xs flags = refl
+flagged-take (suc n) [] flags = refl
+flagged-take (suc n) (x ∷ xs) [] = refl
+flagged-take (suc n) (x ∷ xs) (f ∷ fs) = ap (λ rest. (if f then Some x else None) ∷ rest) (flagged-take n xs fs)
+
+pub length-take-same : {X Y : Type 0} (n : ℕ) (xs : List X) (ys : List Y) → length xs ≡ length ys → length (take n xs) ≡ length (take n ys)
+length-take-same zero xs ys h = refl
+length-take-same (suc n) [] [] h = refl
+length-take-same (suc n) [] (y ∷ ys) h = absurd (omega arith)
+length-take-same (suc n) (x ∷ xs) [] h = absurd (omega arith)
+length-take-same (suc n) (x ∷ xs) (y ∷ ys) h = ap suc (length-take-same n xs ys (omega arith))
 
 -- at a place whose flag is set stands the value, and at another none
 pub slice_get-flagged_set : {X : Type 0} (xs : List X) (flags : List Bool) (i : ℕ) (x : X) (f : Bool) → length xs ≡ length flags → i < length flags →
@@ -86,16 +100,16 @@ RiseTo-at from [] last i h l = absurd (omega arith)
 RiseTo-at from (e ∷ es) last zero h l = (h.0, RiseTo-le e es last h.1)
 RiseTo-at from (e ∷ es) last (suc i) h l = RiseTo-at e es last i h.1 (omega arith)
 
-pub AllUtf8-push : (texts : List (List ℕ)) (text : List ℕ) → AllUtf8 texts → IsUtf8 text → AllUtf8 (texts ++ text ∷ [])
+pub AllUtf8-push : (texts : List (List ℕ)) (text : List ℕ) → AllByRecursion IsUtf8 texts → IsUtf8 text → AllByRecursion IsUtf8 (texts ++ text ∷ [])
 AllUtf8-push [] text h u = (u, tt)
 AllUtf8-push (t ∷ ts) text h u = (h.0, AllUtf8-push ts text h.1 u)
 
-pub AllUtf8-at : (texts : List (List ℕ)) (i : ℕ) (text : List ℕ) → AllUtf8 texts → slice_get texts i ≡ Some text → IsUtf8 text
+pub AllUtf8-at : (texts : List (List ℕ)) (i : ℕ) (text : List ℕ) → AllByRecursion IsUtf8 texts → slice_get texts i ≡ Some text → IsUtf8 text
 AllUtf8-at [] i text h e = absurd (cc)
 AllUtf8-at (t ∷ ts) zero text h e = let same : t ≡ text = cc in subst IsUtf8 same h.0
 AllUtf8-at (t ∷ ts) (suc i) text h e = AllUtf8-at ts i text h.1 e
 
-pub ruleset flags = (length-flagged, slice_get-flagged_set, slice_get-flagged_unset, flagged-push, nulls-flagged)
+pub ruleset flags = (length-flagged, flagged-take, length-take-same, slice_get-flagged_set, slice_get-flagged_unset, flagged-push, nulls-flagged)
 
 -- one part more, with nothing in it
 pub parts_between-push_nothing : (from : ℕ) (ends bytes : List ℕ) → RiseTo from ends (length bytes) →
@@ -104,7 +118,7 @@ parts_between-push_nothing from ends bytes h =
     subst (λ all. parts_between from (ends ++ length all ∷ []) all ≡ parts_between from ends bytes ++ [] ∷ []) (append-nil bytes)
     (parts_between-push from ends bytes [] h)
 
-pub AllUtf8-push_nothing : (texts : List (List ℕ)) → AllUtf8 texts → AllUtf8 (texts ++ [] ∷ [])
+pub AllUtf8-push_nothing : (texts : List (List ℕ)) → AllByRecursion IsUtf8 texts → AllByRecursion IsUtf8 (texts ++ [] ∷ [])
 AllUtf8-push_nothing texts h = AllUtf8-push texts [] h IsUtf8-nil
 
 -- the part at a place, by its begin and its end

@@ -65,10 +65,14 @@ is_text_of dtype.Categorical text = true
 is_text_of (dtype.Enum (Some categories)) text = list_any (bytes_eq text) categories
 is_text_of _ text = false
 
--- a value of the type: a truth value, a number in its range, or a text of it, which is UTF-8
+-- a number of the type: one in its range, where it holds numbers
+abbrev pub is_number_of : DataType → ℤ → Bool
+is_number_of type n = option_map_or (λ range. is_within range n) (range_of type) false
+
+-- a value of the type: a truth value, a number of it, or a text of it, which is UTF-8
 abbrev pub is_value_of : DataType → Scalar → Bool
 is_value_of type (Truth b) = is_boolean type
-is_value_of type (Number n) = option_map_or (λ range. is_within range n) (range_of type) false
+is_value_of type (Number n) = is_number_of type n
 is_value_of type (Letters text) = is_utf8 text && is_text_of type text
 
 -- a value that is none of the type; a null is of each type

@@ -45,6 +45,11 @@ is_whole_number dtype.UInt32 = true
 is_whole_number dtype.UInt64 = true
 is_whole_number _ = false
 
+-- whole numbers and decimals
+abbrev pub is_numeric : DataType → Bool
+is_numeric (dtype.Decimal precision scale) = true
+is_numeric type = is_whole_number type
+
 -- texts
 abbrev pub is_text : DataType → Bool
 is_text dtype.String = true

@@ -5,6 +5,7 @@
 pub mod cast;
 pub mod codes;
 pub mod column;
+pub mod compression;
 pub mod data_type;
 pub mod equal;
 pub mod error;
@@ -15,6 +16,7 @@ pub mod numbers;
 pub mod opener;
 pub mod places;
 pub mod range;
+pub mod read_all;
 pub mod schema;
 pub mod sink;
 pub mod source;

@@ -1,6 +1,6 @@
 use Rattle.std.proofs.Common.{arith, ◌++◌, take, length-append}
 use Rattle.pl_frame.proofs.Known.{Consumes-append}
-use Rattle.pl_csv.proofs.read_all.read_all.Goals as goal
+use Rattle.pl_frame.proofs.read_all.read_all.Goals as goal
 
 pub returns-then-count-limit-clause-too_long : goal.returns-then-count-limit-clause-too_long
 returns-then-count-limit-clause-too_long g c = λ _.

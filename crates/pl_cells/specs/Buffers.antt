@@ -9,7 +9,7 @@ use Rattle.pl_frame.specs.Frame.{Scalar, Letters, ColumnValue}
 use Rattle.pl_cells.specs.declared.cell_fault.CellFault.{CellFault}
 use Rattle.pl_cells.specs.declared.cell_fault.CellFault.TheVariants as cell_fault
 use Rattle.pl_cells.specs.declared.utf8.CsvEncoding.{CsvEncoding}
-use Rattle.pl_cells.specs.Cells.{Cell, Reading, plain_field_cell, field_cell}
+use Rattle.pl_cells.specs.Cells.{Cell, Reading}
 
 -- a column that is being read: its name, its type, how its texts are read, and its cells so far
 pub record BufferValue : Type 0 where
@@ -36,11 +36,6 @@ with_value buffer value = record {
 -- how a buffer reads
 abbrev pub reading_of : BufferValue → Bool → Bool → Reading
 reading_of buffer missing_is_null ignore_errors = record { encoding = buffer.encoding; missing_is_null = missing_is_null; ignore_errors = ignore_errors }
-
--- the cell of a field without its carriage return, given whether it begins with the quote; where there is no quote none does
-abbrev pub given_cell : Reading → Option ℕ → DataType → Bool → List ℕ → Cell
-given_cell reading None type is_quoted field = plain_field_cell reading type field
-given_cell reading (Some q) type is_quoted field = field_cell reading q type is_quoted field
 
 -- the buffer has the cell's value at its end
 pub record AddsCell (old new : BufferValue) (c : Cell) : Type 0 where

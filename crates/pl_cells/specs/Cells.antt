@@ -1,5 +1,5 @@
 -- The cell of a field, for each type: a value, a null or a fault (docs/types.md, "Cells").
-use Rattle.std.specs.Prelude.{ℕ, Bool, true, ◌&&◌, if◌then◌else◌, List, [], ◌∷◌, Option, None, Some, Result, Ok, Err}
+use Rattle.std.specs.Prelude.{ℕ, Bool, true, false, ◌&&◌, ◌==◌, not, if◌then◌else◌, List, [], ◌∷◌, length, Option, None, Some, is_none, Result, Ok, Err}
 use Rattle.std.specs.Str.{is_utf8}
 use Rattle.std.specs.Str.Lossy.{utf8_lossy}
 use Rattle.pl_frame.specs.declared.data_type.DataType.{DataType}
@@ -8,11 +8,11 @@ use Rattle.pl_frame.specs.declared.error.FaultKind.{FaultKind}
 use Rattle.pl_frame.specs.declared.error.FaultKind.TheVariants as fault
 use Rattle.pl_frame.specs.Frame.{Scalar, Letters}
 use Rattle.pl_frame.specs.Types.{is_text, is_whole_number}
-use Rattle.pl_scan.specs.Fields.{begins_quoted}
 use Rattle.pl_cells.specs.declared.utf8.CsvEncoding.{CsvEncoding}
 use Rattle.pl_cells.specs.declared.utf8.CsvEncoding.TheVariants as encoding
 use Rattle.pl_cells.specs.Integers.{without_blanks}
-use Rattle.pl_cells.specs.Quoting.{strip, is_well_quoted, inside, undouble}
+use Rattle.pl_cells.specs.NullTest.{NullTest, null_test}
+use Rattle.pl_cells.specs.Quoting.{strip, quote_of, is_well_quoted, inside, undouble}
 use Rattle.pl_cells.specs.Values.{is_among, value_of_text}
 
 -- a value or a null, or what is wrong
@@ -77,54 +77,37 @@ plain_cell reading type (x ∷ xs) = text_cell reading type (x ∷ xs)
 abbrev pub quoted_cell : Reading → ℕ → DataType → List ℕ → Cell
 quoted_cell reading q type text = if is_text type then text_cell reading type (undouble q text) else text_cell reading type text
 
+-- the cell of a field without its carriage return, by its type, given the quote that it begins with
+abbrev pub typed_cell : Reading → Option ℕ → DataType → List ℕ → Cell
+typed_cell reading None type text = plain_cell reading type text
+typed_cell reading (Some q) type text = quoted_cell reading q type (inside text)
+
 -- where errors are ignored, a text without a value is null
 abbrev pub softened : Bool → Cell → Cell
 softened true (Err fault.Utf8) = Ok None
 softened true (Err fault.Value) = Ok None
 softened _ c = c
 
--- a quoted field must end with another quote, whatever is ignored
-abbrev pub quoted_field_cell : Reading → ℕ → DataType → List ℕ → Cell
-quoted_field_cell reading q type field =
-    if is_well_quoted q field then softened reading.ignore_errors (quoted_cell reading q type (inside field)) else Err fault.Escape
+-- a quoted field that does not end with another quote
+abbrev pub is_ill_quoted : Option ℕ → List ℕ → Bool
+is_ill_quoted None text = false
+is_ill_quoted (Some q) text = not (is_well_quoted q text)
 
--- a field that does not begin with the quote
-abbrev pub plain_field_cell : Reading → DataType → List ℕ → Cell
-plain_field_cell reading type field = softened reading.ignore_errors (plain_cell reading type field)
+-- a field that is empty and plain
+abbrev pub is_missing : Option ℕ → List ℕ → Bool
+is_missing quote text = is_none quote && length text == 0
 
--- the cell of a field without its carriage return, given whether it begins with the quote
-abbrev pub field_cell : Reading → ℕ → DataType → Bool → List ℕ → Cell
-field_cell reading q type is_quoted field = if is_quoted then quoted_field_cell reading q type field else plain_field_cell reading type field
-
--- ---- the cell of a field of a column in which some texts mean null
-
--- which texts mean null
-abbrev pub NullTest : Type 0
-NullTest = List ℕ → Bool
-
--- a plain field that means null; the missing text is what it is without such a meaning
-abbrev pub null_cell : Reading → DataType → List ℕ → Cell
-null_cell reading type [] = missing_cell reading type
-null_cell reading type (x ∷ xs) = Ok None
-
--- a plain field is tested as it stands
-abbrev pub tested_plain_cell : Reading → NullTest → DataType → List ℕ → Cell
-tested_plain_cell reading is_null type field = if is_null field then null_cell reading type field else plain_field_cell reading type field
-
--- of a field between quotes what stands between them is tested, doubled quotes and all
-abbrev pub tested_quoted_cell : Reading → NullTest → ℕ → DataType → List ℕ → Cell
-tested_quoted_cell reading is_null q type field =
-    if is_well_quoted q field && is_null (inside field) then Ok None else quoted_field_cell reading q type field
-
--- the cell of a field without its carriage return, given whether it begins with the quote
-abbrev pub tested_cell : Reading → NullTest → ℕ → DataType → Bool → List ℕ → Cell
-tested_cell reading is_null q type is_quoted field =
-    if is_quoted then tested_quoted_cell reading is_null q type field else tested_plain_cell reading is_null type field
+-- the cell of a field without its carriage return, given the quote that it begins with: an ill quoted field is a fault, whatever
+-- is ignored; one that means null is null, unless it is missing; any other is read by its type
+abbrev pub stripped_cell : Reading → NullTest → Option ℕ → DataType → List ℕ → Cell
+stripped_cell reading is_null quote type text =
+    if is_ill_quoted quote text then Err fault.Escape
+    else (if null_test is_null quote text && not (is_missing quote text) then Ok None
+    else softened reading.ignore_errors (typed_cell reading quote type text))
 
 -- the cell of a field, of which one carriage return at the end does not count
 abbrev pub cell : Reading → NullTest → Option ℕ → DataType → List ℕ → Cell
-cell reading is_null None type field = tested_plain_cell reading is_null type (strip field)
-cell reading is_null (Some q) type field = tested_cell reading is_null q type (begins_quoted (Some q) field) (strip field)
+cell reading is_null quote type field = stripped_cell reading is_null (quote_of quote field) type (strip field)
 
 -- the value of a cell without a fault
 abbrev pub value_of : Cell → Option Scalar

@@ -6,6 +6,7 @@ pub mod Cells
 pub mod Dates
 pub mod Decimals
 pub mod Integers
+pub mod NullTest
 pub mod NullValues
 pub mod Quoting
 pub mod Times

@@ -1,6 +1,6 @@
 //! The text of a field: without its carriage return, between its quotes, and with doubled quotes undoubled.
 ghost use Rattle.std.specs.Prelude.{◌≡◌, ◌<◌, ◌++◌, ◌∷◌, [], if◌then◌else◌, OnOk, MatchOption, true, false, length, slice_get, Some};
-ghost use Rattle.pl_cells.specs.Quoting.{strip, is_well_quoted, inside, undouble};
+ghost use Rattle.pl_cells.specs.Quoting.{strip, quote_of, is_well_quoted, inside, undouble};
 
 use memchr::memchr;
 use std::alloc::AllocError;
@@ -13,6 +13,17 @@ pub fn without_return(field: &[u8]) -> &[u8]
     match field {
         [front @ .., b'\r'] => front,
         _ => field,
+    }
+}
+
+/// The quote, where the field begins with it.
+#[inline]
+pub fn quote_of(field: &[u8], quote_char: Option<u8>) -> Option<u8>
+    ensures { result ≡ quote_of quote_char field.now }
+{
+    match (field, quote_char) {
+        ([first, ..], Some(quote)) if *first == quote => Some(quote),
+        _ => None,
     }
 }
 

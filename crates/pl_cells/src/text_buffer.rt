@@ -3,7 +3,7 @@ ghost use Rattle.std.specs.Prelude.{◌≡◌, ℕ, Bool, true, IsTrue, [], leng
 ghost use Rattle.pl_frame.specs.declared.error.PolarsError.TheVariants as error;
 ghost use Rattle.pl_frame.specs.Types.{is_text};
 ghost use Rattle.pl_cells.specs.Buffers.{Answers, ListAnswers, with_value, missing_value, reading_of, reading_with, column_of};
-ghost use Rattle.pl_cells.specs.Cells.{plain_field_cell, quoted_cell, softened, text_cell};
+ghost use Rattle.pl_cells.specs.Cells.{plain_cell, quoted_cell, softened, text_cell};
 ghost use Rattle.pl_cells.specs.Quoting.{undouble};
 
 use crate::cell_fault::CellFault;
@@ -131,7 +131,7 @@ impl<L: TextType> TextBuffer<L> {
         ignore_errors: bool,
         missing_is_null: bool,
     ) -> Result<(), CellFault>
-        ensures { Answers self.old self.new (plain_field_cell (reading_of self.old missing_is_null ignore_errors) self.old.dtype text.now) result }
+        ensures { Answers self.old self.new (softened ignore_errors (plain_cell (reading_of self.old missing_is_null ignore_errors) self.old.dtype text.now)) result }
     {
         if text.is_empty() {
             self.add_missing(missing_is_null)?;

@@ -2,7 +2,7 @@
 ghost use Rattle.std.specs.Prelude.{◌≡◌, true, [], length, OnOk, OnErr, None};
 ghost use Rattle.pl_frame.specs.Types.{is_text};
 ghost use Rattle.pl_cells.specs.Buffers.{Answers, with_value, missing_value, reading_of, column_of};
-ghost use Rattle.pl_cells.specs.Cells.{plain_field_cell, quoted_cell, softened, value_or_null, counted_text};
+ghost use Rattle.pl_cells.specs.Cells.{plain_cell, quoted_cell, softened, value_or_null, counted_text};
 ghost use Rattle.pl_cells.specs.Integers.{without_blanks};
 
 use crate::cell_fault::CellFault;
@@ -140,7 +140,7 @@ impl<K: ValueType> ValueBuffer<K> {
         ignore_errors: bool,
         missing_is_null: bool,
     ) -> Result<(), CellFault>
-        ensures { Answers self.old self.new (plain_field_cell (reading_of self.old missing_is_null ignore_errors) self.old.dtype text.now) result }
+        ensures { Answers self.old self.new (softened ignore_errors (plain_cell (reading_of self.old missing_is_null ignore_errors) self.old.dtype text.now)) result }
     {
         let text = counted(&self.kind, text);
         self.add_value(text, ignore_errors)

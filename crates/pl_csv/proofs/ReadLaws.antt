@@ -10,7 +10,7 @@ use Rattle.pl_frame.specs.Dialect.{Marks, AreDistinct}
 use Rattle.pl_frame.specs.Frame.{Scalar}
 use Rattle.pl_scan.specs.Fields.{fields, extent}
 use Rattle.pl_scan.specs.Comment.{is_comment}
-use Rattle.pl_scan.specs.Items.{Entry, CommentText, RecordText, text_of, item}
+use Rattle.pl_scan.specs.Items.{ItemText, CommentText, RecordText, text_of, item}
 use Rattle.pl_scan.proofs.ItemLaws.{IsRecordAt-extent}
 use Rattle.pl_scan.proofs.RecordLaws.{fields-text}
 use Rattle.pl_csv.specs.declared.rows.RowFault.{RowFault}
@@ -37,7 +37,7 @@ behind-enough m comment (suc n) (suc k) (x ∷ xs) h i =
     (behind-enough m comment n k (drop (size + 1) (x ∷ xs)) (omega (arith, length-drop (size + 1) (x ∷ xs))) (omega (arith, length-drop (size + 1) (x ∷ xs))))
 
 -- the item at the front, by whether a comment begins there
-abbrev item_by : Bool → Marks → List ℕ → Entry
+abbrev item_by : Bool → Marks → List ℕ → ItemText
 item_by t m b = cond t (CommentText (take_while (λ x. not (x == m.line_end)) b)) (RecordText (take (extent m b) b))
 
 pub items_behind-step : (m : Marks) (comment : Option (List ℕ)) (b : List ℕ) → 0 < length b

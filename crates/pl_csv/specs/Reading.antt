@@ -10,7 +10,7 @@ use Rattle.pl_frame.specs.Dialect.{Marks, IsDialect}
 use Rattle.pl_frame.specs.Frame.{ColumnValue}
 use Rattle.pl_frame.specs.Types.{is_readable}
 use Rattle.pl_scan.specs.Fields.{fields, extent}
-use Rattle.pl_scan.specs.Items.{Entry, CommentText, RecordText, text_of, item}
+use Rattle.pl_scan.specs.Items.{ItemText, CommentText, RecordText, text_of, item}
 use Rattle.pl_scan.specs.Start.{data_left}
 use Rattle.pl_cells.specs.NullValues.{unknown_name}
 use Rattle.pl_csv.specs.declared.reading.Cause.{Cause}
@@ -29,7 +29,7 @@ types_of schema = map (λ column. column.1) schema
 -- ---- the rows
 
 -- the items of a text, each with what stands behind it, as long as n lasts
-abbrev pub items_behind_within : Marks → Option (List ℕ) → ℕ → List ℕ → List (Entry × List ℕ)
+abbrev pub items_behind_within : Marks → Option (List ℕ) → ℕ → List ℕ → List (ItemText × List ℕ)
 items_behind_within m comment zero b = []
 items_behind_within m comment (suc n) [] = []
 items_behind_within m comment (suc n) (x ∷ xs) =
@@ -38,7 +38,7 @@ items_behind_within m comment (suc n) (x ∷ xs) =
     (first, drop size (x ∷ xs)) ∷ items_behind_within m comment n (drop (size + 1) (x ∷ xs))
 
 -- the items of a text, each with what stands behind it
-unfoldable pub items_behind : Marks → Option (List ℕ) → List ℕ → List (Entry × List ℕ)
+unfoldable pub items_behind : Marks → Option (List ℕ) → List ℕ → List (ItemText × List ℕ)
 items_behind m comment b = items_behind_within m comment (length b) b
 
 -- a record as it is read: its fields, and whether nothing stands behind it in the input
@@ -51,7 +51,7 @@ abbrev pub row_at : Marks → List ℕ → Row
 row_at m b = record { fields = fields m b; is_end = length (drop (extent m b) b) == 0 }
 
 -- comments give no row
-abbrev pub row_of : Marks → Entry × List ℕ → Option Row
+abbrev pub row_of : Marks → ItemText × List ℕ → Option Row
 row_of m (CommentText text, behind) = None
 row_of m (RecordText text, behind) = Some (record { fields = fields m text; is_end = length behind == 0 })
 

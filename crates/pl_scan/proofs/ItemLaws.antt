@@ -1,5 +1,5 @@
 -- The laws of records and items.
-use Rattle.std.proofs.Common.{◌≡◌, ◌≢◌, ℕ, zero, suc, ◌+◌, ◌<◌, ◌≤◌, Bool, true, false, cond, not, ◌==◌, List, [], ◌∷◌, length, take, drop, refl, sym, ◌∙◌, ap, arith, inl, inr, length-append, length-drop, get_or}
+use Rattle.std.proofs.Common.{◌≡◌, ◌≢◌, ℕ, zero, suc, ◌+◌, ◌<◌, ◌≤◌, Bool, true, false, cond, not, ◌==◌, List, [], ◌∷◌, map, length, take, drop, refl, sym, ◌∙◌, ap, arith, inl, inr, length-append, length-drop, get_or}
 use Rattle.std.specs.Prelude.{Option, None, Some, take_while, ◌⊎◌}
 use Rattle.std.proofs.lemmas.List.Sums.{sum_by-cons, position_or_len_is}
 use Rattle.std.proofs.lemmas.List.{drop_at, drop_more, drop_all, length-take-le, drop-drop}
@@ -8,7 +8,7 @@ use Rattle.std.proofs.lemmas.Bool.Decides.{nat_tests}
 use Rattle.pl_frame.specs.Dialect.{Marks}
 use Rattle.pl_scan.specs.Comment.{is_comment}
 use Rattle.pl_scan.specs.Fields.{is_stop, cut_field, cut_at, field, behind, fields, extent}
-use Rattle.pl_scan.specs.Items.{items, items_within, item, Entry, CommentText, text_of}
+use Rattle.pl_scan.specs.Items.{items, items_behind_within, items_behind, item, ItemText, CommentText, text_of}
 use Rattle.pl_scan.proofs.FieldLaws.{IsWalk-cut_field, is_stop-cut_field, behind-some, behind-shorter, fields_last, fields_more}
 
 -- a record has a field
@@ -72,30 +72,41 @@ IsRecordAt-extent m b = record_within m (length b + 1) b (omega arith)
 
 -- ---- items
 
-items-enough : (m : Marks) (comment : Option (List ℕ)) (n k : ℕ) (b : List ℕ) → length b ≤ n → length b ≤ k → items_within m comment n b ≡ items_within m comment k b
-items-enough m comment zero zero b _ _ = refl
-items-enough m comment zero (suc k) [] _ _ = refl
-items-enough m comment zero (suc k) (x ∷ xs) h _ = absurd (omega arith)
-items-enough m comment (suc n) zero [] _ _ = refl
-items-enough m comment (suc n) zero (x ∷ xs) _ h = absurd (omega arith)
-items-enough m comment (suc n) (suc k) [] _ _ = refl
-items-enough m comment (suc n) (suc k) (x ∷ xs) h i =
+behind-enough : (m : Marks) (comment : Option (List ℕ)) (n k : ℕ) (b : List ℕ) → length b ≤ n → length b ≤ k → items_behind_within m comment n b ≡ items_behind_within m comment k b
+behind-enough m comment zero zero b h i = refl
+behind-enough m comment zero (suc k) [] h i = refl
+behind-enough m comment zero (suc k) (x ∷ xs) h i = absurd (omega arith)
+behind-enough m comment (suc n) zero [] h i = refl
+behind-enough m comment (suc n) zero (x ∷ xs) h i = absurd (omega arith)
+behind-enough m comment (suc n) (suc k) [] h i = refl
+behind-enough m comment (suc n) (suc k) (x ∷ xs) h i =
     let first = item m comment (x ∷ xs) in
-    ap (λ l. first ∷ l) (items-enough m comment n k (drop (length (text_of first) + 1) (x ∷ xs)) (omega (arith, length-drop (length (text_of first) + 1) (x ∷ xs))) (omega (arith, length-drop (length (text_of first) + 1) (x ∷ xs))))
+    let size = length (text_of first) in
+    ap (λ l. (first, drop size (x ∷ xs)) ∷ l)
+    (behind-enough m comment n k (drop (size + 1) (x ∷ xs)) (omega (arith, length-drop (size + 1) (x ∷ xs))) (omega (arith, length-drop (size + 1) (x ∷ xs))))
+
+pub items_behind-nil : (m : Marks) (comment : Option (List ℕ)) → items_behind m comment [] ≡ []
+unfolding items_behind
+items_behind-nil m comment = refl
+
+-- the first item with what stands behind it, and those of what is left
+pub items_behind-step : (m : Marks) (comment : Option (List ℕ)) (b : List ℕ) → 0 < length b
+    → items_behind m comment b ≡ (item m comment b, drop (length (text_of (item m comment b))) b) ∷ items_behind m comment (drop (length (text_of (item m comment b)) + 1) b)
+unfolding items_behind
+items_behind-step m comment [] h = absurd (omega arith)
+items_behind-step m comment (x ∷ xs) h =
+    let first = item m comment (x ∷ xs) in
+    let size = length (text_of first) in
+    let rest = drop (size + 1) (x ∷ xs) in
+    ap (λ l. (first, drop size (x ∷ xs)) ∷ l) (behind-enough m comment (length xs) (length rest) rest (omega (arith, length-drop (size + 1) (x ∷ xs))) (omega arith))
 
 pub items-nil : (m : Marks) (comment : Option (List ℕ)) → items m comment [] ≡ []
-unfolding items
-items-nil m comment = refl
+items-nil m comment = ap (map (λ (part : ItemText × List ℕ). part.0)) (items_behind-nil m comment)
 
 -- the first item, and the items of what is left
 pub items-step : (m : Marks) (comment : Option (List ℕ)) (b : List ℕ) → 0 < length b
     → items m comment b ≡ item m comment b ∷ items m comment (drop (length (text_of (item m comment b)) + 1) b)
-unfolding items
-items-step m comment [] h = absurd (omega arith)
-items-step m comment (x ∷ xs) h =
-    let first = item m comment (x ∷ xs) in
-    let rest = drop (length (text_of first) + 1) (x ∷ xs) in
-    ap (λ l. first ∷ l) (items-enough m comment (length xs) (length rest) rest (omega (arith, length-drop (length (text_of first) + 1) (x ∷ xs))) (omega arith))
+items-step m comment b some = ap (map (λ (part : ItemText × List ℕ). part.0)) (items_behind-step m comment b some)
 
 -- ---- the steps of loops
 
@@ -139,10 +150,10 @@ pub item-comment : (m : Marks) (comment : Option (List ℕ)) (b : List ℕ) (n :
 item-comment m comment b n is len = rw (is, len) refl
 
 -- one step of an iterator over the items
-pub items-at : (m : Marks) (comment : Option (List ℕ)) (b : List ℕ) (first : Entry) (n : ℕ) (rest : List ℕ) → 0 < length b → first ≡ item m comment b → n ≡ length (text_of first)
+pub items-at : (m : Marks) (comment : Option (List ℕ)) (b : List ℕ) (first : ItemText) (n : ℕ) (rest : List ℕ) → 0 < length b → first ≡ item m comment b → n ≡ length (text_of first)
     → rest ≡ drop (n + 1) b → items m comment b ≡ first ∷ items m comment rest
 items-at m comment b first n rest some is len left =
-    items-step m comment b some ∙ ap (λ (f : Entry). f ∷ items m comment (drop (length (text_of f) + 1) b)) (sym is)
+    items-step m comment b some ∙ ap (λ (f : ItemText). f ∷ items m comment (drop (length (text_of f) + 1) b)) (sym is)
     ∙ ap (λ (l : List ℕ). first ∷ items m comment l) (sym (left ∙ ap (λ k. drop (k + 1) b) len))
 
 -- ---- how many there are

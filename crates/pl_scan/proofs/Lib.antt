@@ -2,6 +2,7 @@ pub mod Walk
 pub mod FieldLaws
 pub mod ItemLaws
 pub mod RecordLaws
+pub mod CloseLaws
 pub mod StartLaws
 pub mod LineLaws
 pub mod LineEndLaws

@@ -1,13 +1,14 @@
--- A record's own bytes have its fields.
-use Rattle.std.proofs.Common.{◌≡◌, ℕ, zero, suc, ◌+◌, ◌<◌, Bool, true, cond, ◌==◌, List, [], ◌∷◌, ◌++◌, length, take, drop, refl, sym, ◌∙◌, ap, zero-add, arith, append-nil, one-add}
+-- A record's own bytes have its fields, and a record with something behind it is not open.
+use Rattle.std.proofs.Common.{◌≡◌, ℕ, zero, suc, ◌+◌, ◌%◌, ◌<◌, Bool, true, false, cond, not, ◌&&◌, ◌==◌, List, [], ◌∷◌, ◌++◌, length, take, drop, refl, sym, ◌∙◌, ap, zero-add, arith, append-nil, one-add}
 use Rattle.std.specs.Prelude.{Option, None, Some}
-use Rattle.std.proofs.lemmas.List.{take_at}
+use Rattle.std.proofs.lemmas.List.{take_at, drop_at}
 use Rattle.std.proofs.lemmas.Bool.Decides.{nat_tests}
 use Rattle.pl_frame.specs.Dialect.{Marks, AreDistinct}
-use Rattle.pl_scan.specs.Fields.{quotes, begins_quoted, cut_field, field, behind, fields, extent}
-use Rattle.pl_scan.proofs.Walk.{walk, is_end, walk-of}
-use Rattle.pl_scan.proofs.FieldLaws.{mode, cut_field-is, IsWalk-cut_field, behind-some, behind-shorter, fields_last, fields_more, begins_quoted-field}
-use Rattle.pl_scan.proofs.ItemLaws.{extent_last, extent_more}
+use Rattle.pl_scan.specs.Fields.{quotes, is_plain, begins_quoted, cut_field, field, behind, fields, extent}
+use Rattle.pl_scan.specs.Closing.{is_open, have_open_end}
+use Rattle.pl_scan.proofs.Walk.{walk, is_even, is_end, walk-of}
+use Rattle.pl_scan.proofs.FieldLaws.{both_left, mode, cut_field-is, IsWalk-cut_field, behind-some, behind-shorter, fields_last, fields_more, begins_quoted-field}
+use Rattle.pl_scan.proofs.ItemLaws.{fields-some, extent_last, extent_more}
 
 -- the first field before another rest
 pub cut_field-before : (m : Marks) (b t : List ℕ) → is_end (mode m b) (0 + quotes (mode m b) (field m b)) t ≡ true
@@ -75,3 +76,50 @@ text_within m distinct (suc n) b h = by_rest (behind m.separator (cut_field m b)
 -- the fields of a record's own bytes
 pub fields-text : (m : Marks) (b : List ℕ) → AreDistinct m → fields m (take (extent m b) b) ≡ fields m b
 fields-text m b distinct = text_within m distinct (length b + 1) b (omega arith)
+
+-- ---- a record before a line end is closed
+
+even-odd : (n : ℕ) → is_even n ≡ true → (n % 2 == 1) ≡ false
+even-odd n h = grind (arith, nat_tests)
+
+and_no : (t : Bool) → (t && false) ≡ false
+and_no true = refl
+and_no false = refl
+
+-- a field before a byte is closed
+pub closed_field : (m : Marks) (b : List ℕ) (x : ℕ) (t : List ℕ) → AreDistinct m → (cut_field m b).1 ≡ x ∷ t → is_open m (field m b) ≡ false
+closed_field m b x t distinct is =
+    let even : is_even (0 + quotes (mode m b) (field m b)) ≡ true =
+    both_left (is_even (0 + quotes (mode m b) (field m b))) (not (is_plain m x)) (ap (is_end (mode m b) (0 + quotes (mode m b) (field m b))) (sym is) ∙ (IsWalk-cut_field m b).ended) in
+    rw (begins_quoted-field m b distinct) (by_test (begins_quoted m.quote b) even)
+  where
+    by_test : (c : Bool) → is_even (0 + quotes (record { separator = m.separator; quote = cond c m.quote None; line_end = m.line_end }) (field m b)) ≡ true
+        → (c && quotes m (field m b) % 2 == 1) ≡ false
+    by_test true even = even-odd (quotes m (field m b)) (ap is_even (sym (zero-add (quotes m (field m b)))) ∙ even)
+    by_test false _ = refl
+
+closed_within : (m : Marks) → AreDistinct m → (n : ℕ) (b : List ℕ) (x : ℕ) (rest : List ℕ) → length b < n → drop (extent m b) b ≡ x ∷ rest → have_open_end m (fields m b) ≡ false
+closed_within m distinct zero b x rest h _ = absurd (omega arith)
+closed_within m distinct (suc n) b x rest h left = by_rest (behind m.separator (cut_field m b).1) refl (λ r l i. closed_within m distinct n r x rest l i)
+  where
+    by_rest : (o : Option (List ℕ)) → behind m.separator (cut_field m b).1 ≡ o
+        → ((r : List ℕ) → length r < n → drop (extent m r) r ≡ x ∷ rest → have_open_end m (fields m r) ≡ false)
+        → have_open_end m (fields m b) ≡ false
+    by_rest None e _ =
+        let w = IsWalk-cut_field m b in
+        let t_is : (cut_field m b).1 ≡ x ∷ rest =
+        sym (ap (λ k. drop k b) (extent_last m b e) ∙ ap (drop (length (field m b))) (sym w.whole) ∙ drop_at (field m b) (cut_field m b).1 (length (field m b)) refl) ∙ left in
+        ap (λ (l : List (List ℕ)). have_open_end m l) (fields_last m b e) ∙ closed_field m b x rest distinct t_is
+    by_rest (Some r) e deeper =
+        let w = IsWalk-cut_field m b in
+        let t_is = behind-some m.separator (cut_field m b).1 r e in
+        let whole : field m b ++ m.separator ∷ r ≡ b = ap (λ (l : List ℕ). field m b ++ l) (sym t_is) ∙ w.whole in
+        let inner : drop (extent m b) b ≡ drop (extent m r) r = ap (λ k. drop k b) (extent_more m b r e) ∙ ap (drop (length (field m b) + 1 + extent m r)) (sym whole) ∙ drop-plus (field m b) m.separator r (extent m r) in
+        let some = fields-some m r in
+        ap (λ (l : List (List ℕ)). have_open_end m l) (fields_more m b r e ∙ ap (λ (l : List (List ℕ)). field m b ∷ l) some.2)
+        ∙ ap (λ (l : List (List ℕ)). have_open_end m l) (sym some.2)
+        ∙ deeper r (let short = behind-shorter m b r e in omega arith) (sym inner ∙ left)
+
+-- a record with something behind it is closed
+pub have_open_end-closed : (m : Marks) (b : List ℕ) (x : ℕ) (rest : List ℕ) → AreDistinct m → drop (extent m b) b ≡ x ∷ rest → have_open_end m (fields m b) ≡ false
+have_open_end-closed m b x rest distinct left = closed_within m distinct (length b + 1) b x rest (omega arith) left

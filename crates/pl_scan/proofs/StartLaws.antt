@@ -8,7 +8,7 @@ use Rattle.std.proofs.lemmas.List.{drop_all}
 use Rattle.pl_frame.specs.Dialect.{Marks}
 use Rattle.pl_frame.specs.Text.{byte_order_mark}
 use Rattle.pl_scan.specs.Comment.{is_comment}
-use Rattle.pl_scan.specs.Items.{Entry, text_of, item, items}
+use Rattle.pl_scan.specs.Items.{ItemText, text_of, item, items}
 use Rattle.pl_scan.specs.Start.{no_skips, unless_empty, skip_line, skip_lines, cut_ends, behind_item, pass_items, pass_comments, pass_comments_within, pass_one, pass_header, cut_mark, cut_head, Skips, data_left, start}
 use Rattle.pl_scan.proofs.ItemLaws.{items-nil, items-step}
 
@@ -81,9 +81,9 @@ pub cut_ends-stop : (e x : ℕ) (b : List ℕ) → (x == e || x == 13) ≡ false
 cut_ends-stop e x b is = rw is refl
 
 -- what a loop leaves behind an item
-pub behind_item-is : (m : Marks) (comment : Option (List ℕ)) (b : List ℕ) (first : Entry) (n : ℕ) (rest : List ℕ) → first ≡ item m comment b → n ≡ length (text_of first) → rest ≡ drop (n + 1) b
+pub behind_item-is : (m : Marks) (comment : Option (List ℕ)) (b : List ℕ) (first : ItemText) (n : ℕ) (rest : List ℕ) → first ≡ item m comment b → n ≡ length (text_of first) → rest ≡ drop (n + 1) b
     → rest ≡ behind_item m comment b
-behind_item-is m comment b first n rest is len left = left ∙ ap (λ k. drop (k + 1) b) (len ∙ ap (λ (f : Entry). length (text_of f)) is)
+behind_item-is m comment b first n rest is len left = left ∙ ap (λ k. drop (k + 1) b) (len ∙ ap (λ (f : ItemText). length (text_of f)) is)
 
 -- ---- where nothing is skipped
 

@@ -65,7 +65,7 @@ fields_within m (suc n) b =
     field m b ∷ elim (behind m.separator (cut_field m b).1) [ None ↦ [] | Some rest ↦ fields_within m n rest ]
 
 -- the fields of the first record: the first field and, where a separator follows it, the fields of what stands behind
--- that; so one empty field stands behind a last separator (RFC 4180, section 2, rule 4)
+-- that; so one empty field stands behind a last separator, which RFC 4180 (section 2, rule 4) forbids
 unfoldable pub fields : Marks → List ℕ → List (List ℕ)
 fields m b = fields_within m (length b + 1) b
 
@@ -73,7 +73,7 @@ fields m b = fields_within m (length b + 1) b
 abbrev pub marked_fields : Marks → List ℕ → List (List ℕ × Bool)
 marked_fields m b = map (λ f. (f, begins_quoted m.quote f)) (fields m b)
 
--- the fields that are left, where there are bytes for them
+-- the fields that are left of a record, given what stands behind its last separator so far, if there was one
 abbrev pub fields_left : Marks → Option (List ℕ) → List (List ℕ × Bool)
 fields_left m None = []
 fields_left m (Some rest) = marked_fields m rest

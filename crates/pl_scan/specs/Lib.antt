@@ -1,6 +1,8 @@
 pub mod Comment
+pub mod Dialect
 pub mod Fields
 pub mod Items
+pub mod Closing
 pub mod Start
 pub mod Lines
 pub mod LineEnds

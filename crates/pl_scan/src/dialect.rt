@@ -2,8 +2,34 @@
 ghost use Rattle.std.specs.Prelude.{◌↔◌, IsTrue, IfSome};
 ghost use Rattle.pl_frame.specs.Dialect.{marks, IsMark, AreDistinct, IsCommentPrefix, IsDialect};
 ghost use Rattle.pl_scan.specs.Comment.{prefix_of};
+ghost use Rattle.pl_scan.specs.Dialect.{marks_of, comment_of};
 
 use crate::comment::CommentPrefix;
+
+/// The bytes that cut a text into items and fields.
+#[derive(Clone, Copy)]
+pub struct Dialect<'a> {
+    pub separator: u8,
+    /// None where fields are not quoted.
+    pub quote_char: Option<u8>,
+    pub eol_char: u8,
+    /// None where there are no comments.
+    pub comment_prefix: Option<&'a CommentPrefix>,
+}
+
+impl<'a> Dialect<'a> {
+    /// Whether these make a dialect, as `dialect_ok` tells.
+    pub fn is_valid(&self) -> bool
+        ensures { IsTrue result ↔ IsDialect (marks_of self.now) (comment_of self.now) }
+    {
+        dialect_ok(
+            self.separator,
+            self.quote_char,
+            self.eol_char,
+            self.comment_prefix,
+        )
+    }
+}
 
 // Whether the byte is ASCII and no carriage return.
 fn is_mark(byte: u8) -> bool
@@ -70,5 +96,12 @@ mod tests {
         assert!(rt; dialect_ok(b',', None, b'\r', Some(&prefix)));
         assert!(rt; !dialect_ok(b'"', Some(b'"'), b'\n', None));
         assert!(rt; !dialect_ok(b',', Some(b'\r'), b'\n', None));
+        let dialect = Dialect {
+            separator: b',',
+            quote_char: Some(b'"'),
+            eol_char: b'\n',
+            comment_prefix: Some(&prefix),
+        };
+        assert!(rt; dialect.is_valid());
     }
 }

@@ -1,6 +1,6 @@
 //! The items of a text.
 ghost use Rattle.std.specs.Prelude.{◌≡◌, ◌≤◌, ◌+◌, ◌<◌, List, length, drop, Option};
-ghost use Rattle.pl_scan.specs.Items.{item, items, Entry, text_of, item_text};
+ghost use Rattle.pl_scan.specs.Items.{item, items, ItemText, text_of, item_text};
 ghost use Rattle.std.specs.Iterator.{YieldsFirstBy, item_count};
 ghost use Rattle.pl_frame.specs.Dialect.{marks};
 ghost use Rattle.pl_scan.specs.Comment.{prefix_of};
@@ -80,7 +80,7 @@ pub struct Items<'a> {
 }
 
 impl<'a> Model for Items<'a> {
-    ghost Value = { List Entry };
+    ghost Value = { List ItemText };
 
     ghost view = { λ it. items (marks it.separator it.quote_char it.eol_char) (prefix_of it.comment_prefix) it.rest.now };
 }

@@ -1,6 +1,7 @@
 //! The text that comes in: dialects, comment prefixes, fields, records and items, and the place where the data begins.
 #![tactic(auto)]
 
+pub mod closes;
 pub mod comment;
 pub mod dialect;
 pub mod fields;

@@ -190,3 +190,24 @@ by_blocks (Err fault) has_header m comment before now none d h = tt
 pub no_prefix : (prefix : Option (Bor CommentPrefix)) (t : Bool) → is_some prefix ≡ not t → t ≡ true → prefix_of prefix ≡ None
 no_prefix None t _ _ = refl
 no_prefix (Some p) t some none = absurd (let e : true ≡ not true = some ∙ ap not none in cc)
+
+-- ---- a source that is drained
+
+-- what a loop has passed
+abbrev pub HasPassed : Option (List ℕ) → Option (List ℕ) → Type 0
+HasPassed before now = (bytes : List ℕ) × Consumes before now bytes
+
+pub HasPassed-none : (before : Option (List ℕ)) → HasPassed before before
+HasPassed-none before = ([], Consumes-nil before)
+
+pub HasPassed-more : (before now next : Option (List ℕ)) (block : List ℕ) → HasPassed before now → Consumes now next block → HasPassed before next
+HasPassed-more before now next block passed came = (passed.0 ++ block, Consumes-append before now next passed.0 block passed.1 came)
+
+pub HasPassed-all : (before now next : Option (List ℕ)) (block : List ℕ) → HasPassed before now → Consumes now next block → IsAtEnd next → CameWhole before next (λ bytes. Unit {0})
+HasPassed-all before now next block passed came ended =
+    let all = HasPassed-more before now next block passed came in (all.0, all.1, ended, tt)
+
+-- without a dialect the answer says so, whatever came
+pub without_dialect : (has_header : Bool) (m : Marks) (comment before now : Option (List ℕ)) → (¬ IsDialect m comment) → CameWhole before now (λ bytes. Unit {0})
+    → CameWhole before now (λ bytes. IsCountOf has_header m comment bytes (Err no_dialect))
+without_dialect has_header m comment before now none (bytes, came, ended, so) = (bytes, came, ended, inl (none, refl))

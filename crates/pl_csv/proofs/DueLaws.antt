@@ -3,7 +3,7 @@ use Rattle.std.proofs.Common.{◌≡◌, ℕ, ◌^◌, ◌<◌, ◌≤◌, Bool,
 use Rattle.std.specs.Prelude.{◌≢◌, Option, None, Some, IfSome, IsSome, nat_eq, nat_lt, not, ◌==◌}
 use Rattle.std.specs.List.{list_all}
 use Rattle.std.proofs.lemmas.Bool.Decides.{nat_tests}
-use Rattle.pl_frame.specs.Dialect.{Marks, IsMark, IsQuote, IsCommentPrefix, IsDialect}
+use Rattle.pl_frame.specs.Dialect.{Marks, IsMark, IsCommentPrefix, IsDialect}
 use Rattle.pl_csv.specs.declared.reading.Cause.{Cause}
 use Rattle.pl_csv.specs.declared.reading.Cause.TheVariants as cause
 use Rattle.pl_words.specs.declared.settings.Settings.{Settings}
@@ -49,10 +49,13 @@ holds false = (false, λ h. cc)
 mark : (x : ℕ) → Decided (IsMark x)
 mark x = both (less x 128) (unlike x 13)
 
-quote : (separator line_end : ℕ) (quote : Option ℕ) → Decided (IsQuote separator line_end quote)
-quote separator line_end None = (true, tt)
-quote separator line_end (Some q) =
-    same_as (λ h. (h.0, h.1.0, h.1.1)) (λ h. (h.0, (h.1, h.2))) (both (mark q) (both (unlike q separator) (unlike q line_end)))
+quote : (quote : Option ℕ) → Decided (IfSome quote IsMark)
+quote None = (true, tt)
+quote (Some q) = mark q
+
+apart : (separator line_end : ℕ) (quote : Option ℕ) → Decided (IfSome quote (λ q. (q ≢ separator) × (q ≢ line_end)))
+apart separator line_end None = (true, tt)
+apart separator line_end (Some q) = both (unlike q separator) (unlike q line_end)
 
 prefix : (line_end : ℕ) (comment : Option (List ℕ)) → Decided (IsCommentPrefix line_end comment)
 prefix line_end None = (true, tt)
@@ -61,9 +64,13 @@ prefix line_end (Some bytes) = both (less 0 (length bytes)) (holds (list_all (λ
 dialect : (m : Marks) (comment : Option (List ℕ)) → Decided (IsDialect m comment)
 dialect m comment =
     same_as
-    (λ h. record { separator = h.0.0; line_end = h.0.1; apart = h.1.0; quote = h.1.1.0; prefix = h.1.1.1 })
-    (λ (d : IsDialect m comment). ((d.separator, d.line_end), (d.apart, (d.quote, d.prefix))))
-    (both (both (mark m.separator) (less m.line_end 128)) (both (unlike m.separator m.line_end) (both (quote m.separator m.line_end m.quote) (prefix m.line_end comment))))
+    (λ h. record { separator = h.0.0; line_end = h.0.1; quote = h.1.0.0; distinct = (h.1.0.1.0, h.1.0.1.1); prefix = h.1.1 })
+    (λ (d : IsDialect m comment). ((d.separator, d.line_end), ((d.quote, (d.distinct.0, d.distinct.1)), d.prefix)))
+    (both
+    (both (mark m.separator) (less m.line_end 128))
+    (both
+    (both (quote m.quote) (both (unlike m.separator m.line_end) (apart m.separator m.line_end m.quote)))
+    (prefix m.line_end comment)))
 
 -- ---- where no cause is there
 

@@ -1,5 +1,5 @@
 //! How many rows the text at a path has.
-ghost use Rattle.std.specs.Prelude.{◌≡◌, ◌↔◌, ◌≤◌, ℕ, List, true, false, None, Some, Ok, Err, if◌then◌else◌, IfOk, IfErr, IsErrOf};
+ghost use Rattle.std.specs.Prelude.{◌≡◌, ◌↔◌, ◌≤◌, ℕ, List, true, false, None, Some, Ok, Err, if◌then◌else◌, OnOk, IfOk, IfErr, IsErrOf};
 ghost use Rattle.pl_frame.specs.Causes.{Rose};
 ghost use Rattle.pl_frame.specs.Dialect.{marks, IsDialect};
 ghost use Rattle.pl_frame.specs.declared.error.PolarsError.TheVariants as error;
@@ -8,8 +8,8 @@ ghost use Rattle.pl_scan.specs.RowCount.{row_count};
 ghost use Rattle.pl_frame.specs.Compression.{is_compressed};
 ghost use Rattle.pl_csv.specs.Counting.{CameWhole, HoldsSome, IsCountOf, no_dialect, compressed, counted, AnswersUnlessFailed, IsCountFault};
 
-use pl_frame::compression::is_compressed;
 use crate::read_all::{LIMIT, ReadAllFault, read_all};
+use pl_frame::compression::is_compressed;
 use pl_frame::error::{ComputeFault, OpFault, PolarsError, PolarsResult};
 use pl_frame::opener::Opener;
 use pl_frame::read_all::BLOCK_SIZE;
@@ -74,7 +74,7 @@ fn count_by_blocks<So: Source>(
     }
 }
 
-// What a count of the rows of bytes answers.
+// What a count of the rows of bytes answers under a dialect.
 fn count_rows_of_bytes(
     bytes: &[u8],
     separator: u8,
@@ -83,11 +83,9 @@ fn count_rows_of_bytes(
     eol_char: u8,
     has_header: bool,
 ) -> PolarsResult<usize>
-    ensures { IsCountOf has_header (marks separator quote_char eol_char) (prefix_of comment_prefix.entry) bytes.now result }
+    requires { IsDialect (marks separator quote_char eol_char) (prefix_of comment_prefix) }
+    ensures { result ≡ counted has_header (marks separator quote_char eol_char) (prefix_of comment_prefix.entry) bytes.now }
 {
-    if !dialect_ok(separator, quote_char, eol_char, comment_prefix) {
-        return Err(PolarsError::InvalidOperation(OpFault::Dialect));
-    }
     if is_compressed(bytes) {
         return Err(PolarsError::ComputeError(ComputeFault::Compressed));
     }
@@ -99,6 +97,29 @@ fn count_rows_of_bytes(
         eol_char,
         has_header,
     )
+}
+
+// Reads all that is left of a source, and keeps nothing of it.
+fn drain<So: Source>(source: &mut So) -> Result<(), ReadAllFault>
+    ensures read { OnOk result (CameWhole (So.left source.old) (So.left source.new) (λ bytes. Unit {0})) }
+    ensures failed { IsErrOf result ReadAllFault.Source → Rose (So.faults source.old) (So.faults source.new) }
+    ensures later { So.faults source.old ≤ So.faults source.new }
+{
+    let mut length = 0;
+    let mut block = [0u8; BLOCK_SIZE];
+    loop {
+        let count = match source.read(&mut block) {
+            Ok(count) => count,
+            Err(_) => return Err(ReadAllFault::Source),
+        };
+        if count == 0 {
+            return Ok(());
+        }
+        if count > LIMIT - length {
+            return Err(ReadAllFault::TooLong);
+        }
+        length += count;
+    }
 }
 
 // What a count of the rows of all that is left of a source answers. Only under a dialect with comments what came is kept.
@@ -116,7 +137,13 @@ fn count_source<So: Source>(
     ensures failed { IsErrOf result ReadAllFault.Source → Rose (So.faults source.old) (So.faults source.new) }
     ensures later { So.faults source.old ≤ So.faults source.new }
 {
-    if comment_prefix.is_none() && dialect_ok(separator, quote_char, eol_char, None) {
+    if !dialect_ok(separator, quote_char, eol_char, comment_prefix) {
+        return match drain(source) {
+            Ok(()) => Ok(Err(PolarsError::InvalidOperation(OpFault::Dialect))),
+            Err(fault) => Err(fault),
+        };
+    }
+    if comment_prefix.is_none() {
         return count_by_blocks(alloc, source, separator, quote_char, eol_char, has_header);
     }
     match read_all(alloc, source, LIMIT) {

@@ -239,3 +239,31 @@ pub fn parse_words(alloc: Global, words: &[String]) -> Result<Settings, WordsFau
     }
     settings_of_parts(alloc, &parts)
 }
+
+#[cfg(test)]
+mod tests {
+    use super::*;
+    use std::test::Fail;
+
+    #[test]
+    fn words_have_a_meaning_or_none(rt: HostRuntime) -> Result<(), Fail> {
+        let alloc = rt.alloc();
+        let mut words = Vec::new(alloc);
+        words.push(String::from_str(alloc, "--schema")?)?;
+        words.push(String::from_str(alloc, "a:int64,b:string")?)?;
+        words.push(String::from_str(alloc, "--sep=;")?)?;
+        match parse_words(alloc, &words) {
+            Ok(settings) => {
+                assert_eq!(rt; settings.schema.len(), 2);
+                assert_eq!(rt; settings.separator, b';');
+            }
+            Err(_) => panic!(rt; "these words have a meaning"),
+        }
+        words.push(String::from_str(alloc, "--sep=,")?)?;
+        match parse_words(alloc, &words) {
+            Ok(_) => panic!(rt; "a name stands twice"),
+            Err(fault) => assert_eq!(rt; fault, WordsFault::Words),
+        }
+        Ok(())
+    }
+}

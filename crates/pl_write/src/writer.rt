@@ -206,6 +206,7 @@ pub fn write_frame<Si: Sink>(
     ensures text { OnOk result (Appends (Si.received sink.old) (Si.received sink.new) (text_of_frame (frame_options options.now) columns.now)) }
     ensures prefix { AppendsPrefix (Si.received sink.old) (Si.received sink.new) (text_of_frame (frame_options options.now) columns.now) }
     ensures later { Si.faults sink.old ≤ Si.faults sink.new }
+    ensures later_wants { Si.wants sink.old ≤ Si.wants sink.new }
     ensures device { IsErrOf result SinkFault.Device → Rose (Si.faults sink.old) (Si.faults sink.new) }
 {
     let Ok(ways) = ways_of(alloc, columns, &options.serialize_options) else {

@@ -1,4 +1,4 @@
--- From a vector's mask to bytes that are no marks.
+-- From a vector's mask to bytes that are not special.
 use Rattle.std.proofs.Common.{◌≡◌, ℕ, suc, ◌+◌, ◌-◌, ◌%◌, ◌^◌, ◌<◌, ◌≤◌, Bool, true, false, not, ◌||◌, cond, ◌==◌, eqb, List, [], ◌∷◌, length, get_or, map, replicate, bit_or, refl, sym, ap, ap₂, ◌∙◌, arith}
 use Rattle.std.proofs.lemmas.Bool.{not-true, eqb-true}
 use Rattle.std.proofs.lemmas.Simd.{length-chunk, leading_from_mask_l, get_or-chunk, zip2_splat, mask_l-mod}
@@ -7,7 +7,8 @@ use Rattle.std.proofs.lemmas.List.Sums.{prefix_len_passes}
 use Rattle.std.specs.Bool.{OnTrue}
 use Rattle.std.specs.List.{list_any}
 use lib.Lanes.{chunk, mask_l, zip2, top}
-use Rattle.pl_write.specs.Marks.{is_mark, HasNoMark}
+use Rattle.pl_frame.specs.Text.{is_special}
+use Rattle.pl_write.specs.Special.{HasNoSpecial}
 
 abbrev hit : ℕ → ℕ → ℕ
 hit a b = cond (eqb a b) 255 0
@@ -41,7 +42,7 @@ either f g v p q = ap₂ (zip2 bit_or) p q ∙ zip2-map f g v
 abbrev lanes : ℕ → ℕ → ℕ → ℕ
 lanes s q x = bit_or (bit_or (bit_or (hit x s) (hit x 10)) (hit x 13)) (hit x q)
 
-tops : (s q : ℕ) (v : List ℕ) → map (top 7) (map (lanes s q) v) ≡ map (is_mark s q) v
+tops : (s q : ℕ) (v : List ℕ) → map (top 7) (map (lanes s q) v) ≡ map (is_special s q) v
 tops s q [] = refl
 tops s q (x ∷ v) = ap₂ (λ a b. a ∷ b) (four_tests (eqb x s) (eqb x 10) (eqb x 13) (eqb x q)) (tops s q v)
 
@@ -61,13 +62,13 @@ on_true false P f = tt
 -- the four tests of a vector of n lanes, as the code makes them
 pub clear_from_lanes : (s q : ℕ) (d : List ℕ) (i n : ℕ) → i + n ≤ length d → n ≤ 64
     → OnTrue (mask_l (map (top 7) (zip2 bit_or (zip2 bit_or (zip2 bit_or (zip2 hit (chunk i n d) (replicate n s)) (zip2 hit (chunk i n d) (replicate n 10))) (zip2 hit (chunk i n d) (replicate n 13))) (zip2 hit (chunk i n d) (replicate n q)))) % 2 ^ 64 == 0)
-    (HasNoMark s q d i (i + n))
+    (HasNoSpecial s q d i (i + n))
 clear_from_lanes s q d i n room few =
     let v = chunk i n d in
     let long = length-chunk i n d room in
     let all = either _ _ v (either _ _ v (either _ _ v (zip2_splat hit v n s long) (zip2_splat hit v n 10 long)) (zip2_splat hit v n 13 long)) (zip2_splat hit v n q long) in
-    let mask = ap (λ l. mask_l (map (top 7) l) % 2 ^ 64) all ∙ ap (λ l. mask_l l % 2 ^ 64) (tops s q v) ∙ mask_l-mod (map (is_mark s q) v) 64 (omega (arith, length-map v (is_mark s q), long)) in
-    on_true _ _ (λ e. none_from_mask (is_mark s q) d i n room (sym mask ∙ eqb-true _ 0 e))
+    let mask = ap (λ l. mask_l (map (top 7) l) % 2 ^ 64) all ∙ ap (λ l. mask_l l % 2 ^ 64) (tops s q v) ∙ mask_l-mod (map (is_special s q) v) 64 (omega (arith, length-map v (is_special s q), long)) in
+    on_true _ _ (λ e. none_from_mask (is_special s q) d i n room (sym mask ∙ eqb-true _ 0 e))
 
 -- no byte at any place is none in the list
 none_in : (p : ℕ → Bool) (xs : List ℕ) → ((k : ℕ) → 0 ≤ k → k < length xs → p (get_or xs k 0) ≡ false) → list_any p xs ≡ false
@@ -75,6 +76,6 @@ none_in p [] none = refl
 none_in p (x ∷ xs) none = rw (none 0 (omega arith) (omega arith)) (none_in p xs (λ k low high. none (suc k) (omega arith) (omega arith)))
 
 -- what a test of the whole text tells
-pub clear_text : (b : Bool) (s q : ℕ) (text : List ℕ) → b ≡ true → OnTrue b (HasNoMark s q text 0 (length text)) → list_any (is_mark s q) text ≡ false
-clear_text true s q text is clear = none_in (is_mark s q) text clear
+pub clear_text : (b : Bool) (s q : ℕ) (text : List ℕ) → b ≡ true → OnTrue b (HasNoSpecial s q text 0 (length text)) → list_any (is_special s q) text ≡ false
+clear_text true s q text is clear = none_in (is_special s q) text clear
 clear_text false s q text is clear = absurd (cc)

@@ -20,7 +20,7 @@ use Rattle.pl_cells.specs.Buffers.{BufferValue, Answers, AddsValue, ListAnswers,
 use Rattle.pl_cells.specs.NullTest.{nothing_is_null}
 use Rattle.pl_cells.specs.Cells.{Cell, Reading, plain_cell, quoted_cell, stripped_cell, is_missing, softened, value_or_null, counted_text, string_cell, text_cell, missing_cell}
 
-abbrev record_of : List ℕ → DataType → Option ℕ → CsvEncoding → List (Option Scalar) → BufferValue
+abbrev pub record_of : List ℕ → DataType → Option ℕ → CsvEncoding → List (Option Scalar) → BufferValue
 record_of name type quote encoding values = record { name = name; dtype = type; quote_char = quote; encoding = encoding; values = values }
 
 -- the cell of a type that holds no texts is its value or a null, in quotes or not

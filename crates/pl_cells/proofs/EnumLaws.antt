@@ -20,7 +20,7 @@ use Rattle.pl_cells.specs.Buffers.{EnumValue, ArePlaces}
 use Rattle.pl_cells.specs.Cells.{enum_cell}
 use Rattle.pl_cells.specs.Values.{is_among}
 
-abbrev enum_of : List (List ℕ) → List (Option (List ℕ)) → EnumValue
+abbrev pub enum_of : List (List ℕ) → List (Option (List ℕ)) → EnumValue
 enum_of categories texts = record { categories = categories; texts = texts }
 
 -- one value more of a type

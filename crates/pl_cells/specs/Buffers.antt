@@ -1,5 +1,5 @@
 -- What a buffer holds, and what a cell adds to it (docs/types.md, "Buffers").
-use Rattle.std.specs.Prelude.{◌≡◌, ℕ, ◌++◌, Bool, true, false, if◌then◌else◌, List, [], ◌∷◌, Option, None, Some, Result, Ok, Err}
+use Rattle.std.specs.Prelude.{◌≡◌, ℕ, ◌++◌, Bool, true, false, if◌then◌else◌, List, [], ◌∷◌, take, Option, None, Some, Result, Ok, Err}
 use Rattle.pl_frame.specs.declared.data_type.DataType.{DataType}
 use Rattle.pl_frame.specs.declared.data_type.DataType.TheVariants as dtype
 use Rattle.pl_frame.specs.declared.error.FaultKind.TheVariants as fault
@@ -23,15 +23,26 @@ pub record BufferValue : Type 0 where
 abbrev pub column_of : BufferValue → ColumnValue
 column_of buffer = record { name = buffer.name; dtype = buffer.dtype; values = buffer.values }
 
--- the same with one cell more
-abbrev pub with_value : BufferValue → Option Scalar → BufferValue
-with_value buffer value = record {
+-- the same with these cells
+abbrev pub holding : BufferValue → List (Option Scalar) → BufferValue
+holding buffer values = record {
   name = buffer.name;
   dtype = buffer.dtype;
   quote_char = buffer.quote_char;
   encoding = buffer.encoding;
-  values = buffer.values ++ value ∷ [];
+  values = values;
 }
+
+-- the same with these cells more, and with one more
+abbrev pub with_values : BufferValue → List (Option Scalar) → BufferValue
+with_values buffer more = holding buffer (buffer.values ++ more)
+
+abbrev pub with_value : BufferValue → Option Scalar → BufferValue
+with_value buffer value = with_values buffer (value ∷ [])
+
+-- the same with the first so many of its cells, or with all if there are fewer
+abbrev pub cut_to : ℕ → BufferValue → BufferValue
+cut_to len buffer = holding buffer (take len buffer.values)
 
 -- how a buffer reads
 abbrev pub reading_of : BufferValue → Bool → Bool → Reading

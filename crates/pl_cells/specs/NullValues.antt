@@ -1,6 +1,8 @@
 -- Texts that mean null, in all columns or by name (docs/types.md, "Null values").
-use Rattle.std.specs.Prelude.{◌≡◌, ◌≤◌, ℕ, Bool, false, not, if◌then◌else◌, List, [], ◌∷◌, length, map, find, Option, None, Some, is_some, slice_get}
+use Rattle.std.specs.Prelude.{◌≡◌, ◌≤◌, ℕ, Bool, false, ◌&&◌, not, if◌then◌else◌, List, [], ◌∷◌, length, map, find, Option, None, Some, is_some, slice_get}
 use Rattle.std.specs.Borrow.{Bor}
+use Rattle.std.specs.Cmp.{IsEquivalence, and_equiv, on_equiv}
+use Rattle.std.specs.Cmp.Lexicographic.{nat_list_eq_equiv}
 use Rattle.std.specs.List.{list_any}
 use Rattle.std.specs.Option.{option_map, unwrap_or}
 use Rattle.std.specs.Str.{bytes_eq}
@@ -16,6 +18,14 @@ use Rattle.pl_cells.specs.NullTest.{NullTest}
 -- names with their texts, in order
 abbrev pub NamedTexts : Type 0
 NamedTexts = List (List ℕ × List ℕ)
+
+-- the same text under the same name
+abbrev pub entries_equal : List ℕ × List ℕ → List ℕ × List ℕ → Bool
+entries_equal a b = bytes_eq a.0 b.0 && bytes_eq a.1 b.1
+
+-- which is an equivalence, as the trait asks
+pub entries_equiv : IsEquivalence entries_equal
+entries_equiv = and_equiv (on_equiv (λ (entry : List ℕ × List ℕ). entry.0) nat_list_eq_equiv) (on_equiv (λ (entry : List ℕ × List ℕ). entry.1) nat_list_eq_equiv)
 
 -- the text of a name's last entry, or else another
 abbrev pub text_under : List ℕ → NamedTexts → List ℕ → List ℕ

@@ -3,7 +3,7 @@ ghost use Rattle.std.specs.Prelude.{◌≡◌, Bool, [], true, not, if◌then◌
 ghost use Rattle.std.specs.Option.{option_copied};
 ghost use Rattle.pl_frame.specs.declared.error.PolarsError.TheVariants as error;
 ghost use Rattle.pl_frame.specs.Types.{is_readable, is_readable_decimal};
-ghost use Rattle.pl_cells.specs.Buffers.{Answers, with_value, missing_value, reading_of, column_of};
+ghost use Rattle.pl_cells.specs.Buffers.{Answers, with_value, cut_to, missing_value, reading_of, column_of};
 ghost use Rattle.pl_cells.specs.BufferState.{state_of, empty_buffer};
 ghost use Rattle.pl_cells.specs.Cells.{cell, stripped_cell, plain_cell, quoted_cell, softened};
 ghost use Rattle.pl_cells.specs.NullTest.{nothing_is_null};
@@ -323,6 +323,31 @@ impl Buffer {
             Buffer::Time(buffer) => buffer.reserve(additional),
             Buffer::Datetime(buffer) => buffer.reserve(additional),
             Buffer::Decimal(buffer) => buffer.reserve(additional),
+        }
+    }
+
+    /// Keeps so many cells, or all if there are fewer, without taking memory.
+    pub fn truncate(&mut self, len: usize)
+        ensures { state_of self.new ≡ cut_to len (state_of self.old) }
+    {
+        match self {
+            Buffer::Boolean(buffer) => buffer.truncate(len),
+            Buffer::Int8(buffer) => buffer.truncate(len),
+            Buffer::Int16(buffer) => buffer.truncate(len),
+            Buffer::Int32(buffer) => buffer.truncate(len),
+            Buffer::Int64(buffer) => buffer.truncate(len),
+            Buffer::Int128(buffer) => buffer.truncate(len),
+            Buffer::UInt8(buffer) => buffer.truncate(len),
+            Buffer::UInt16(buffer) => buffer.truncate(len),
+            Buffer::UInt32(buffer) => buffer.truncate(len),
+            Buffer::UInt64(buffer) => buffer.truncate(len),
+            Buffer::String(buffer) => buffer.truncate(len),
+            Buffer::Categorical(buffer) => buffer.truncate(len),
+            Buffer::Enum(buffer) => buffer.truncate(len),
+            Buffer::Date(buffer) => buffer.truncate(len),
+            Buffer::Time(buffer) => buffer.truncate(len),
+            Buffer::Datetime(buffer) => buffer.truncate(len),
+            Buffer::Decimal(buffer) => buffer.truncate(len),
         }
     }
 

@@ -1,5 +1,5 @@
 //! Texts among the categories of an enum.
-ghost use Rattle.std.specs.Prelude.{◌≡◌, ◌++◌, ◌∷◌, [], None, Some, position, IfOk, IsOkUnless, OnOk, OnErr};
+ghost use Rattle.std.specs.Prelude.{◌≡◌, ◌++◌, ◌∷◌, [], None, Some, position, take, IfOk, IsOkUnless, OnOk, OnErr};
 ghost use Rattle.std.specs.Str.{bytes_eq};
 ghost use Rattle.pl_frame.specs.declared.data_type.DataType.TheVariants as dtype;
 ghost use Rattle.pl_frame.specs.declared.error.PolarsError.TheVariants as error;
@@ -114,6 +114,13 @@ impl EnumTexts {
         self.places.push(place as u64)
     }
 
+    // Keeps so many texts, or all if there are fewer.
+    fn truncate(&mut self, len: usize)
+        ensures { self.new ≡ record { categories = self.old.categories; texts = take len self.old.texts } }
+    {
+        self.places.truncate(len)
+    }
+
     // The place of a text among the categories.
     #[inline]
     fn place_of(&self, text: &str) -> Option<usize>
@@ -141,6 +148,10 @@ impl TextType for EnumTexts {
 
     fn make_room(&mut self, additional: usize) -> Result<(), AllocError> {
         self.places.reserve(additional)
+    }
+
+    fn cut_back(&mut self, len: usize) {
+        self.truncate(len)
     }
 
     #[inline]

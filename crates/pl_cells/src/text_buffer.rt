@@ -2,7 +2,7 @@
 ghost use Rattle.std.specs.Prelude.{◌≡◌, ℕ, Bool, true, IsTrue, [], length, OnOk, OnErr, IfOk, IsOkUnless};
 ghost use Rattle.pl_frame.specs.declared.error.PolarsError.TheVariants as error;
 ghost use Rattle.pl_frame.specs.Types.{is_text};
-ghost use Rattle.pl_cells.specs.Buffers.{Answers, ListAnswers, with_value, missing_value, reading_of, reading_with, column_of};
+ghost use Rattle.pl_cells.specs.Buffers.{Answers, ListAnswers, with_value, cut_to, missing_value, reading_of, reading_with, column_of};
 ghost use Rattle.pl_cells.specs.Cells.{plain_cell, quoted_cell, softened, text_cell};
 ghost use Rattle.pl_cells.specs.Quoting.{undouble};
 
@@ -110,6 +110,13 @@ impl<L: TextType> TextBuffer<L> {
         ensures { self.new ≡ self.old }
     {
         self.texts.make_room(additional)
+    }
+
+    /// Keeps so many cells, or all if there are fewer, without taking memory.
+    pub fn truncate(&mut self, len: usize)
+        ensures { self.new ≡ cut_to len self.old }
+    {
+        self.texts.cut_back(len)
     }
 
     /// Puts the cell of a missing text at the end: a null, or, where it is not to be one and the column holds strings,

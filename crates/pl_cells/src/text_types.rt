@@ -1,5 +1,5 @@
 //! Lists of texts, one for each type whose cells are texts.
-ghost use Rattle.std.specs.Prelude.{◌≡◌, ◌++◌, ◌∷◌, [], Bool, List, Option, true, false, length, map, OnOk, OnErr, IfOk, IsOkUnless, MatchOption};
+ghost use Rattle.std.specs.Prelude.{◌≡◌, ◌++◌, ◌∷◌, [], Bool, List, Option, true, false, length, map, take, OnOk, OnErr, IfOk, IsOkUnless, MatchOption};
 ghost use Rattle.std.specs.Str.{is_utf8};
 ghost use Rattle.std.specs.Str.Lossy.{utf8_lossy};
 ghost use Rattle.std.specs.Option.{option_map};
@@ -40,6 +40,11 @@ pub trait TextType {
     /// Makes room for so many more. Refuses only want of memory; the values stay as they are.
     fn make_room(&mut self, additional: usize) -> Result<(), AllocError>
         ensures same { values self.new ≡ values self.old }
+        ensures dtype { dtype self.new ≡ dtype self.old };
+
+    /// Keeps so many values, or all if there are fewer, without taking memory.
+    fn cut_back(&mut self, len: usize)
+        ensures kept { values self.new ≡ take len (values self.old) }
         ensures dtype { dtype self.new ≡ dtype self.old };
 
     /// Puts the value of a missing text at the end. Refuses only want of memory, and is then as it was.
@@ -104,6 +109,10 @@ impl TextType for Texts {
         self.reserve(additional, 0)
     }
 
+    fn cut_back(&mut self, len: usize) {
+        self.truncate(len)
+    }
+
     #[inline]
     fn add_missing(&mut self, is_null: bool) -> Result<(), AllocError> {
         if is_null {
@@ -150,6 +159,10 @@ impl TextType for CodesBuilder {
 
     fn make_room(&mut self, _additional: usize) -> Result<(), AllocError> {
         Ok(())
+    }
+
+    fn cut_back(&mut self, len: usize) {
+        self.truncate(len)
     }
 
     #[inline]

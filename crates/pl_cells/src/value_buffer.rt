@@ -1,7 +1,7 @@
 //! Buffers of truth values and of numbers.
 ghost use Rattle.std.specs.Prelude.{◌≡◌, true, [], length, OnOk, OnErr, None};
 ghost use Rattle.pl_frame.specs.Types.{is_text};
-ghost use Rattle.pl_cells.specs.Buffers.{Answers, with_value, missing_value, reading_of, column_of};
+ghost use Rattle.pl_cells.specs.Buffers.{Answers, with_value, cut_to, missing_value, reading_of, column_of};
 ghost use Rattle.pl_cells.specs.Cells.{plain_cell, quoted_cell, softened, value_or_null, counted_text};
 ghost use Rattle.pl_cells.specs.Integers.{without_blanks};
 
@@ -103,6 +103,13 @@ impl<K: ValueType> ValueBuffer<K> {
         ensures { self.new ≡ self.old }
     {
         self.values.reserve(additional)
+    }
+
+    /// Keeps so many cells, or all if there are fewer, without taking memory.
+    pub fn truncate(&mut self, len: usize)
+        ensures { self.new ≡ cut_to len self.old }
+    {
+        self.values.truncate(len)
     }
 
     /// Puts the cell of a missing text at the end, which is a null. Refuses only want of memory, and is then as it was.

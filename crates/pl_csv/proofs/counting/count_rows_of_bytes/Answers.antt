@@ -1,12 +1,8 @@
-use Rattle.std.proofs.Common.{refl, sym, ◌∙◌, inr}
-use Rattle.pl_csv.proofs.CountingLaws.{counted-plain}
+use Rattle.std.proofs.Common.{refl, sym, ◌∙◌}
+use Rattle.pl_csv.proofs.CountingLaws.{counted-plain, counted-mark}
 use Rattle.pl_csv.proofs.counting.count_rows_of_bytes.Goals as goal
 
 pub returns : goal.returns
 returns c =
-    let d = c.dialect_ok.ensures.0 c.if-not-dialect_ok.false in
-    inr (
-      d,
-      (c.count_rows_from_slice.ensures.rows _).1 (d, refl)
-          ∙ sym (counted-plain c.args.has_header _ _ c.args.bytes.now (sym c.is_compressed.ensures ∙ c.if-is_compressed.false)),
-    )
+    (c.count_rows_from_slice.ensures.rows _).1 (c.requires, refl)
+        ∙ sym (counted-plain c.args.has_header _ _ c.args.bytes.now (sym c.is_compressed.ensures ∙ c.if-is_compressed.false))

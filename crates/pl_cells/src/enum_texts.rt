@@ -81,7 +81,7 @@ pub struct EnumTexts {
 
 impl Model for EnumTexts {
     ghost use Rattle.pl_frame.specs.Categories.{decoded};
-    ghost use Rattle.pl_cells.specs.Buffers.{EnumValue, ArePlaces};
+    ghost use Rattle.pl_cells.specs.EnumPlaces.{EnumValue, ArePlaces};
 
     ghost Value = { EnumValue };
 

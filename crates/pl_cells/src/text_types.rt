@@ -9,8 +9,8 @@ ghost use Rattle.pl_frame.specs.declared.error.PolarsError.TheVariants as error;
 ghost use Rattle.pl_frame.specs.Columns.{text_cells};
 ghost use Rattle.pl_frame.specs.Frame.{Scalar, Letters};
 ghost use Rattle.pl_frame.specs.Types.{is_text};
-ghost use Rattle.pl_cells.specs.Buffers.{ListAnswers, missing_value, reading_with};
-ghost use Rattle.pl_cells.specs.Cells.{text_cell};
+ghost use Rattle.pl_cells.specs.Buffers.{ListAnswers, reading_with};
+ghost use Rattle.pl_cells.specs.Cells.{missing_value, text_cell};
 
 use crate::cell_fault::CellFault;
 use crate::utf8::CsvEncoding;

@@ -1,8 +1,8 @@
 //! Buffers of truth values and of numbers.
 ghost use Rattle.std.specs.Prelude.{◌≡◌, true, [], length, OnOk, OnErr, None};
 ghost use Rattle.pl_frame.specs.Types.{is_text};
-ghost use Rattle.pl_cells.specs.Buffers.{Answers, with_value, cut_to, missing_value, reading_of, column_of};
-ghost use Rattle.pl_cells.specs.Cells.{plain_cell, quoted_cell, softened, value_or_null, counted_text};
+ghost use Rattle.pl_cells.specs.Buffers.{Answers, with_value, cut_to, reading_of, column_of};
+ghost use Rattle.pl_cells.specs.Cells.{missing_value, plain_cell, quoted_cell, softened, value_or_null, counted_text};
 ghost use Rattle.pl_cells.specs.Integers.{without_blanks};
 
 use crate::cell_fault::CellFault;

@@ -52,7 +52,11 @@ pub enum Buffer {
 
 impl Buffer {
     // An empty buffer for a type that can be read.
-    pub fn new(alloc: Global, settings: ColumnSettings, dtype: &DataType) -> PolarsResult<Buffer>
+    pub(crate) fn new(
+        alloc: Global,
+        settings: ColumnSettings,
+        dtype: &DataType,
+    ) -> PolarsResult<Buffer>
         requires { is_readable dtype.now ≡ true }
         ensures empty { IfOk result (λ buffer. state_of buffer ≡ empty_buffer settings.quote_char settings.encoding (settings.name, dtype.now)) }
         ensures refused { IsOkUnless result error.OutOfMemory }

@@ -92,7 +92,7 @@ impl Model for EnumTexts {
 
 impl EnumTexts {
     /// No texts among these categories. Refuses only want of memory.
-    pub fn new(alloc: Global, categories: Categories) -> PolarsResult<Self>
+    pub(crate) fn new(alloc: Global, categories: Categories) -> PolarsResult<Self>
         requires { first_repeat categories ≡ None }
         ensures empty { IfOk result (λ texts. texts ≡ record { categories = categories; texts = [] }) }
         ensures refused { IsOkUnless result error.OutOfMemory }

@@ -72,7 +72,7 @@ pub trait TextType {
 
 // The bytes as text, where they are UTF-8.
 #[inline]
-pub fn as_text(bytes: &[u8]) -> Option<&str>
+pub(crate) fn as_text(bytes: &[u8]) -> Option<&str>
     ensures { MatchOption result (is_utf8 bytes.now ≡ false) (λ text. (is_utf8 bytes.now ≡ true) × (text.now ≡ bytes.now)) }
 {
     match simdutf8::basic::from_utf8(bytes) {

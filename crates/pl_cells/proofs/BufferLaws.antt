@@ -3,8 +3,8 @@ use Rattle.std.proofs.Common.{◌≡◌, ℕ, ◌==◌, Bool, true, false, not, 
 use Rattle.pl_frame.specs.declared.data_type.DataType.{DataType}
 use Rattle.pl_frame.specs.declared.data_type.DataType.TheVariants as dtype
 use Rattle.pl_frame.specs.Types.{is_text}
-use Rattle.pl_frame.specs.declared.error.FaultKind.{FaultKind}
-use Rattle.pl_frame.specs.declared.error.FaultKind.TheVariants as fault
+use Rattle.pl_cells.specs.Faults.{Fault}
+use Rattle.pl_cells.specs.Faults as fault
 use Rattle.pl_cells.specs.declared.cell_fault.CellFault.{CellFault}
 use Rattle.pl_cells.specs.declared.cell_fault.CellFault.TheVariants as cell_fault
 use Rattle.pl_cells.specs.Quoting.{is_well_quoted, inside, undouble}
@@ -16,9 +16,12 @@ use Rattle.pl_frame.specs.Columns.{text_cells}
 use Rattle.pl_frame.specs.Frame.{Scalar, Letters}
 use Rattle.pl_cells.specs.declared.utf8.CsvEncoding.{CsvEncoding}
 use Rattle.pl_cells.specs.declared.utf8.CsvEncoding.TheVariants as encodings
-use Rattle.pl_cells.specs.Buffers.{BufferValue, Answers, AddsValue, ListAnswers, IsCellFault, is_ignored, missing_value, reading_of, reading_with}
+use Rattle.pl_cells.specs.Buffers.{BufferValue, Answers, Adds, ListAnswers, IsCellFault, is_ignored, reading_of, reading_with}
 use Rattle.pl_cells.specs.NullTest.{nothing_is_null}
-use Rattle.pl_cells.specs.Cells.{Cell, Reading, plain_cell, quoted_cell, stripped_cell, is_missing, softened, value_or_null, counted_text, string_cell, text_cell, missing_cell}
+use Rattle.pl_cells.specs.Cells.{missing_value, Cell, Reading, plain_cell, quoted_cell, stripped_cell, is_missing, softened, value_or_null, counted_text, string_cell, text_cell}
+
+abbrev pub push_value : List (Option Scalar) → Option Scalar → List (Option Scalar)
+push_value values value = values ++ value ∷ []
 
 abbrev pub record_of : List ℕ → DataType → Option ℕ → CsvEncoding → List (Option Scalar) → BufferValue
 record_of name type quote encoding values = record { name = name; dtype = type; quote_char = quote; encoding = encoding; values = values }
@@ -104,7 +107,7 @@ string_valid encodings.Utf8 text e = rw e refl
 string_valid encodings.LossyUtf8 text e = ap (λ (t : List ℕ). Ok (Some (Letters t))) (utf8_lossy-IsUtf8 text (IsUtf8-from_is_utf8 text e))
 
 -- a list of texts with one more
-pub added_text : (old new : List (Option (List ℕ))) (text t : List ℕ) (c : Cell) → new ≡ old ++ Some t ∷ [] → t ≡ text → c ≡ Ok (Some (Letters text)) → AddsValue (text_cells old) (text_cells new) c
+pub added_text : (old new : List (Option (List ℕ))) (text t : List ℕ) (c : Cell) → new ≡ old ++ Some t ∷ [] → t ≡ text → c ≡ Ok (Some (Letters text)) → Adds push_value (text_cells old) (text_cells new) c
 added_text old new text t c pushed same is = record {
   value = Some (Letters text);
   is = is;
@@ -132,30 +135,6 @@ missing_null (dtype.Enum c) = refl
 missing_null (dtype.Datetime u) = refl
 missing_null (dtype.Decimal p s) = refl
 
-string_missing : (encoding : CsvEncoding) (ignore is_null : Bool) → missing_cell (reading_with encoding is_null ignore) dtype.String ≡ Ok (missing_value is_null dtype.String)
-string_missing encoding ignore true = refl
-string_missing encoding ignore false = refl
-
-pub missing_is : (reading : Reading) (type : DataType) → missing_cell reading type ≡ Ok (missing_value reading.missing_is_null type)
-missing_is reading dtype.Boolean = refl
-missing_is reading dtype.Int8 = refl
-missing_is reading dtype.Int16 = refl
-missing_is reading dtype.Int32 = refl
-missing_is reading dtype.Int64 = refl
-missing_is reading dtype.Int128 = refl
-missing_is reading dtype.UInt8 = refl
-missing_is reading dtype.UInt16 = refl
-missing_is reading dtype.UInt32 = refl
-missing_is reading dtype.UInt64 = refl
-missing_is reading dtype.String = string_missing reading.encoding reading.ignore_errors reading.missing_is_null
-missing_is reading dtype.Categorical = refl
-missing_is reading dtype.Date = refl
-missing_is reading dtype.Time = refl
-missing_is reading dtype.Null = refl
-missing_is reading (dtype.Enum c) = refl
-missing_is reading (dtype.Datetime u) = refl
-missing_is reading (dtype.Decimal p s) = refl
-
 -- what is not missing is read by its text
 pub plain_some : (reading : Reading) (type : DataType) (text : List ℕ) → (length text == 0) ≡ false → plain_cell reading type text ≡ text_cell reading type text
 plain_some reading type [] e = absurd (cc)
@@ -171,7 +150,7 @@ softened_ok : (ignore : Bool) (c : Cell) (value : Option Scalar) → c ≡ Ok va
 softened_ok true c value e = rw e refl
 softened_ok false c value e = rw e refl
 
-softened_fault : (ignore : Bool) (c : Cell) (kind : FaultKind) → c ≡ Err kind → softened ignore (Err kind) ≡ Err kind → softened ignore c ≡ Err kind
+softened_fault : (ignore : Bool) (c : Cell) (kind : Fault) → c ≡ Err kind → softened ignore (Err kind) ≡ Err kind → softened ignore c ≡ Err kind
 softened_fault ignore c kind e same = ap (softened ignore) e ∙ same
 
 pub fault_kept : (ignore : Bool) (wrong : CellFault) (c : Cell) → IsCellFault wrong c → is_ignored ignore wrong ≡ false → IsCellFault wrong (softened ignore c)
@@ -194,11 +173,11 @@ fault_ignored false cell_fault.Utf8 c e h = absurd (cc)
 fault_ignored false cell_fault.Value c e h = absurd (cc)
 fault_ignored false cell_fault.OutOfMemory c e h = absurd (cc)
 
-pub value_kept : (ignore : Bool) (old new : List (Option Scalar)) (c : Cell) → AddsValue old new c → AddsValue old new (softened ignore c)
+pub value_kept : (ignore : Bool) (old new : List (Option Scalar)) (c : Cell) → Adds push_value old new c → Adds push_value old new (softened ignore c)
 value_kept ignore old new c added = record { value = added.value; is = softened_ok ignore c added.value added.is; pushed = added.pushed }
 
 pub fault_null : (ignore : Bool) (wrong : CellFault) (type : DataType) (old now new : List (Option Scalar)) (c : Cell) → IsCellFault wrong c → is_ignored ignore wrong ≡ true → now ≡ old
-    → new ≡ now ++ missing_value true type ∷ [] → AddsValue old new (softened ignore c)
+    → new ≡ now ++ missing_value true type ∷ [] → Adds push_value old new (softened ignore c)
 fault_null ignore wrong type old now new c e h same pushed = record {
   value = None;
   is = fault_ignored ignore wrong c e h;

@@ -5,19 +5,20 @@ use Rattle.std.specs.Str.Lossy.{utf8_lossy}
 use Rattle.pl_frame.specs.declared.data_type.DataType.{DataType}
 use Rattle.pl_frame.specs.declared.data_type.DataType.TheVariants as dtype
 use Rattle.pl_frame.specs.declared.error.FaultKind.{FaultKind}
-use Rattle.pl_frame.specs.declared.error.FaultKind.TheVariants as fault
 use Rattle.pl_frame.specs.Frame.{Scalar, Letters}
 use Rattle.pl_frame.specs.Types.{is_text, is_whole_number}
 use Rattle.pl_cells.specs.declared.utf8.CsvEncoding.{CsvEncoding}
 use Rattle.pl_cells.specs.declared.utf8.CsvEncoding.TheVariants as encoding
+use Rattle.pl_cells.specs.Faults as fault
+use Rattle.pl_cells.specs.Faults.{Fault, kind_of}
 use Rattle.pl_cells.specs.Integers.{without_blanks}
 use Rattle.pl_cells.specs.NullTest.{NullTest, null_test}
 use Rattle.pl_cells.specs.Quoting.{strip, quote_of, is_well_quoted, inside, undouble}
-use Rattle.pl_cells.specs.Values.{is_among, value_of_text}
+use Rattle.pl_cells.specs.Values.{value_of_text}
 
 -- a value or a null, or what is wrong
 abbrev pub Cell : Type 0
-Cell = Result (Option Scalar) FaultKind
+Cell = Result (Option Scalar) Fault
 
 -- how cells are read: what is done with bytes that are not UTF-8, whether a missing text is null, and whether a cell without a value is
 pub record Reading : Type 0 where
@@ -32,18 +33,13 @@ abbrev pub string_cell : CsvEncoding → List ℕ → Cell
 string_cell encoding.Utf8 text = if is_utf8 text then Ok (Some (Letters text)) else Err fault.Utf8
 string_cell encoding.LossyUtf8 text = Ok (Some (Letters (utf8_lossy text)))
 
--- a category is UTF-8
-abbrev pub category_cell : List ℕ → Cell
-category_cell text = if is_utf8 text then Ok (Some (Letters text)) else Err fault.Utf8
-
--- and in an enum it is one of those that are given
-abbrev pub enum_cell : List (List ℕ) → List ℕ → Cell
-enum_cell categories text =
-    if is_utf8 text then (if is_among categories text then Ok (Some (Letters text)) else Err fault.Value) else Err fault.Utf8
-
 -- a text that has a value
 abbrev pub value_cell : DataType → List ℕ → Cell
 value_cell type text = elim (value_of_text type text) [ None ↦ Err fault.Value | Some value ↦ Ok (Some value) ]
+
+-- a category is UTF-8, and has a value
+abbrev pub category_cell : DataType → List ℕ → Cell
+category_cell type text = if is_utf8 text then value_cell type text else Err fault.Utf8
 
 -- no text is null
 abbrev pub value_or_null : DataType → List ℕ → Cell
@@ -57,20 +53,20 @@ counted_text type text = if is_whole_number type then without_blanks text else t
 -- the cell of a text, by its type
 abbrev pub text_cell : Reading → DataType → List ℕ → Cell
 text_cell reading dtype.String text = string_cell reading.encoding text
-text_cell reading dtype.Categorical text = category_cell text
-text_cell reading (dtype.Enum (Some categories)) text = enum_cell categories text
+text_cell reading dtype.Categorical text = category_cell dtype.Categorical text
+text_cell reading (dtype.Enum (Some categories)) text = category_cell (dtype.Enum (Some categories)) text
 text_cell reading type text = value_or_null type (counted_text type text)
 
 -- ---- the cell of a field
 
--- a missing text is null, or the empty text where the column holds strings and missing ones are not null
-abbrev pub missing_cell : Reading → DataType → Cell
-missing_cell reading dtype.String = if reading.missing_is_null then Ok None else Ok (Some (Letters []))
-missing_cell reading type = Ok None
+-- the value of a missing text: none, or the empty text where the column holds strings and missing ones are not null
+abbrev pub missing_value : Bool → DataType → Option Scalar
+missing_value is_null dtype.String = if is_null then None else Some (Letters [])
+missing_value is_null type = None
 
 -- a plain field
 abbrev pub plain_cell : Reading → DataType → List ℕ → Cell
-plain_cell reading type [] = missing_cell reading type
+plain_cell reading type [] = Ok (missing_value reading.missing_is_null type)
 plain_cell reading type (x ∷ xs) = text_cell reading type (x ∷ xs)
 
 -- what stands between quotes: texts have their doubled quotes undoubled, and the empty one is not missing
@@ -112,8 +108,9 @@ cell reading is_null quote type field = stripped_cell reading is_null (quote_of 
 -- the value of a cell without a fault
 abbrev pub value_of : Cell → Option Scalar
 value_of (Ok value) = value
-value_of (Err kind) = None
+value_of (Err wrong) = None
 
+-- the kind of fault that a cell has
 abbrev pub fault_of : Cell → Option FaultKind
 fault_of (Ok value) = None
-fault_of (Err kind) = Some kind
+fault_of (Err wrong) = Some (kind_of wrong)

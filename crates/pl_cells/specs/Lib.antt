@@ -4,7 +4,10 @@ pub mod Buffers
 pub mod Casts
 pub mod Cells
 pub mod Dates
+pub mod DecimalParts
 pub mod Decimals
+pub mod EnumPlaces
+pub mod Faults
 pub mod Integers
 pub mod NullTest
 pub mod NullValues

@@ -3,9 +3,9 @@ ghost use Rattle.std.specs.Prelude.{◌≡◌, Bool, [], true, not, if◌then◌
 ghost use Rattle.std.specs.Option.{option_copied};
 ghost use Rattle.pl_frame.specs.declared.error.PolarsError.TheVariants as error;
 ghost use Rattle.pl_frame.specs.Types.{is_readable, is_readable_decimal};
-ghost use Rattle.pl_cells.specs.Buffers.{Answers, with_value, cut_to, missing_value, reading_of, column_of};
+ghost use Rattle.pl_cells.specs.Buffers.{Answers, with_value, cut_to, reading_of, column_of};
 ghost use Rattle.pl_cells.specs.BufferState.{state_of, empty_buffer};
-ghost use Rattle.pl_cells.specs.Cells.{cell, stripped_cell, plain_cell, quoted_cell, softened};
+ghost use Rattle.pl_cells.specs.Cells.{missing_value, cell, stripped_cell, plain_cell, quoted_cell, softened};
 ghost use Rattle.pl_cells.specs.NullTest.{nothing_is_null};
 ghost use Rattle.pl_cells.specs.NullValues.{HaveTexts, means_null};
 
@@ -52,7 +52,11 @@ pub enum Buffer {
 
 impl Buffer {
     // An empty buffer for a type that can be read.
-    pub fn new(alloc: Global, settings: ColumnSettings, dtype: &DataType) -> PolarsResult<Buffer>
+    pub(crate) fn new(
+        alloc: Global,
+        settings: ColumnSettings,
+        dtype: &DataType,
+    ) -> PolarsResult<Buffer>
         requires { is_readable dtype.now ≡ true }
         ensures empty { IfOk result (λ buffer. state_of buffer ≡ empty_buffer settings.quote_char settings.encoding (settings.name, dtype.now)) }
         ensures refused { IsOkUnless result error.OutOfMemory }

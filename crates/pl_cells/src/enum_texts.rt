@@ -81,7 +81,7 @@ pub struct EnumTexts {
 
 impl Model for EnumTexts {
     ghost use Rattle.pl_frame.specs.Categories.{decoded};
-    ghost use Rattle.pl_cells.specs.Buffers.{EnumValue, ArePlaces};
+    ghost use Rattle.pl_cells.specs.EnumPlaces.{EnumValue, ArePlaces};
 
     ghost Value = { EnumValue };
 
@@ -92,7 +92,7 @@ impl Model for EnumTexts {
 
 impl EnumTexts {
     /// No texts among these categories. Refuses only want of memory.
-    pub fn new(alloc: Global, categories: Categories) -> PolarsResult<Self>
+    pub(crate) fn new(alloc: Global, categories: Categories) -> PolarsResult<Self>
         requires { first_repeat categories ≡ None }
         ensures empty { IfOk result (λ texts. texts ≡ record { categories = categories; texts = [] }) }
         ensures refused { IsOkUnless result error.OutOfMemory }

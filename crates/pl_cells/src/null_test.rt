@@ -55,7 +55,7 @@ fn is_missing(text: &[u8], quote: Option<u8>) -> bool
 
 /// Whether a field without its carriage return means null and is not missing, given the quote that it begins with.
 #[inline]
-pub fn is_null_cell(
+pub(crate) fn is_null_cell(
     null_values: Option<&NullValuesCompiled>,
     text: &[u8],
     column: usize,

@@ -390,6 +390,22 @@ mod tests {
     }
 
     #[test]
+    fn null_values_are_compared_and_given_back(rt: HostRuntime) -> Result<(), Fail> {
+        let alloc = rt.alloc();
+        let values = named(alloc, "a")?;
+        let copy = values.try_clone()?;
+        assert!(rt; copy == values);
+        assert!(rt; copy != named(alloc, "b")?);
+        match copy {
+            NullValues::Named(texts) => assert_eq!(rt; texts.into_entries().len(), 2),
+            _ => panic!(rt; "names with texts"),
+        }
+        let texts = vec![in alloc; PlSmallStr::from_str(alloc, "NA")?]?;
+        assert_eq!(rt; NullTexts::new(texts).into_texts().len(), 1);
+        Ok(())
+    }
+
+    #[test]
     fn unknown_name_is_refused(rt: HostRuntime) -> Result<(), Fail> {
         let alloc = rt.alloc();
         let schema = two_columns(alloc)?;

@@ -9,8 +9,8 @@ ghost use Rattle.pl_frame.specs.declared.error.PolarsError.TheVariants as error;
 ghost use Rattle.pl_frame.specs.Columns.{text_cells};
 ghost use Rattle.pl_frame.specs.Frame.{Scalar, Letters};
 ghost use Rattle.pl_frame.specs.Types.{is_text};
-ghost use Rattle.pl_cells.specs.Buffers.{ListAnswers, missing_value, reading_with};
-ghost use Rattle.pl_cells.specs.Cells.{text_cell};
+ghost use Rattle.pl_cells.specs.Buffers.{ListAnswers, reading_with};
+ghost use Rattle.pl_cells.specs.Cells.{missing_value, text_cell};
 
 use crate::cell_fault::CellFault;
 use crate::utf8::CsvEncoding;
@@ -72,7 +72,7 @@ pub trait TextType {
 
 // The bytes as text, where they are UTF-8.
 #[inline]
-pub fn as_text(bytes: &[u8]) -> Option<&str>
+pub(crate) fn as_text(bytes: &[u8]) -> Option<&str>
     ensures { MatchOption result (is_utf8 bytes.now ≡ false) (λ text. (is_utf8 bytes.now ≡ true) × (text.now ≡ bytes.now)) }
 {
     match simdutf8::basic::from_utf8(bytes) {

@@ -1,5 +1,5 @@
 use Rattle.std.proofs.Common.{ap}
-use Rattle.pl_cells.specs.Buffers.{EnumValue}
+use Rattle.pl_cells.specs.EnumPlaces.{EnumValue}
 use Rattle.pl_cells.proofs.CutLaws.{cells_cut}
 use Rattle.pl_cells.proofs.enum_texts.EnumTextsTextType.cut_back.Goals as goal
 

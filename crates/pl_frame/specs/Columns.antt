@@ -22,18 +22,21 @@ scalar_of (value.Boolean b) = Some (Truth b)
 scalar_of (value.Whole n) = Some (Number n)
 scalar_of (value.Text text) = Some (Letters text.now)
 
--- the cells of a column of truth values, of one of numbers, and of one of texts
+-- the cells of a column of truth values
 abbrev pub truth_cells : List (Option Bool) → List (Option Scalar)
 truth_cells truths = map (option_map Truth) truths
 
+-- the cells of a column of numbers
 abbrev pub number_cells : List (Option ℤ) → List (Option Scalar)
 number_cells numbers = map (option_map Number) numbers
 
+-- the cells of a column of texts
 abbrev pub text_cells : List (Option (List ℕ)) → List (Option Scalar)
 text_cells texts = map (option_map Letters) texts
 
 -- ---- which values a type holds
 
+-- truth values
 abbrev pub is_boolean : DataType → Bool
 is_boolean dtype.Boolean = true
 is_boolean _ = false

@@ -8,6 +8,7 @@ pub record Marks : Type 0 where
   pub quote : Option ℕ
   pub line_end : ℕ
 
+-- the marks of these three
 abbrev pub marks : ℕ → Option ℕ → ℕ → Marks
 marks separator quote line_end = record { separator = separator; quote = quote; line_end = line_end }
 

@@ -24,6 +24,7 @@ pub record WriteOptions : Type 0 where
 abbrev pub doubled : ℕ → List ℕ → List ℕ
 doubled q text = flat_map (λ x. if x == q then q ∷ q ∷ [] else x ∷ []) text
 
+-- a text between quotes, with each quote in it doubled
 abbrev pub quoted : ℕ → List ℕ → List ℕ
 quoted q text = q ∷ (doubled q text ++ q ∷ [])
 
@@ -69,9 +70,11 @@ written_cell o type (Some value) = written_value o (is_numeric type) (printed ty
 abbrev pub line : WriteOptions → List (List ℕ) → List ℕ
 line o texts = join_with_byte o.separator texts ++ o.terminator
 
+-- the line of the names
 abbrev pub header_line : WriteOptions → List (List ℕ) → List ℕ
 header_line o names = line o (map (written_text o) names)
 
+-- the line of a row
 abbrev pub row_line : WriteOptions → List ColumnValue → ℕ → List ℕ
 row_line o columns row = line o (map (λ column. written_cell o column.dtype (cell_at column row)) columns)
 
@@ -79,6 +82,7 @@ row_line o columns row = line o (map (λ column. written_cell o column.dtype (ce
 abbrev pub row_lines : WriteOptions → List ColumnValue → ℕ → ℕ → List ℕ
 row_lines o columns from count = flat_map (row_line o columns) (range_with_len from count)
 
+-- EF BB BF
 abbrev pub byte_order_mark : List ℕ
 byte_order_mark = 239 ∷ 187 ∷ 191 ∷ []
 

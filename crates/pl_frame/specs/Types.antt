@@ -64,13 +64,15 @@ pub record Range : Type 0 where
   pub low : ℤ
   pub high : ℤ
 
+-- the numbers from one to another, both included
 abbrev pub from_to : ℤ → ℤ → Range
 from_to low high = record { low = low; high = high }
 
--- the numbers of so many bits with a sign, and without one
+-- the numbers of so many bits with a sign
 abbrev pub signed_range : ℕ → Range
 signed_range bits = from_to (neg_ℤ (pos (2 ^ (bits - 1)))) (pos (2 ^ (bits - 1) - 1))
 
+-- the numbers of so many bits without a sign
 abbrev pub unsigned_range : ℕ → Range
 unsigned_range bits = from_to (pos 0) (pos (2 ^ bits - 1))
 

@@ -17,8 +17,6 @@ use std::marker::Model;
 pub struct Cells<'a> {
     column: &'a Column,
     next: usize,
-    // A buffer for one cell: made at the first, and used again.
-    scratch: Option<Vec<u8>>,
 }
 
 impl<'a> Model for Cells<'a> {
@@ -36,11 +34,7 @@ impl<'a> Cells<'a> {
     pub(crate) fn new(column: &'a Column) -> Cells<'a>
         ensures { result ≡ record { dtype = column.now.dtype; cells = column.now.values } }
     {
-        Cells {
-            column,
-            next: 0,
-            scratch: None,
-        }
+        Cells { column, next: 0 }
     }
 
     /// How many cells are left, without taking memory.
@@ -66,20 +60,15 @@ impl<'a> Cells<'a> {
     {
         // `len` is called for its clause: a row is no more than the number of rows.
         let _len = self.column.len();
-        let mut scratch = match self.scratch.take() {
-            Some(scratch) => scratch,
-            None => Vec::new(*buf.allocator()),
-        };
-        let pushed = push_cell(
+        let mut scratch = Vec::new(*buf.allocator());
+        push_cell(
             buf,
             &mut scratch,
             self.column,
             Way::ByCell,
             self.next,
             options,
-        );
-        self.scratch = Some(scratch);
-        pushed?;
+        )?;
         self.next += 1;
         Ok(())
     }

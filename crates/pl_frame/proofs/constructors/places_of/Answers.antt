@@ -1,7 +1,7 @@
 use Rattle.std.proofs.Common.{◌∙◌, Some, IfErr, subst}
 use Rattle.pl_frame.specs.declared.data_type.DataType.TheVariants as dtype
 use Rattle.pl_frame.specs.Columns.{text_cells, first_misfit, IsFirstFault}
-use Rattle.pl_frame.proofs.made.places_of.Goals as goal
+use Rattle.pl_frame.proofs.constructors.places_of.Goals as goal
 
 pub returns-clause-refused : goal.returns-clause-refused
 returns-clause-refused c =

@@ -44,9 +44,7 @@ impl Column {
         ensures in_range { OnOk result (first_misfit dtype (number_cells values.items) ≡ None) }
         ensures refused { IfErr result (IsFirstFault (first_misfit dtype (number_cells values.items))) }
     {
-        let Some(range) = dtype.range() else {
-            return Err(ColumnFault::OutOfMemory);
-        };
+        let range = dtype.number_range();
         if let Some(row) = range.first_outside(&values) {
             return Err(ColumnFault::OutOfRange { row });
         }

@@ -4,7 +4,7 @@ use Rattle.pl_frame.specs.declared.data_type.DataType.TheVariants as dtype
 use Rattle.pl_frame.specs.Categories.{AreCodes, decoded}
 use Rattle.pl_frame.specs.Columns.{misfits}
 use Rattle.pl_frame.specs.Frame.{Letters}
-use Rattle.pl_frame.proofs.made.collect_places.Given as goal
+use Rattle.pl_frame.proofs.constructors.collect_places.Given as goal
 
 abbrev pub invariant-loop-row : goal.invariant-loop-row
 invariant-loop-row l = record {

@@ -6,7 +6,7 @@ use Rattle.pl_frame.specs.Columns.{misfits}
 use Rattle.pl_frame.specs.Frame.{Letters}
 use Rattle.pl_frame.proofs.CellLaws.{all_hold, first_of}
 use Rattle.pl_frame.proofs.ColumnLaws.{position-found, true_from_not}
-use Rattle.pl_frame.proofs.made.collect_places.Goals as goal
+use Rattle.pl_frame.proofs.constructors.collect_places.Goals as goal
 
 pub returns-then-not-branch-clause-refused : goal.returns-then-not-branch-clause-refused
 returns-then-not-branch-clause-refused c =

@@ -1,7 +1,7 @@
 use Rattle.std.proofs.Common.{sym, ◌∙◌}
 use Rattle.pl_frame.proofs.CategoryLaws.{decoded-value, codes-value}
 use Rattle.pl_frame.proofs.CellLaws.{category_holds, category_misfits}
-use Rattle.pl_frame.proofs.made.push_place.Goals as goal
+use Rattle.pl_frame.proofs.constructors.push_place.Goals as goal
 
 pub returns-in-None-find-clause-tested : goal.returns-in-None-find-clause-tested
 returns-in-None-find-clause-tested c =

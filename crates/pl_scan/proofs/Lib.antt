@@ -5,4 +5,4 @@ pub mod RecordLaws
 pub mod StartLaws
 pub mod LineLaws
 pub mod LineEndLaws
-pub mod PlaceLaws
+pub mod RowStateLaws

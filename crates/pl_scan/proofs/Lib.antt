@@ -6,4 +6,4 @@ pub mod CloseLaws
 pub mod StartLaws
 pub mod LineLaws
 pub mod LineEndLaws
-pub mod PlaceLaws
+pub mod RowStateLaws

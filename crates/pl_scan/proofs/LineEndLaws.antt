@@ -2,14 +2,14 @@
 use Rattle.std.proofs.Common.{◌≡◌, ℕ, zero, suc, ◌+◌, ◌*◌, ◌<◌, ◌≤◌, Bool, true, false, cond, not, ◌&&◌, ◌==◌, List, [], ◌∷◌, ◌++◌, length, take, get_or, refl, sym, ◌∙◌, ap, zero-add, add-zero, add-one, ◌%◌, arith, append-nil}
 use Rattle.std.specs.Prelude.{Option, None, Some, unwrap_or, find, filter, count_by}
 use Rattle.std.specs.List.{range_with_len, last_or}
-use Rattle.std.proofs.lemmas.List.{map-id, length_push, take_more, take_all}
+use Rattle.std.proofs.lemmas.List.{map-id, length_push, take_more, take_all, drop_more}
 use Rattle.std.proofs.lemmas.List.Sums.{sum_by-cons, sum_by_push}
 use Rattle.std.proofs.lemmas.List.Elements.{filter-append}
 use Rattle.std.proofs.lemmas.List.FromFn.{map-range_with_len_more}
 use Rattle.std.proofs.lemmas.Bool.Decides.{nat_tests}
 use Rattle.pl_frame.specs.Dialect.{marks}
 use Rattle.pl_scan.specs.Fields.{is_quote, quotes}
-use Rattle.pl_scan.specs.LineEnds.{is_even_end, even_ends, doublings, is_enough, cut_size}
+use Rattle.pl_scan.specs.LineEnds.{begins_end, is_even_end, even_ends, doublings, is_enough, cut_size}
 use Rattle.pl_scan.proofs.Walk.{is_even, is_even-mark, quotes-push}
 
 -- the places below n
@@ -40,7 +40,7 @@ pub record HasCounted (quote : Option ℕ) (e : ℕ) (b : List ℕ) (n : ℕ) (e
 pub HasCounted-yes : (quote : Option ℕ) (e : ℕ) (b : List ℕ) (n : ℕ) (even : Bool) (count last : ℕ) → HasCounted quote e b n even count last → n < length b
     → is_quote quote (get_or b n 0) ≡ false → get_or b n 0 == e ≡ true → even ≡ true → HasCounted quote e b (n + 1) even (count + 1) n
 HasCounted-yes quote e b n even count last done inside no_quote is_end at_even =
-    let yes : is_even_end quote e b n ≡ true = rw (is_end, no_quote, ← done.parity) at_even in
+    let yes : is_even_end quote e b n ≡ true = rw (drop_more b n 0 inside, is_end, no_quote, ← done.parity) at_even in
     let more : even_ends_below quote e b (n + 1) ≡ even_ends_below quote e b n ++ n ∷ [] = even_ends_below-more quote e b n ∙ rw yes refl in
     record {
       parity = rw (take_more b n 0 inside, quotes-push (marks 0 quote 0), is_even-mark, no_quote) done.parity;
@@ -54,7 +54,7 @@ pub HasCounted-no : (quote : Option ℕ) (e : ℕ) (b : List ℕ) (n : ℕ) (eve
     → HasCounted quote e b (n + 1) even' count last
 HasCounted-no quote e b n even even' count last done inside next other =
     let here : (get_or b n 0 == e && not (is_quote quote (get_or b n 0)) && even) ≡ false = not_here (get_or b n 0 == e) (is_quote quote (get_or b n 0)) even other in
-    let same : is_even_end quote e b n ≡ false = rw (← done.parity) here in
+    let same : is_even_end quote e b n ≡ false = rw (drop_more b n 0 inside, ← done.parity) here in
     let more : even_ends_below quote e b (n + 1) ≡ even_ends_below quote e b n = even_ends_below-more quote e b n ∙ rw same (append-nil (even_ends_below quote e b n)) in
     record {
       parity = next ∙ rw (take_more b n 0 inside, quotes-push (marks 0 quote 0), is_even-mark, ← done.parity) refl;
@@ -127,8 +127,8 @@ quotes-none [] = refl
 quotes-none (x ∷ xs) = sum_by-cons (λ y. cond (is_quote None y) 1 0) x xs ∙ zero-add (count_by (is_quote None) xs) ∙ quotes-none xs
 
 -- the test of a place without a quote
-is_even_end-none : (e : ℕ) (b : List ℕ) (n : ℕ) → is_even_end None e b n ≡ (get_or b n 0 == e)
-is_even_end-none e b n = ap (λ k. get_or b n 0 == e && true && k % 2 == 0) (quotes-none (take n b)) ∙ and-true (get_or b n 0 == e)
+is_even_end-none : (e : ℕ) (b : List ℕ) (n : ℕ) → n < length b → is_even_end None e b n ≡ (get_or b n 0 == e)
+is_even_end-none e b n inside = ap (λ (l : List ℕ). begins_end None e l && count_by (is_quote None) (take n b) % 2 == 0) (drop_more b n 0 inside) ∙ ap (λ k. get_or b n 0 == e && true && k % 2 == 0) (quotes-none (take n b)) ∙ and-true (get_or b n 0 == e)
   where
     and-true : (t : Bool) → (t && true && true) ≡ t
     and-true true = refl
@@ -144,7 +144,7 @@ unquoted-below e b (suc n) inside =
     let one : suc n ≡ n + 1 = sym (add-one n) in
     let t = get_or b n 0 == e in
     ap (λ k. length (even_ends_below None e b k)) one
-    ∙ ap length (even_ends_below-more None e b n ∙ ap (λ (t : Bool). even_ends_below None e b n ++ cond t (n ∷ []) []) (is_even_end-none e b n))
+    ∙ ap length (even_ends_below-more None e b n ∙ ap (λ (t : Bool). even_ends_below None e b n ++ cond t (n ∷ []) []) (is_even_end-none e b n (omega arith)))
     ∙ length-if t (even_ends_below None e b n) n
     ∙ ap (λ k. k + cond t 1 0) (unquoted-below e b n (omega arith))
     ∙ sym (sum_by_push (λ x. cond (x == e) 1 0) (take n b) (get_or b n 0))

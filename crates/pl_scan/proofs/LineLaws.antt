@@ -6,7 +6,8 @@ use Rattle.std.proofs.lemmas.List.Sums.{sum_by-cons}
 use Rattle.std.proofs.lemmas.Bool.Decides.{nat_tests}
 use Rattle.pl_scan.specs.Comment.{is_comment}
 use Rattle.pl_scan.specs.Fields.{is_quote, splits}
-use Rattle.pl_scan.specs.Lines.{begins_end, ends_line, line, lines, lines_within}
+use Rattle.pl_scan.specs.LineEnds.{begins_end, is_even_cut}
+use Rattle.pl_scan.specs.Lines.{line, lines, lines_within}
 use Rattle.pl_scan.proofs.Walk.{is_even, onto, find-same, unwrap_or-find-map}
 
 -- the number of bytes up to a line end behind an even number of quotes, where `even` tells of those that came before
@@ -76,7 +77,7 @@ shortest-is quote e even (x ∷ xs) =
     ∙ take-if here (len_from quote e next xs) x xs
 
 -- a line that is no comment
-pub line-len : (quote : Option ℕ) (e : ℕ) (b : List ℕ) → (unwrap_or (find (ends_line quote e) (splits b)) (b, [])).0 ≡ take (len_from quote e true b) b
+pub line-len : (quote : Option ℕ) (e : ℕ) (b : List ℕ) → (unwrap_or (find (is_even_cut quote e) (splits b)) (b, [])).0 ≡ take (len_from quote e true b) b
 line-len quote e b = shortest-is quote e true b
 
 -- one turn of a loop

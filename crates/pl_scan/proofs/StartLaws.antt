@@ -9,7 +9,7 @@ use Rattle.pl_frame.specs.Dialect.{Marks}
 use Rattle.pl_frame.specs.Text.{byte_order_mark}
 use Rattle.pl_scan.specs.Comment.{is_comment}
 use Rattle.pl_scan.specs.Items.{ItemText, text_of, item, items}
-use Rattle.pl_scan.specs.Start.{no_skips, unless_empty, skip_line, skip_lines, cut_ends, behind_item, pass_items, pass_comments, pass_comments_within, pass_one, pass_header, cut_mark, cut_head, Skips, data_left, start}
+use Rattle.pl_scan.specs.Start.{unless_empty, skip_line, skip_lines, cut_ends, behind_item, pass_items, pass_comments, pass_comments_within, pass_one, pass_header, cut_mark, cut_head, Skips, data_left, start}
 use Rattle.pl_scan.proofs.ItemLaws.{items-nil, items-step}
 
 unless_empty-some : (b l : List ℕ) → 0 < length l → unless_empty b l ≡ l
@@ -84,19 +84,6 @@ cut_ends-stop e x b is = rw is refl
 pub behind_item-is : (m : Marks) (comment : Option (List ℕ)) (b : List ℕ) (first : ItemText) (n : ℕ) (rest : List ℕ) → first ≡ item m comment b → n ≡ length (text_of first) → rest ≡ drop (n + 1) b
     → rest ≡ behind_item m comment b
 behind_item-is m comment b first n rest is len left = left ∙ ap (λ k. drop (k + 1) b) (len ∙ ap (λ (f : ItemText). length (text_of f)) is)
-
--- ---- where nothing is skipped
-
--- where nothing is skipped but the header and there are no comments
-pub data_left-no_skips : (has_header keep : Bool) (m : Marks) (b : List ℕ)
-    → data_left (no_skips has_header) keep m None b ≡ Some (pass_header has_header m None (cut_head 0 keep m.line_end b))
-unfolding data_left
-data_left-no_skips has_header keep m b = ap (λ (body : List ℕ). Some (pass_header has_header m None body)) (pass_comments-end m None (cut_head 0 keep m.line_end b) refl)
-
--- the items behind the next one
-pub items-pass_one : (m : Marks) (comment : Option (List ℕ)) (b : List ℕ) → items m comment (pass_one m comment b) ≡ drop 1 (items m comment b)
-items-pass_one m comment [] = items-nil m comment ∙ ap (drop 1) (sym (items-nil m comment))
-items-pass_one m comment (x ∷ xs) = ap (drop 1) (sym (items-step m comment (x ∷ xs) (omega arith)))
 
 some-same : (b r : List ℕ) → ◌≡◌ {A = Option (List ℕ)} (Some b) (Some r) → b ≡ r
 some-same b r is = cc

@@ -7,4 +7,4 @@ pub mod Start
 pub mod Lines
 pub mod LineEnds
 pub mod RowCount
-pub mod RowPlaces
+pub mod RowStates

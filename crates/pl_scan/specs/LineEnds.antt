@@ -1,5 +1,5 @@
 -- Line ends behind an even number of quotes, and how much of a text is searched for one (docs/grammar.md, "Line ends at even parity").
-use Rattle.std.specs.Prelude.{ℕ, zero, suc, ◌+◌, ◌*◌, ◌%◌, Bool, not, ◌&&◌, ◌||◌, ◌==◌, nat_le, nat_lt, List, [], ◌∷◌, length, take, Option, unwrap_or, filter, find, count_by, slice_index}
+use Rattle.std.specs.Prelude.{ℕ, zero, suc, ◌+◌, ◌*◌, ◌%◌, Bool, false, not, ◌&&◌, ◌||◌, ◌==◌, nat_le, nat_lt, List, [], ◌∷◌, length, take, drop, Option, unwrap_or, filter, find, count_by}
 use Rattle.std.specs.List.{range_with_len}
 use Rattle.pl_scan.specs.Fields.{is_quote}
 
@@ -8,10 +8,18 @@ pub record LineMarks : Type 0 where
   pub quote : Option ℕ
   pub line_end : ℕ
 
--- the place holds a line end and no quote, and has an even number of quotes before it
+-- the list begins with a line end that is no quote
+abbrev pub begins_end : Option ℕ → ℕ → List ℕ → Bool
+begins_end quote e [] = false
+begins_end quote e (x ∷ xs) = x == e && not (is_quote quote x)
+
+-- a prefix with an even number of quotes, followed by a line end that is no quote
+abbrev pub is_even_cut : Option ℕ → ℕ → List ℕ × List ℕ → Bool
+is_even_cut quote e cut = begins_end quote e cut.1 && count_by (is_quote quote) cut.0 % 2 == 0
+
+-- the list is cut so before this place
 abbrev pub is_even_end : Option ℕ → ℕ → List ℕ → ℕ → Bool
-is_even_end quote e b k =
-    slice_index b k == e && not (is_quote quote (slice_index b k)) && count_by (is_quote quote) (take k b) % 2 == 0
+is_even_end quote e b k = is_even_cut quote e (take k b, drop k b)
 
 -- the places of such line ends
 unfoldable pub even_ends : Option ℕ → ℕ → List ℕ → List ℕ

@@ -1,23 +1,16 @@
 -- Lines, cut by quote parity alone (docs/grammar.md, "Lines").
 use Rattle.std.specs.Borrow.{Bor}
-use Rattle.std.specs.Prelude.{ℕ, zero, suc, ◌+◌, ◌%◌, Bool, false, not, ◌&&◌, ◌==◌, if◌then◌else◌, List, [], ◌∷◌, length, drop, Option, unwrap_or, find, count_by, take_while}
+use Rattle.std.specs.Prelude.{ℕ, zero, suc, ◌+◌, not, ◌==◌, if◌then◌else◌, List, [], ◌∷◌, length, drop, Option, unwrap_or, find, take_while}
 use Rattle.pl_scan.specs.Comment.{is_comment}
-use Rattle.pl_scan.specs.Fields.{is_quote, splits}
+use Rattle.pl_scan.specs.Fields.{splits}
+use Rattle.pl_scan.specs.LineEnds.{is_even_cut}
 
--- the list begins with a line end that is no quote
-abbrev pub begins_end : Option ℕ → ℕ → List ℕ → Bool
-begins_end quote e [] = false
-begins_end quote e (x ∷ xs) = x == e && not (is_quote quote x)
-
--- a prefix with an even number of quotes, followed by a line end that is no quote
-abbrev pub ends_line : Option ℕ → ℕ → List ℕ × List ℕ → Bool
-ends_line quote e cut = begins_end quote e cut.1 && count_by (is_quote quote) cut.0 % 2 == 0
-
--- the first line: a comment up to the first line end, or the shortest prefix that ends so, or all
+-- the first line: a comment up to the first line end, or the shortest prefix with an even number of quotes that a line end
+-- follows, or all
 abbrev pub line : Option ℕ → ℕ → Option (List ℕ) → List ℕ → List ℕ
 line quote e comment b =
     if is_comment comment b then take_while (λ x. not (x == e)) b
-    else (unwrap_or (find (ends_line quote e) (splits b)) (b, [])).0
+    else (unwrap_or (find (is_even_cut quote e) (splits b)) (b, [])).0
 
 -- the lines, as long as n lasts
 abbrev pub lines_within : Option ℕ → ℕ → Option (List ℕ) → ℕ → List ℕ → List (List ℕ)

@@ -26,10 +26,6 @@ SkipsTwice o = (0 < o.lines) × (0 < o.rows)
 abbrev pub CanStart : Skips → Marks → Option (List ℕ) → Type 0
 CanStart o m comment = IsDialect m comment × (¬ SkipsTwice o)
 
--- nothing is skipped but the header, if there is one
-abbrev pub no_skips : Bool → Skips
-no_skips has_header = skips 0 0 has_header 0
-
 -- all of b, where nothing is left behind
 abbrev pub unless_empty : List ℕ → List ℕ → List ℕ
 unless_empty b [] = b

@@ -11,7 +11,7 @@ use pl_frame::name::PlSmallStr;
 use std::alloc::Global;
 
 /// What a comment begins with.
-#[derive(Debug, Drop)]
+#[derive(Debug, Drop, PartialEq, Eq)]
 pub enum CommentPrefix {
     /// This byte.
     Single(u8),
@@ -50,6 +50,17 @@ impl CommentPrefix {
             [byte] if byte.is_ascii() => Ok(CommentPrefix::Single(*byte)),
             _ => Ok(CommentPrefix::Multi(PlSmallStr::from_str(alloc, prefix)?)),
         }
+    }
+
+    /// An equal prefix. Refuses only want of memory.
+    pub fn try_clone(&self) -> PolarsResult<CommentPrefix>
+        ensures equal { IfOk result (λ prefix. prefix ≡ self.now) }
+        ensures refused { IsOkUnless result error.OutOfMemory }
+    {
+        Ok(match self {
+            CommentPrefix::Single(byte) => CommentPrefix::Single(*byte),
+            CommentPrefix::Multi(text) => CommentPrefix::Multi(text.try_clone()?),
+        })
     }
 
     /// Whether the line begins with the prefix.
@@ -97,6 +108,8 @@ mod tests {
         assert!(rt; matches!(&single, CommentPrefix::Single(35)));
         let multi = CommentPrefix::new_from_str(rt.alloc(), "//")?;
         assert!(rt; matches!(&multi, CommentPrefix::Multi(_)));
+        assert!(rt; multi.try_clone()? == multi);
+        assert!(rt; single != multi);
         Ok(())
     }
 

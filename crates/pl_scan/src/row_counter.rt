@@ -4,7 +4,7 @@ ghost use Rattle.pl_frame.specs.Dialect.{marks, IsDialect};
 ghost use Rattle.pl_scan.specs.Fields.{is_quote};
 ghost use Rattle.pl_scan.specs.Items.{items};
 ghost use Rattle.pl_scan.specs.RowCount.{cut_line_ends, is_row};
-ghost use Rattle.pl_scan.specs.RowPlaces.{next_place, is_unquoted, is_run_place, place_of, rows_behind, Count, rows_with};
+ghost use Rattle.pl_scan.specs.RowStates.{next_state, is_unquoted, is_run_state, state_behind, rows_behind, Count, rows_with};
 
 use crate::fields::is_the_quote;
 use memchr::memchr;
@@ -16,9 +16,9 @@ const PIECE_SIZE: usize = 16384;
 // How many bytes are counted in one byte.
 const LANE_SIZE: usize = 192;
 
-// Where a count stands in a text.
+// How far the bytes so far have brought a count.
 #[derive(Clone, Copy, Debug, PartialEq, Eq)]
-enum Place {
+enum RowState {
     // Behind line ends at the front of the text, or before all.
     Front,
     // Behind a line end.
@@ -27,34 +27,34 @@ enum Place {
     Field,
     // In a field that is not quoted.
     Plain,
-    // In a quoted field, behind an even number of quotes.
+    // In a field that begins with the quote, behind an even number of quotes.
     Even,
-    // In a quoted field, behind an odd number of quotes.
+    // In a field that begins with the quote, behind an odd number of quotes.
     Odd,
 }
 
-// The place behind one more byte, and how many rows end at it.
+// The state behind one more byte, and how many rows end at it.
 #[inline]
 fn step(
-    place: Place,
+    state: RowState,
     byte: u8,
     separator: u8,
     quote_char: Option<u8>,
     eol_char: u8,
-) -> (Place, usize)
-    ensures value { result ≡ next_place (marks separator quote_char eol_char) place byte }
+) -> (RowState, usize)
+    ensures value { result ≡ next_state (marks separator quote_char eol_char) state byte }
     ensures few { result.1 ≤ 1 }
 {
-    match place {
-        Place::Odd if is_the_quote(quote_char, byte) => (Place::Even, 0),
-        Place::Odd => (Place::Odd, 0),
-        Place::Front if byte == eol_char => (Place::Front, 0),
-        _ if byte == separator => (Place::Field, 0),
-        _ if byte == eol_char => (Place::Start, 1),
-        Place::Plain => (Place::Plain, 0),
-        _ if is_the_quote(quote_char, byte) => (Place::Odd, 0),
-        Place::Even => (Place::Even, 0),
-        _ => (Place::Plain, 0),
+    match state {
+        RowState::Odd if is_the_quote(quote_char, byte) => (RowState::Even, 0),
+        RowState::Odd => (RowState::Odd, 0),
+        RowState::Front if byte == eol_char => (RowState::Front, 0),
+        _ if byte == separator => (RowState::Field, 0),
+        _ if byte == eol_char => (RowState::Start, 1),
+        RowState::Plain => (RowState::Plain, 0),
+        _ if is_the_quote(quote_char, byte) => (RowState::Odd, 0),
+        RowState::Even => (RowState::Even, 0),
+        _ => (RowState::Plain, 0),
     }
 }
 
@@ -102,107 +102,107 @@ fn len_before_quote(bytes: &[u8], quote_char: Option<u8>) -> usize
     }
 }
 
-// Whether no quoted field is open at a place, and a row may end there.
+// Whether a state is in no quoted field, and behind the front of the text.
 #[inline]
-fn is_unquoted(place: Place) -> bool
-    ensures { result ≡ is_unquoted place }
+fn is_unquoted(state: RowState) -> bool
+    ensures { result ≡ is_unquoted state }
 {
-    matches!(place, Place::Start | Place::Field | Place::Plain)
+    matches!(state, RowState::Start | RowState::Field | RowState::Plain)
 }
 
-// The place behind a byte that is no quote, where no quoted field is open.
+// The state behind a byte that is no quote and stands in no quoted field.
 #[inline]
-fn place_of(byte: u8, separator: u8, eol_char: u8) -> Place
-    ensures { result ≡ place_of separator eol_char byte }
+fn state_behind(byte: u8, separator: u8, eol_char: u8) -> RowState
+    ensures { result ≡ state_behind separator eol_char byte }
 {
     if byte == separator {
-        Place::Field
+        RowState::Field
     } else if byte == eol_char {
-        Place::Start
+        RowState::Start
     } else {
-        Place::Plain
+        RowState::Plain
     }
 }
 
-// Whether bytes without quotes can be counted at once from a place on.
+// Whether bytes without quotes can be counted at once from a state on.
 #[inline]
-fn is_run_place(place: Place) -> bool
-    ensures { result ≡ is_run_place place }
+fn is_run_state(state: RowState) -> bool
+    ensures { result ≡ is_run_state state }
 {
-    !matches!(place, Place::Front | Place::Even)
+    !matches!(state, RowState::Front | RowState::Even)
 }
 
 // How many bytes can be counted at once.
 #[inline]
-fn run_len(left: &[u8], place: Place, quote_char: Option<u8>) -> usize
+fn run_len(left: &[u8], state: RowState, quote_char: Option<u8>) -> usize
     ensures fits { result ≤ length left.now }
     ensures none { (k : ℕ) → k < result → is_quote quote_char (slice_index left.now k) ≡ false }
-    ensures place { 0 < result → is_run_place place ≡ true }
+    ensures state { 0 < result → is_run_state state ≡ true }
 {
-    if is_run_place(place) {
+    if is_run_state(state) {
         len_before_quote(&left[..left.len().min(PIECE_SIZE)], quote_char)
     } else {
         0
     }
 }
 
-// The place behind bytes without quotes, and how many rows end in them.
+// The state behind bytes without quotes, and how many rows end in them.
 #[inline]
-fn count_run(run: &[u8], place: Place, separator: u8, eol_char: u8) -> (Place, usize)
-    requires { (is_run_place place ≡ true) × (separator ≢ eol_char) × (0 < length run.now) }
+fn count_run(run: &[u8], state: RowState, separator: u8, eol_char: u8) -> (RowState, usize)
+    requires { (is_run_state state ≡ true) × (separator ≢ eol_char) × (0 < length run.now) }
     ensures rows { (quote : Option ℕ) → ((k : ℕ) → k < length run.now → is_quote quote (slice_index run.now k) ≡ false)
         → (rest : List ℕ) → result.1 + rows_behind (marks separator quote eol_char) result.0 rest
-        ≡ rows_behind (marks separator quote eol_char) place (run.now ++ rest) }
+        ≡ rows_behind (marks separator quote eol_char) state (run.now ++ rest) }
     ensures few { result.1 ≤ length run.now }
 {
-    if is_unquoted(place) {
-        let behind = place_of(run[run.len() - 1], separator, eol_char);
+    if is_unquoted(state) {
+        let behind = state_behind(run[run.len() - 1], separator, eol_char);
         (behind, count_byte(run, eol_char))
     } else {
-        (place, 0)
+        (state, 0)
     }
 }
 
-// Some bytes at the front: the place behind them, how many rows end in them, and how many bytes they are.
+// Some bytes at the front: the state behind them, how many rows end in them, and how many bytes they are.
 #[inline]
 fn count_front(
     left: &[u8],
-    place: Place,
+    state: RowState,
     separator: u8,
     quote_char: Option<u8>,
     eol_char: u8,
-) -> (Place, usize, usize)
+) -> (RowState, usize, usize)
     requires { (separator ≢ eol_char) × (0 < length left.now) }
     ensures some { 0 < result.2 }
     ensures fits { result.2 ≤ length left.now }
     ensures rows { (rest : List ℕ) → result.1 + rows_behind (marks separator quote_char eol_char) result.0 rest
-        ≡ rows_behind (marks separator quote_char eol_char) place (take result.2 left.now ++ rest) }
+        ≡ rows_behind (marks separator quote_char eol_char) state (take result.2 left.now ++ rest) }
     ensures few { result.1 ≤ result.2 }
 {
-    let len = run_len(left, place, quote_char);
+    let len = run_len(left, state, quote_char);
     if len > 0 {
-        let (behind, rows) = count_run(&left[..len], place, separator, eol_char);
+        let (behind, rows) = count_run(&left[..len], state, separator, eol_char);
         (behind, rows, len)
     } else {
-        let (behind, rows) = step(place, left[0], separator, quote_char, eol_char);
+        let (behind, rows) = step(state, left[0], separator, quote_char, eol_char);
         (behind, rows, 1)
     }
 }
 
-// The place behind a block, and how many rows end in it.
+// The state behind a block, and how many rows end in it.
 fn count_block(
     block: &[u8],
-    place: Place,
+    state: RowState,
     separator: u8,
     quote_char: Option<u8>,
     eol_char: u8,
-) -> (Place, usize)
+) -> (RowState, usize)
     requires { separator ≢ eol_char }
     ensures rows { (rest : List ℕ) → result.1 + rows_behind (marks separator quote_char eol_char) result.0 rest
-        ≡ rows_behind (marks separator quote_char eol_char) place (block.now ++ rest) }
+        ≡ rows_behind (marks separator quote_char eol_char) state (block.now ++ rest) }
     ensures few { result.1 ≤ length block.now }
 {
-    let mut behind = place;
+    let mut behind = state;
     let mut rows = 0;
     let mut left = block;
     while !left.is_empty() {
@@ -224,13 +224,13 @@ pub struct RowCounter {
     quote_char: Option<u8>,
     eol_char: u8,
     rows: usize,
-    place: Place,
+    state: RowState,
 }
 
 impl Model for RowCounter {
     ghost Value = { Count };
 
-    ghost view = { λ it. record { marks = marks it.separator it.quote_char it.eol_char; rows = it.rows; place = it.place } };
+    ghost view = { λ it. record { marks = marks it.separator it.quote_char it.eol_char; rows = it.rows; state = it.state } };
 
     ghost invariant = { λ it. it.separator ≢ it.eol_char };
 }
@@ -248,7 +248,7 @@ impl RowCounter {
             quote_char,
             eol_char,
             rows: 0,
-            place: Place::Front,
+            state: RowState::Front,
         }
     }
 
@@ -258,14 +258,14 @@ impl RowCounter {
         ensures rows { (rest : List ℕ) → rows_with self.new rest ≡ rows_with self.old (block.now ++ rest) }
         ensures few { rows_with self.new [] ≤ rows_with self.old [] + length block.now }
     {
-        let (place, number) = count_block(
+        let (state, number) = count_block(
             block,
-            self.place,
+            self.state,
             self.separator,
             self.quote_char,
             self.eol_char,
         );
-        self.place = place;
+        self.state = state;
         self.rows += number;
     }
 
@@ -274,9 +274,9 @@ impl RowCounter {
         requires { rows_with self.now [] < 2 ^ 64 }
         ensures { result ≡ rows_with self.now [] - (if has_header then 1 else 0) }
     {
-        let last = match self.place {
-            Place::Front | Place::Start => 0,
-            Place::Field | Place::Plain | Place::Even | Place::Odd => 1,
+        let last = match self.state {
+            RowState::Front | RowState::Start => 0,
+            RowState::Field | RowState::Plain | RowState::Even | RowState::Odd => 1,
         };
         let rows = self.rows + last;
         if has_header {

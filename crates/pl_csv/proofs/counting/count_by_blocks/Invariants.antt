@@ -1,6 +1,6 @@
 use Rattle.std.proofs.Common.{◌≤◌, ◌-◌, ◌^◌, []}
 use Rattle.pl_frame.specs.Dialect.{marks}
-use Rattle.pl_scan.specs.RowPlaces.{rows_with}
+use Rattle.pl_scan.specs.RowStates.{rows_with}
 use Rattle.pl_csv.proofs.CountingLaws.{HasCounted}
 use Rattle.pl_csv.proofs.counting.count_by_blocks.Given as goal
 

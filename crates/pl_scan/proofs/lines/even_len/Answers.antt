@@ -1,7 +1,7 @@
 use Rattle.std.proofs.Common.{◌≡◌, ◌+◌, ◌∙◌, ◌&&◌, sym, ap, take, length, get_or, true, false, ◌∷◌, [], arith, add-zero}
 use Rattle.std.proofs.lemmas.Bool.Decides.{nat_tests}
 use Rattle.pl_scan.specs.Fields.{is_quote}
-use Rattle.pl_scan.specs.Lines.{begins_end}
+use Rattle.pl_scan.specs.LineEnds.{begins_end}
 use Rattle.pl_scan.proofs.LineLaws.{line-len, len_from-stop, len_from-end}
 use Rattle.pl_scan.proofs.lines.even_len.Goals as goal
 

@@ -1,7 +1,7 @@
 use Rattle.std.proofs.Common.{◌≡◌, ◌∙◌, ap, sym, ◌+◌, ◌++◌, take, drop, rules, arith, add_assoc, append_assoc, length-drop}
 use Rattle.std.proofs.lemmas.List.{take-append-drop}
 use Rattle.pl_frame.specs.Dialect.{marks}
-use Rattle.pl_scan.specs.RowPlaces.{rows_behind}
+use Rattle.pl_scan.specs.RowStates.{rows_behind}
 use Rattle.pl_scan.proofs.row_counter.count_block.Goals as goal
 
 pub loop-left-preserved : goal.loop-left-preserved

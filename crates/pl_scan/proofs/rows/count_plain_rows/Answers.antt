@@ -1,5 +1,5 @@
 use Rattle.std.proofs.Common.{◌∙◌, ap, ◌-◌, cond, [], append-nil}
-use Rattle.pl_scan.specs.RowPlaces.{rows_with}
+use Rattle.pl_scan.specs.RowStates.{rows_with}
 use Rattle.pl_scan.proofs.rows.count_plain_rows.Goals as goal
 
 pub returns : goal.returns

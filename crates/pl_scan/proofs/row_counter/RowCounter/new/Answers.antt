@@ -1,6 +1,6 @@
 use Rattle.std.proofs.Common.{◌∙◌, zero-add}
 use Rattle.pl_frame.specs.Dialect.{marks}
-use Rattle.pl_scan.proofs.PlaceLaws.{rows-front}
+use Rattle.pl_scan.proofs.RowStateLaws.{rows-front}
 use Rattle.pl_scan.proofs.row_counter.RowCounter.new.Goals as goal
 
 pub returns-clause-rows : goal.returns-clause-rows

@@ -1,4 +1,4 @@
--- The laws of places: the number of rows behind a place is the number of items.
+-- The laws of a count of rows: the number of rows behind a state is the number of items.
 use Rattle.std.proofs.Common.{◌≡◌, ◌≢◌, ℕ, zero, suc, ◌+◌, ◌<◌, ◌≤◌, Bool, true, false, cond, not, ◌&&◌, ◌||◌, ◌==◌, List, [], ◌∷◌, ◌++◌, length, take, drop, get_or, refl, sym, ◌∙◌, ap, arith, zero-add, add-zero, add_assoc, one-add, length-drop}
 use Rattle.std.specs.Prelude.{Option, None, Some, count_by}
 use Rattle.std.specs.List.{prefix_len}
@@ -6,36 +6,36 @@ use Rattle.std.proofs.lemmas.List.Sums.{sum_by-cons}
 use Rattle.std.proofs.lemmas.List.{drop_at, length-take-le, drop-drop}
 use Rattle.std.proofs.lemmas.Bool.Decides.{nat_tests}
 use Rattle.pl_frame.specs.Dialect.{Marks}
-use Rattle.pl_scan.specs.declared.row_counter.Place.{Place}
-use Rattle.pl_scan.specs.declared.row_counter.Place.TheVariants.{Front, Start, Field, Plain, Even, Odd}
+use Rattle.pl_scan.specs.declared.row_counter.RowState.{RowState}
+use Rattle.pl_scan.specs.declared.row_counter.RowState.TheVariants.{Front, Start, Field, Plain, Even, Odd}
 use Rattle.pl_scan.specs.Fields.{is_quote, is_plain, is_stop, cut_field, field, behind, extent}
 use Rattle.pl_scan.specs.Items.{items, item, text_of}
 use Rattle.pl_scan.specs.RowCount.{cut_line_ends, is_row}
-use Rattle.pl_scan.specs.RowPlaces.{next_at_stop, next_place, begun, rows_behind, is_unquoted, is_run_place, place_of}
+use Rattle.pl_scan.specs.RowStates.{next_at_stop, next_state, begun, rows_behind, is_unquoted, is_run_state, state_behind}
 use Rattle.pl_scan.proofs.Walk.{is_even, is_even-mark, mark, onto, walk}
 use Rattle.pl_scan.proofs.FieldLaws.{unquoted, cut_field-is, IsWalk-cut_field, is_stop-cut_field, behind-some, behind-shorter}
 use Rattle.pl_scan.proofs.ItemLaws.{extent_last, extent_more, IsRecordAt-extent, items-nil, items-step}
 
 -- ---- one byte
 
-next-plain : (m : Marks) (x : ℕ) (p : Place) → is_plain m x ≡ true → next_at_stop m x p ≡ (p, 0)
+next-plain : (m : Marks) (x : ℕ) (p : RowState) → is_plain m x ≡ true → next_at_stop m x p ≡ (p, 0)
 next-plain m x p plain = by_tests (x == m.separator) (x == m.line_end) plain
   where
-    by_tests : (s e : Bool) → not (s || e) ≡ true → ◌≡◌ {A = Place × ℕ} (cond s (Field, 0) (cond e (Start, 1) (p, 0))) (p, 0)
+    by_tests : (s e : Bool) → not (s || e) ≡ true → ◌≡◌ {A = RowState × ℕ} (cond s (Field, 0) (cond e (Start, 1) (p, 0))) (p, 0)
     by_tests false false _ = refl
     by_tests true e h = absurd (cc)
     by_tests false true h = absurd (cc)
 
-next-stop : (m : Marks) (x : ℕ) (p q : Place) → is_plain m x ≡ false → next_at_stop m x p ≡ next_at_stop m x q
+next-stop : (m : Marks) (x : ℕ) (p q : RowState) → is_plain m x ≡ false → next_at_stop m x p ≡ next_at_stop m x q
 next-stop m x p q stop = by_tests (x == m.separator) (x == m.line_end) stop
   where
-    by_tests : (s e : Bool) → not (s || e) ≡ false → ◌≡◌ {A = Place × ℕ} (cond s (Field, 0) (cond e (Start, 1) (p, 0))) (cond s (Field, 0) (cond e (Start, 1) (q, 0)))
+    by_tests : (s e : Bool) → not (s || e) ≡ false → ◌≡◌ {A = RowState × ℕ} (cond s (Field, 0) (cond e (Start, 1) (p, 0))) (cond s (Field, 0) (cond e (Start, 1) (q, 0)))
     by_tests true e _ = refl
     by_tests false true _ = refl
     by_tests false false h = absurd (cc)
 
 -- the rows that end at a byte and behind it
-abbrev pub rows_from : Marks → Place × ℕ → List ℕ → ℕ
+abbrev pub rows_from : Marks → RowState × ℕ → List ℕ → ℕ
 rows_from m next xs = next.1 + rows_behind m next.0 xs
 
 -- ---- what is left behind a field
@@ -51,11 +51,11 @@ rows-plain m (x ∷ xs) = by_test (is_plain m x) refl (rows-plain m xs)
   where
     by_test : (t : Bool) → is_plain m x ≡ t → rows_behind m Plain xs ≡ rows_left m (walk (unquoted m) 0 xs).1
         → rows_from m (next_at_stop m x Plain) xs ≡ rows_left m (cond (not t) ([], x ∷ xs) (onto x (walk (unquoted m) 0 xs))).1
-    by_test true plain e = ap (λ (n : Place × ℕ). rows_from m n xs) (next-plain m x Plain plain) ∙ zero-add (rows_behind m Plain xs) ∙ e
+    by_test true plain e = ap (λ (n : RowState × ℕ). rows_from m n xs) (next-plain m x Plain plain) ∙ zero-add (rows_behind m Plain xs) ∙ e
     by_test false _ _ = refl
 
 -- in a quoted field, behind n quotes
-abbrev pub inside : ℕ → Place
+abbrev pub inside : ℕ → RowState
 inside n = cond (is_even n) Even Odd
 
 rows-quoted : (m : Marks) (n : ℕ) (b : List ℕ) → rows_behind m (inside n) b ≡ rows_left m (walk m n b).1
@@ -71,17 +71,17 @@ rows-quoted m n (x ∷ xs) = by_tests (is_even n) (is_plain m x) (is_quote m.quo
 
     by_tests : (t u q : Bool) → is_even n ≡ t → is_plain m x ≡ u → is_quote m.quote x ≡ q
         → rows_behind m (inside (n + mark m x)) xs ≡ rows_left m (walk m (n + mark m x) xs).1
-        → rows_from m (next_place m (cond t Even Odd) x) xs ≡ rows_left m (cond (t && not u) ([], x ∷ xs) (onto x (walk m (n + mark m x) xs))).1
-    by_tests true false q _ stop _ _ = ap (λ (k : Place × ℕ). rows_from m k xs) (next-stop m x _ Plain stop)
+        → rows_from m (next_state m (cond t Even Odd) x) xs ≡ rows_left m (cond (t && not u) ([], x ∷ xs) (onto x (walk m (n + mark m x) xs))).1
+    by_tests true false q _ stop _ _ = ap (λ (k : RowState × ℕ). rows_from m k xs) (next-stop m x _ Plain stop)
     by_tests true true q even plain quote e =
-        ap (λ (k : Place × ℕ). rows_from m k xs) (next-plain m x _ plain) ∙ zero-add _
-        ∙ ap (λ (p : Place). rows_behind m p xs) (ap (λ (v : Bool). cond v Odd Even) quote ∙ same q ∙ sym (next true q even quote)) ∙ e
+        ap (λ (k : RowState × ℕ). rows_from m k xs) (next-plain m x _ plain) ∙ zero-add _
+        ∙ ap (λ (p : RowState). rows_behind m p xs) (ap (λ (v : Bool). cond v Odd Even) quote ∙ same q ∙ sym (next true q even quote)) ∙ e
       where
         same : (v : Bool) → cond v Odd Even ≡ cond (cond v false true) Even Odd
         same true = refl
         same false = refl
     by_tests false u q even plain quote e =
-        zero-add _ ∙ ap (λ (p : Place). rows_behind m p xs) (ap (λ (v : Bool). cond v Even Odd) quote ∙ same q ∙ sym (next false q even quote)) ∙ e
+        zero-add _ ∙ ap (λ (p : RowState). rows_behind m p xs) (ap (λ (v : Bool). cond v Even Odd) quote ∙ same q ∙ sym (next false q even quote)) ∙ e
       where
         same : (v : Bool) → cond v Even Odd ≡ cond (cond v true false) Even Odd
         same true = refl
@@ -166,7 +166,7 @@ rows-front m [] = sym (ap (count_by (is_row None)) (items-nil m None))
 rows-front m (x ∷ xs) = by_test (x == m.line_end) (rows-front m xs)
   where
     by_test : (t : Bool) → rows_behind m Front xs ≡ count_by (is_row None) (items m None (cut_line_ends m.line_end xs))
-        → rows_from m (cond t (Front, 0) (next_place m Start x)) xs
+        → rows_from m (cond t (Front, 0) (next_state m Start x)) xs
         ≡ count_by (is_row None) (items m None (drop (cond t (1 + prefix_len (λ y. y == m.line_end) xs) 0) (x ∷ xs)))
     by_test true e = rw (one-add) (zero-add (rows_behind m Front xs) ∙ e)
     by_test false _ = rows-start m (x ∷ xs)
@@ -174,19 +174,19 @@ rows-front m (x ∷ xs) = by_test (x == m.line_end) (rows-front m xs)
 -- ---- bytes without quotes
 
 stop-unquoted : (m : Marks) (x : ℕ) → m.separator ≢ m.line_end
-    → next_at_stop m x Plain ≡ (place_of m.separator m.line_end x, cond (x == m.line_end) 1 0)
+    → next_at_stop m x Plain ≡ (state_behind m.separator m.line_end x, cond (x == m.line_end) 1 0)
 stop-unquoted m x apart = by_tests (x == m.separator) (x == m.line_end) refl refl
   where
     by_tests : (s e : Bool) → (x == m.separator) ≡ s → (x == m.line_end) ≡ e
-        → ◌≡◌ {A = Place × ℕ} (cond s (Field, 0) (cond e (Start, 1) (Plain, 0))) (cond s Field (cond e Start Plain), cond e 1 0)
+        → ◌≡◌ {A = RowState × ℕ} (cond s (Field, 0) (cond e (Start, 1) (Plain, 0))) (cond s Field (cond e Start Plain), cond e 1 0)
     by_tests true true s e = absurd (grind (arith, nat_tests, apart))
     by_tests true false _ _ = refl
     by_tests false true _ _ = refl
     by_tests false false _ _ = refl
 
--- one byte that is no quote, from a place where no quoted field is open
-next-unquoted : (m : Marks) (p : Place) (x : ℕ) → is_unquoted p ≡ true → m.separator ≢ m.line_end → is_quote m.quote x ≡ false
-    → next_place m p x ≡ (place_of m.separator m.line_end x, cond (x == m.line_end) 1 0)
+-- one byte that is no quote, from a state where no quoted field is open
+next-unquoted : (m : Marks) (p : RowState) (x : ℕ) → is_unquoted p ≡ true → m.separator ≢ m.line_end → is_quote m.quote x ≡ false
+    → next_state m p x ≡ (state_behind m.separator m.line_end x, cond (x == m.line_end) 1 0)
 next-unquoted m Front x h _ _ = absurd (cc)
 next-unquoted m Even x h _ _ = absurd (cc)
 next-unquoted m Odd x h _ _ = absurd (cc)
@@ -194,8 +194,8 @@ next-unquoted m Start x _ apart plain = rw plain (stop-unquoted m x apart)
 next-unquoted m Field x _ apart plain = rw plain (stop-unquoted m x apart)
 next-unquoted m Plain x _ apart _ = stop-unquoted m x apart
 
-is_unquoted-place : (s e x : ℕ) → is_unquoted (place_of s e x) ≡ true
-is_unquoted-place s e x = by_tests (x == s) (x == e)
+is_unquoted-state : (s e x : ℕ) → is_unquoted (state_behind s e x) ≡ true
+is_unquoted-state s e x = by_tests (x == s) (x == e)
   where
     by_tests : (t u : Bool) → is_unquoted (cond t Field (cond u Start Plain)) ≡ true
     by_tests true u = refl
@@ -203,24 +203,24 @@ is_unquoted-place s e x = by_tests (x == s) (x == e)
     by_tests false false = refl
 
 -- bytes without quotes, of which there is one: the rows that end in them are their line ends
-pub rows-unquoted : (m : Marks) (p : Place) (xs : List ℕ) (last : ℕ) (rest : List ℕ) → is_unquoted p ≡ true → m.separator ≢ m.line_end
+pub rows-unquoted : (m : Marks) (p : RowState) (xs : List ℕ) (last : ℕ) (rest : List ℕ) → is_unquoted p ≡ true → m.separator ≢ m.line_end
     → ((k : ℕ) → k < length xs → is_quote m.quote (get_or xs k 0) ≡ false) → last + 1 ≡ length xs
-    → count_by (λ x. x == m.line_end) xs + rows_behind m (place_of m.separator m.line_end (get_or xs last 0)) rest ≡ rows_behind m p (xs ++ rest)
+    → count_by (λ x. x == m.line_end) xs + rows_behind m (state_behind m.separator m.line_end (get_or xs last 0)) rest ≡ rows_behind m p (xs ++ rest)
 rows-unquoted m p [] last rest _ _ _ h = absurd (omega arith)
 rows-unquoted m p (x ∷ []) (suc last) rest _ _ _ h = absurd (omega arith)
 rows-unquoted m p (x ∷ y ∷ xs) zero rest _ _ _ h = absurd (omega arith)
 rows-unquoted m p (x ∷ []) zero rest unquoted_p apart plain _ =
     let next = next-unquoted m p x unquoted_p apart (plain 0 (omega arith)) in
-    ap (λ k. k + rows_behind m (place_of m.separator m.line_end x) rest) (sum_by-cons (λ y. cond (y == m.line_end) 1 0) x [] ∙ add-zero _)
-    ∙ sym (ap (λ (n : Place × ℕ). rows_from m n rest) next)
+    ap (λ k. k + rows_behind m (state_behind m.separator m.line_end x) rest) (sum_by-cons (λ y. cond (y == m.line_end) 1 0) x [] ∙ add-zero _)
+    ∙ sym (ap (λ (n : RowState × ℕ). rows_from m n rest) next)
 rows-unquoted m p (x ∷ y ∷ xs) (suc last) rest unquoted_p apart plain h =
     let next = next-unquoted m p x unquoted_p apart (plain 0 (omega arith)) in
-    let q = place_of m.separator m.line_end x in
-    let more = rows-unquoted m q (y ∷ xs) last rest (is_unquoted-place m.separator m.line_end x) apart (λ k i. plain (suc k) (omega arith)) (omega arith) in
-    ap (λ k. k + rows_behind m (place_of m.separator m.line_end (get_or (y ∷ xs) last 0)) rest) (sum_by-cons (λ z. cond (z == m.line_end) 1 0) x (y ∷ xs))
+    let q = state_behind m.separator m.line_end x in
+    let more = rows-unquoted m q (y ∷ xs) last rest (is_unquoted-state m.separator m.line_end x) apart (λ k i. plain (suc k) (omega arith)) (omega arith) in
+    ap (λ k. k + rows_behind m (state_behind m.separator m.line_end (get_or (y ∷ xs) last 0)) rest) (sum_by-cons (λ z. cond (z == m.line_end) 1 0) x (y ∷ xs))
     ∙ add_assoc _ _ _
     ∙ ap (λ k. cond (x == m.line_end) 1 0 + k) more
-    ∙ sym (ap (λ (n : Place × ℕ). rows_from m n (y ∷ xs ++ rest)) next)
+    ∙ sym (ap (λ (n : RowState × ℕ). rows_from m n (y ∷ xs ++ rest)) next)
 
 -- in a quoted field at an odd number of quotes no row ends before the next quote
 rows-odd : (m : Marks) (xs rest : List ℕ) → ((k : ℕ) → k < length xs → is_quote m.quote (get_or xs k 0) ≡ false)
@@ -231,7 +231,7 @@ rows-odd m (x ∷ xs) rest plain =
     ∙ sym (zero-add (rows_behind m Odd (xs ++ rest)))
     ∙ ap (λ q. rows_from m (cond q Even Odd, 0) (xs ++ rest)) (sym (plain 0 (omega arith)))
 
-pub rows-inside : (m : Marks) (p : Place) (xs rest : List ℕ) → is_run_place p ≡ true → is_unquoted p ≡ false
+pub rows-inside : (m : Marks) (p : RowState) (xs rest : List ℕ) → is_run_state p ≡ true → is_unquoted p ≡ false
     → ((k : ℕ) → k < length xs → is_quote m.quote (get_or xs k 0) ≡ false) → 0 + rows_behind m p rest ≡ rows_behind m p (xs ++ rest)
 rows-inside m Front xs rest h _ _ = absurd (cc)
 rows-inside m Start xs rest _ h _ = absurd (cc)
@@ -242,7 +242,7 @@ rows-inside m Odd xs rest _ _ plain = zero-add (rows_behind m Odd rest) ∙ rows
 
 -- ---- how many there are
 
-few-begun : (p : Place) → begun p ≤ 1
+few-begun : (p : RowState) → begun p ≤ 1
 few-begun Front = omega arith
 few-begun Start = omega arith
 few-begun Field = omega arith
@@ -251,10 +251,10 @@ few-begun Even = omega arith
 few-begun Odd = omega arith
 
 -- the rows that end at a byte, and the one that has begun behind it
-abbrev pub rows_at : Place × ℕ → ℕ
+abbrev pub rows_at : RowState × ℕ → ℕ
 rows_at next = next.1 + begun next.0
 
-few-stop : (m : Marks) (x : ℕ) (p : Place) → rows_at (next_at_stop m x p) ≤ 1
+few-stop : (m : Marks) (x : ℕ) (p : RowState) → rows_at (next_at_stop m x p) ≤ 1
 few-stop m x p = by_tests (x == m.separator) (x == m.line_end)
   where
     by_tests : (s e : Bool) → rows_at (cond s (Field, 0) (cond e (Start, 1) (p, 0))) ≤ 1
@@ -262,10 +262,10 @@ few-stop m x p = by_tests (x == m.separator) (x == m.line_end)
     by_tests false true = omega arith
     by_tests false false = omega (arith, few-begun p)
 
-few-next : (m : Marks) (p : Place) (x : ℕ) → rows_at (next_place m p x) ≤ begun p + 1
+few-next : (m : Marks) (p : RowState) (x : ℕ) → rows_at (next_state m p x) ≤ begun p + 1
 few-next m Front x = by_test (x == m.line_end)
   where
-    by_test : (t : Bool) → rows_at (cond t (Front, 0) (next_place m Start x)) ≤ 0 + 1
+    by_test : (t : Bool) → rows_at (cond t (Front, 0) (next_state m Start x)) ≤ 0 + 1
     by_test true = omega arith
     by_test false = omega (arith, few-stop m x (cond (is_quote m.quote x) Odd Plain))
 few-next m Start x = omega (arith, few-stop m x (cond (is_quote m.quote x) Odd Plain))
@@ -275,6 +275,6 @@ few-next m Even x = omega (arith, few-stop m x (cond (is_quote m.quote x) Odd Ev
 few-next m Odd x = omega (arith, few-begun (cond (is_quote m.quote x) Even Odd))
 
 -- each byte ends or begins one row at most
-pub few-rows : (m : Marks) (p : Place) (xs : List ℕ) → rows_behind m p xs ≤ begun p + length xs
+pub few-rows : (m : Marks) (p : RowState) (xs : List ℕ) → rows_behind m p xs ≤ begun p + length xs
 few-rows m p [] = omega arith
-few-rows m p (x ∷ xs) = omega (arith, few-next m p x, few-rows m (next_place m p x).0 xs)
+few-rows m p (x ∷ xs) = omega (arith, few-next m p x, few-rows m (next_state m p x).0 xs)

@@ -1,10 +1,10 @@
 -- Laws of cells by the kind of their type.
-use Rattle.std.proofs.Common.{◌≡◌, ℕ, ◌==◌, Bool, true, false, if◌then◌else◌, List, [], ◌∷◌, ◌++◌, length, Option, Some, None, Result, Ok, Err, refl, sym, ◌∙◌, ap, subst}
+use Rattle.std.proofs.Common.{◌≡◌, ℕ, ◌==◌, Bool, true, false, not, ◌&&◌, if◌then◌else◌, List, [], ◌∷◌, ◌++◌, length, Option, Some, None, Result, Ok, Err, refl, sym, ◌∙◌, ap, subst}
 use Rattle.pl_frame.specs.declared.data_type.DataType.{DataType}
 use Rattle.pl_frame.specs.declared.data_type.DataType.TheVariants as dtype
 use Rattle.pl_frame.specs.Types.{is_text}
-use Rattle.pl_frame.specs.declared.error.FaultKind.{FaultKind}
-use Rattle.pl_frame.specs.declared.error.FaultKind.TheVariants as fault
+use Rattle.pl_cells.specs.Faults.{Fault}
+use Rattle.pl_cells.specs.Faults as fault
 use Rattle.pl_cells.specs.declared.cell_fault.CellFault.{CellFault}
 use Rattle.pl_cells.specs.declared.cell_fault.CellFault.TheVariants as cell_fault
 use Rattle.pl_cells.specs.Quoting.{is_well_quoted, inside, undouble}
@@ -16,10 +16,14 @@ use Rattle.pl_frame.specs.Columns.{text_cells}
 use Rattle.pl_frame.specs.Frame.{Scalar, Letters}
 use Rattle.pl_cells.specs.declared.utf8.CsvEncoding.{CsvEncoding}
 use Rattle.pl_cells.specs.declared.utf8.CsvEncoding.TheVariants as encodings
-use Rattle.pl_cells.specs.Buffers.{BufferValue, Answers, given_cell, AddsValue, ListAnswers, IsCellFault, is_ignored, missing_value, reading_of, reading_with}
-use Rattle.pl_cells.specs.Cells.{Cell, Reading, plain_cell, quoted_cell, plain_field_cell, quoted_field_cell, field_cell, softened, value_or_null, counted_text, string_cell, text_cell, missing_cell}
+use Rattle.pl_cells.specs.Buffers.{BufferValue, Answers, Adds, ListAnswers, IsCellFault, is_ignored, reading_of, reading_with}
+use Rattle.pl_cells.specs.NullTest.{nothing_is_null}
+use Rattle.pl_cells.specs.Cells.{missing_value, Cell, Reading, plain_cell, quoted_cell, stripped_cell, is_missing, softened, value_or_null, counted_text, string_cell, text_cell}
 
-abbrev record_of : List ℕ → DataType → Option ℕ → CsvEncoding → List (Option Scalar) → BufferValue
+abbrev pub push_value : List (Option Scalar) → Option Scalar → List (Option Scalar)
+push_value values value = values ++ value ∷ []
+
+abbrev pub record_of : List ℕ → DataType → Option ℕ → CsvEncoding → List (Option Scalar) → BufferValue
 record_of name type quote encoding values = record { name = name; dtype = type; quote_char = quote; encoding = encoding; values = values }
 
 -- the cell of a type that holds no texts is its value or a null, in quotes or not
@@ -81,7 +85,7 @@ quoted_value reading q (dtype.Enum c) text h = absurd (cc)
 -- what a buffer of values answers for a plain text, and for one between quotes
 pub answers_plain : {T : Type 0} (old new : BufferValue) (type : DataType) (text counted : List ℕ) (ignore missing : Bool) (r : Result T CellFault) → type ≡ old.dtype
     → counted ≡ counted_text type text → is_text type ≡ false → Answers old new (softened ignore (value_or_null old.dtype counted)) r
-    → Answers old new (plain_field_cell (reading_of old missing ignore) old.dtype text) r
+    → Answers old new (softened ignore (plain_cell (reading_of old missing ignore) old.dtype text)) r
 answers_plain old new type text counted ignore missing r is counted_is no_text h =
     let here : is_text old.dtype ≡ false = subst (λ (t : DataType). is_text t ≡ false) is no_text in
     let same = ap (value_or_null old.dtype) (counted_is ∙ ap (λ (t : DataType). counted_text t text) is) ∙ sym (plain_value (reading_of old missing ignore) old.dtype text here) in
@@ -103,7 +107,7 @@ string_valid encodings.Utf8 text e = rw e refl
 string_valid encodings.LossyUtf8 text e = ap (λ (t : List ℕ). Ok (Some (Letters t))) (utf8_lossy-IsUtf8 text (IsUtf8-from_is_utf8 text e))
 
 -- a list of texts with one more
-pub added_text : (old new : List (Option (List ℕ))) (text t : List ℕ) (c : Cell) → new ≡ old ++ Some t ∷ [] → t ≡ text → c ≡ Ok (Some (Letters text)) → AddsValue (text_cells old) (text_cells new) c
+pub added_text : (old new : List (Option (List ℕ))) (text t : List ℕ) (c : Cell) → new ≡ old ++ Some t ∷ [] → t ≡ text → c ≡ Ok (Some (Letters text)) → Adds push_value (text_cells old) (text_cells new) c
 added_text old new text t c pushed same is = record {
   value = Some (Letters text);
   is = is;
@@ -131,30 +135,6 @@ missing_null (dtype.Enum c) = refl
 missing_null (dtype.Datetime u) = refl
 missing_null (dtype.Decimal p s) = refl
 
-string_missing : (encoding : CsvEncoding) (ignore is_null : Bool) → missing_cell (reading_with encoding is_null ignore) dtype.String ≡ Ok (missing_value is_null dtype.String)
-string_missing encoding ignore true = refl
-string_missing encoding ignore false = refl
-
-pub missing_is : (reading : Reading) (type : DataType) → missing_cell reading type ≡ Ok (missing_value reading.missing_is_null type)
-missing_is reading dtype.Boolean = refl
-missing_is reading dtype.Int8 = refl
-missing_is reading dtype.Int16 = refl
-missing_is reading dtype.Int32 = refl
-missing_is reading dtype.Int64 = refl
-missing_is reading dtype.Int128 = refl
-missing_is reading dtype.UInt8 = refl
-missing_is reading dtype.UInt16 = refl
-missing_is reading dtype.UInt32 = refl
-missing_is reading dtype.UInt64 = refl
-missing_is reading dtype.String = string_missing reading.encoding reading.ignore_errors reading.missing_is_null
-missing_is reading dtype.Categorical = refl
-missing_is reading dtype.Date = refl
-missing_is reading dtype.Time = refl
-missing_is reading dtype.Null = refl
-missing_is reading (dtype.Enum c) = refl
-missing_is reading (dtype.Datetime u) = refl
-missing_is reading (dtype.Decimal p s) = refl
-
 -- what is not missing is read by its text
 pub plain_some : (reading : Reading) (type : DataType) (text : List ℕ) → (length text == 0) ≡ false → plain_cell reading type text ≡ text_cell reading type text
 plain_some reading type [] e = absurd (cc)
@@ -170,7 +150,7 @@ softened_ok : (ignore : Bool) (c : Cell) (value : Option Scalar) → c ≡ Ok va
 softened_ok true c value e = rw e refl
 softened_ok false c value e = rw e refl
 
-softened_fault : (ignore : Bool) (c : Cell) (kind : FaultKind) → c ≡ Err kind → softened ignore (Err kind) ≡ Err kind → softened ignore c ≡ Err kind
+softened_fault : (ignore : Bool) (c : Cell) (kind : Fault) → c ≡ Err kind → softened ignore (Err kind) ≡ Err kind → softened ignore c ≡ Err kind
 softened_fault ignore c kind e same = ap (softened ignore) e ∙ same
 
 pub fault_kept : (ignore : Bool) (wrong : CellFault) (c : Cell) → IsCellFault wrong c → is_ignored ignore wrong ≡ false → IsCellFault wrong (softened ignore c)
@@ -193,11 +173,11 @@ fault_ignored false cell_fault.Utf8 c e h = absurd (cc)
 fault_ignored false cell_fault.Value c e h = absurd (cc)
 fault_ignored false cell_fault.OutOfMemory c e h = absurd (cc)
 
-pub value_kept : (ignore : Bool) (old new : List (Option Scalar)) (c : Cell) → AddsValue old new c → AddsValue old new (softened ignore c)
+pub value_kept : (ignore : Bool) (old new : List (Option Scalar)) (c : Cell) → Adds push_value old new c → Adds push_value old new (softened ignore c)
 value_kept ignore old new c added = record { value = added.value; is = softened_ok ignore c added.value added.is; pushed = added.pushed }
 
 pub fault_null : (ignore : Bool) (wrong : CellFault) (type : DataType) (old now new : List (Option Scalar)) (c : Cell) → IsCellFault wrong c → is_ignored ignore wrong ≡ true → now ≡ old
-    → new ≡ now ++ missing_value true type ∷ [] → AddsValue old new (softened ignore c)
+    → new ≡ now ++ missing_value true type ∷ [] → Adds push_value old new (softened ignore c)
 fault_null ignore wrong type old now new c e h same pushed = record {
   value = None;
   is = fault_ignored ignore wrong c e h;
@@ -219,9 +199,9 @@ buffer_answers {T = T} old name type type' quote encoding values values' c c' r 
 
 -- the cell of a text of a buffer, by how its list reads it
 pub plain_same : (view old : BufferValue) (missing ignore : Bool) (text : List ℕ) → view ≡ old → (length text == 0) ≡ false
-    → softened ignore (text_cell (reading_of view missing ignore) view.dtype text) ≡ plain_field_cell (reading_of old missing ignore) old.dtype text
+    → softened ignore (text_cell (reading_of view missing ignore) view.dtype text) ≡ softened ignore (plain_cell (reading_of old missing ignore) old.dtype text)
 plain_same view old missing ignore text is some =
-    ap (softened ignore) (sym (plain_some (reading_of view missing ignore) view.dtype text some)) ∙ ap (λ (b : BufferValue). plain_field_cell (reading_of b missing ignore) b.dtype text) is
+    ap (softened ignore) (sym (plain_some (reading_of view missing ignore) view.dtype text some)) ∙ ap (λ (b : BufferValue). softened ignore (plain_cell (reading_of b missing ignore) b.dtype text)) is
 
 pub quoted_same : (view old : BufferValue) (missing ignore : Bool) (q : ℕ) (text t : List ℕ) → view ≡ old → t ≡ undouble q text → is_text view.dtype ≡ true
     → softened ignore (text_cell (reading_of view missing ignore) view.dtype t) ≡ softened ignore (quoted_cell (reading_of old missing ignore) q old.dtype text)
@@ -274,25 +254,29 @@ text_any encoding a b ignore (dtype.Enum (Some c)) text = refl
 text_any encoding a b ignore (dtype.Datetime u) text = refl
 text_any encoding a b ignore (dtype.Decimal p s) text = refl
 
-quoted_any : (encoding : CsvEncoding) (a b ignore : Bool) (q : ℕ) (type : DataType) (field : List ℕ)
-    → quoted_field_cell (reading_with encoding a ignore) q type field ≡ quoted_field_cell (reading_with encoding b ignore) q type field
-quoted_any encoding a b ignore q type field =
-    let doubled = text_any encoding a b ignore type (undouble q (inside field)) in
-    let same = text_any encoding a b ignore type (inside field) in
-    (λ j. if is_well_quoted q field then softened ignore (if is_text type then doubled j else same j) else Err fault.Escape)
+-- a field that begins with the quote is never missing
+pub stripped_any : (encoding : CsvEncoding) (a b ignore : Bool) (q : ℕ) (type : DataType) (text : List ℕ)
+    → stripped_cell (reading_with encoding a ignore) nothing_is_null (Some q) type text ≡ stripped_cell (reading_with encoding b ignore) nothing_is_null (Some q) type text
+stripped_any encoding a b ignore q type text =
+    let doubled = text_any encoding a b ignore type (undouble q (inside text)) in
+    let same = text_any encoding a b ignore type (inside text) in
+    (λ j. if not (is_well_quoted q text) then Err fault.Escape else (if (is_well_quoted q text && false) && not (is_missing (Some q) text) then Ok None else softened ignore (if is_text type then doubled j else same j)))
 
--- a field that begins with the quote
-pub given_quoted : {T : Type 0} (old new : BufferValue) (quote : Option ℕ) (q : ℕ) (missing ignore is_quoted : Bool) (field : List ℕ) (r : Result T CellFault) → quote ≡ old.quote_char → quote ≡ Some q → is_quoted ≡ true
-    → Answers old new (quoted_field_cell (reading_of old true ignore) q old.dtype field) r → Answers old new (given_cell (reading_of old missing ignore) old.quote_char old.dtype is_quoted field) r
-given_quoted old new quote q missing ignore is_quoted field r same is begins h =
-    subst (λ (o : Option ℕ). Answers old new (given_cell (reading_of old missing ignore) o old.dtype is_quoted field) r) (sym is ∙ same)
-    (subst (λ (b : Bool). Answers old new (field_cell (reading_of old missing ignore) q old.dtype b field) r) (sym begins)
-    (subst (λ (c : Cell). Answers old new c r) (quoted_any old.encoding true missing ignore q old.dtype field) h))
+pub quoted_answers : {T : Type 0} (old new : BufferValue) (q : ℕ) (missing ignore : Bool) (text : List ℕ) (r : Result T CellFault)
+    → Answers old new (stripped_cell (reading_of old true ignore) nothing_is_null (Some q) old.dtype text) r → Answers old new (stripped_cell (reading_of old missing ignore) nothing_is_null (Some q) old.dtype text) r
+quoted_answers old new q missing ignore text r h = subst (λ (c : Cell). Answers old new c r) (stripped_any old.encoding true missing ignore q old.dtype text) h
+
+-- the cell of a field that begins with the quote, by whether it is well quoted
+abbrev by_quoting : Reading → ℕ → DataType → List ℕ → Bool → Cell
+by_quoting reading q type text well =
+    if not well then Err fault.Escape
+    else (if (well && false) && not (is_missing (Some q) text) then Ok None else softened reading.ignore_errors (quoted_cell reading q type (inside text)))
 
 pub quoted_inside : {T : Type 0} (old new : BufferValue) (ignore : Bool) (q : ℕ) (field text : List ℕ) (r : Result T CellFault) → is_well_quoted q field ≡ true → text ≡ inside field
-    → Answers old new (softened ignore (quoted_cell (reading_of old true ignore) q old.dtype text)) r → Answers old new (quoted_field_cell (reading_of old true ignore) q old.dtype field) r
+    → Answers old new (softened ignore (quoted_cell (reading_of old true ignore) q old.dtype text)) r
+    → Answers old new (stripped_cell (reading_of old true ignore) nothing_is_null (Some q) old.dtype field) r
 quoted_inside old new ignore q field text r well is h =
-    let cells : softened ignore (quoted_cell (reading_of old true ignore) q old.dtype text) ≡ quoted_field_cell (reading_of old true ignore) q old.dtype field =
+    let cells : softened ignore (quoted_cell (reading_of old true ignore) q old.dtype text) ≡ stripped_cell (reading_of old true ignore) nothing_is_null (Some q) old.dtype field =
     ap (λ (t : List ℕ). softened ignore (quoted_cell (reading_of old true ignore) q old.dtype t)) is
-    ∙ (λ j. if sym well j then softened ignore (quoted_cell (reading_of old true ignore) q old.dtype (inside field)) else Err fault.Escape) in
+    ∙ (λ j. by_quoting (reading_of old true ignore) q old.dtype field (sym well j)) in
     subst (λ (c : Cell). Answers old new c r) cells h

@@ -9,7 +9,8 @@ use Rattle.std.proofs.lemmas.List.{take-append-drop}
 use Rattle.std.proofs.lemmas.Bool.Decides.{nat_tests}
 use Rattle.memchr.specs.Find.{Nowhere, Passes, is_byte}
 use Rattle.pl_cells.specs.Integers.{is_digits, number_after, number_of, only_within, signed}
-use Rattle.pl_cells.specs.Decimals.{before_point, behind_point, are_zeros, is_decimal, scaled, scaled_below, decimal_of, read_on}
+use Rattle.pl_cells.specs.Decimals.{before_point, behind_point, are_zeros, is_decimal, scaled, decimal_of}
+use Rattle.pl_cells.specs.DecimalParts.{scaled_below, read_on}
 use Rattle.pl_cells.proofs.IntegerLaws.{number_after-append, number_after-take, number_after-zeros, all_ascii_digits-append, all_ascii_digits_spoilt, is_digits-cons, and_true}
 
 take_append : (xs ys : List ℕ) → take (length xs) (xs ++ ys) ≡ xs

@@ -9,18 +9,17 @@ use Rattle.std.proofs.lemmas.List.Folds.{list_any-append}
 use Rattle.std.proofs.lemmas.Slice.Eq.{bytes_eq-Decides}
 use Rattle.pl_frame.specs.declared.data_type.DataType.{DataType}
 use Rattle.pl_frame.specs.declared.data_type.DataType.TheVariants as dtype
-use Rattle.pl_frame.specs.declared.error.FaultKind.TheVariants as fault
+use Rattle.pl_cells.specs.Faults as fault
 use Rattle.pl_frame.specs.Categories.{decoded}
 use Rattle.pl_frame.specs.Columns.{text_cells, misfits, HoldsType}
 use Rattle.pl_frame.specs.Frame.{Scalar, Letters}
 use Rattle.pl_frame.proofs.CategoryLaws.{decoded-value, codes-value, known}
 use Rattle.pl_frame.proofs.CellLaws.{category_holds}
 use Rattle.pl_frame.proofs.SchemaLaws.{none_passes}
-use Rattle.pl_cells.specs.Buffers.{EnumValue, ArePlaces}
-use Rattle.pl_cells.specs.Cells.{enum_cell}
-use Rattle.pl_cells.specs.Values.{is_among}
+use Rattle.pl_cells.specs.EnumPlaces.{EnumValue, ArePlaces}
+use Rattle.pl_cells.specs.Cells.{Cell, category_cell}
 
-abbrev enum_of : List (List ℕ) → List (Option (List ℕ)) → EnumValue
+abbrev pub enum_of : List (List ℕ) → List (Option (List ℕ)) → EnumValue
 enum_of categories texts = record { categories = categories; texts = texts }
 
 -- one value more of a type
@@ -60,34 +59,17 @@ text_after (Err wrong) old d cs new t k is at ok = tt
 
 -- ---- cells
 
-same_either_way : (a b : List ℕ) → bytes_eq a b ≡ bytes_eq b a
-same_either_way a b = by (bytes_eq a b) (bytes_eq b a) refl refl
-  where
-    by : (s t : Bool) → bytes_eq a b ≡ s → bytes_eq b a ≡ t → bytes_eq a b ≡ bytes_eq b a
-    by true true e h = e ∙ sym h
-    by false false e h = e ∙ sym h
-    by true false e h = let there = (bytes_eq-Decides b a).1 (sym ((bytes_eq-Decides a b).0 e)) in absurd (cc)
-    by false true e h = let there = (bytes_eq-Decides a b).1 (sym ((bytes_eq-Decides b a).0 h)) in absurd (cc)
+-- the cell of a text, by whether it is UTF-8 and among the categories
+abbrev cell_by : List ℕ → Bool → Bool → Cell
+cell_by text valid among =
+    if valid then (elim (option_map Letters (if among then Some text else None)) [ None ↦ Err fault.Value | Some value ↦ Ok (Some value) ]) else Err fault.Utf8
 
-either : (b r : Bool) → (if b then true else r) ≡ (b || r)
-either true r = refl
-either false r = refl
-
-any_one : (p : List ℕ → Bool) (x : List ℕ) → list_any p (x ∷ []) ≡ p x
-any_one p x = grind (arith, common_steps)
-
-among_any : (d : List (List ℕ)) (text : List ℕ) → is_among d text ≡ list_any (bytes_eq text) d
-among_any [] text = refl
-among_any (x ∷ d) text =
-    ap (λ (b : Bool). if b then true else is_among d text) (same_either_way x text) ∙ either (bytes_eq text x) (is_among d text)
-    ∙ ap (λ (r : Bool). bytes_eq text x || r) (among_any d text) ∙ ap (λ (b : Bool). b || list_any (bytes_eq text) d) (sym (any_one (bytes_eq text) x)) ∙ sym (list_any-append (bytes_eq text) (x ∷ []) d)
-
-pub enum_some : (d : List (List ℕ)) (text t : List ℕ) (k : ℕ) → is_utf8 text ≡ true → t ≡ text → position (bytes_eq t) d ≡ Some k → enum_cell d text ≡ Ok (Some (Letters text))
+pub enum_some : (d : List (List ℕ)) (text t : List ℕ) (k : ℕ) → is_utf8 text ≡ true → t ≡ text → position (bytes_eq t) d ≡ Some k → category_cell (dtype.Enum (Some d)) text ≡ Ok (Some (Letters text))
 enum_some d text t k u same at =
-    let there : is_among d text ≡ true = among_any d text ∙ known d text k (ap (λ (l : List ℕ). position (bytes_eq l) d) (sym same) ∙ at) in
-    rw (u, there) refl
+    let there : list_any (bytes_eq text) d ≡ true = known d text k (ap (λ (l : List ℕ). position (bytes_eq l) d) (sym same) ∙ at) in
+    (λ j. cell_by text (u j) (there j))
 
-pub enum_none : (d : List (List ℕ)) (text t : List ℕ) → is_utf8 text ≡ true → t ≡ text → position (bytes_eq t) d ≡ None → enum_cell d text ≡ Err fault.Value
+pub enum_none : (d : List (List ℕ)) (text t : List ℕ) → is_utf8 text ≡ true → t ≡ text → position (bytes_eq t) d ≡ None → category_cell (dtype.Enum (Some d)) text ≡ Err fault.Value
 enum_none d text t u same at =
-    let absent : is_among d text ≡ false = among_any d text ∙ none_passes (bytes_eq text) d (ap (λ (l : List ℕ). position (bytes_eq l) d) (sym same) ∙ at) in
-    rw (u, absent) refl
+    let absent : list_any (bytes_eq text) d ≡ false = none_passes (bytes_eq text) d (ap (λ (l : List ℕ). position (bytes_eq l) d) (sym same) ∙ at) in
+    (λ j. cell_by text (u j) (absent j))

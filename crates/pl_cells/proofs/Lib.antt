@@ -1,5 +1,6 @@
 pub mod BufferLaws
 pub mod CastLaws
+pub mod CutLaws
 pub mod DateLaws
 pub mod DecimalLaws
 pub mod EnumLaws

@@ -5,7 +5,7 @@ use Rattle.std.specs.Str.{is_utf8, chars}
 use Rattle.std.specs.Char.{encode_utf8}
 use Rattle.pl_frame.specs.declared.data_type.DataType.{DataType}
 use Rattle.pl_frame.specs.declared.data_type.DataType.TheVariants as dtype
-use Rattle.pl_frame.specs.declared.error.FaultKind.TheVariants as fault
+use Rattle.pl_cells.specs.Faults as fault
 use Rattle.pl_frame.specs.Frame.{Truth, Number, Letters}
 use Rattle.pl_cells.specs.declared.utf8.CsvEncoding.TheVariants as encoding
 use Rattle.pl_cells.specs.Values.{value_of_text}

@@ -1,15 +1,12 @@
 -- What a buffer holds, and what a cell adds to it (docs/types.md, "Buffers").
-use Rattle.std.specs.Prelude.{◌≡◌, ℕ, ◌++◌, Bool, true, false, if◌then◌else◌, List, [], ◌∷◌, Option, None, Some, Result, Ok, Err}
+use Rattle.std.specs.Prelude.{◌≡◌, ℕ, ◌++◌, Bool, true, false, if◌then◌else◌, List, [], ◌∷◌, take, Option, None, Some, Result, Ok, Err}
 use Rattle.pl_frame.specs.declared.data_type.DataType.{DataType}
-use Rattle.pl_frame.specs.declared.data_type.DataType.TheVariants as dtype
-use Rattle.pl_frame.specs.declared.error.FaultKind.TheVariants as fault
-use Rattle.pl_frame.specs.Categories.{AreCodes, decoded}
-use Rattle.pl_frame.specs.Columns.{text_cells, HoldsType}
-use Rattle.pl_frame.specs.Frame.{Scalar, Letters, ColumnValue}
+use Rattle.pl_frame.specs.Frame.{Scalar, ColumnValue}
 use Rattle.pl_cells.specs.declared.cell_fault.CellFault.{CellFault}
 use Rattle.pl_cells.specs.declared.cell_fault.CellFault.TheVariants as cell_fault
 use Rattle.pl_cells.specs.declared.utf8.CsvEncoding.{CsvEncoding}
-use Rattle.pl_cells.specs.Cells.{Cell, Reading, plain_field_cell, field_cell}
+use Rattle.pl_cells.specs.Cells.{Cell, Reading}
+use Rattle.pl_cells.specs.Faults as fault
 
 -- a column that is being read: its name, its type, how its texts are read, and its cells so far
 pub record BufferValue : Type 0 where
@@ -23,30 +20,36 @@ pub record BufferValue : Type 0 where
 abbrev pub column_of : BufferValue → ColumnValue
 column_of buffer = record { name = buffer.name; dtype = buffer.dtype; values = buffer.values }
 
--- the same with one cell more
-abbrev pub with_value : BufferValue → Option Scalar → BufferValue
-with_value buffer value = record {
+-- the same with these cells
+abbrev pub holding : BufferValue → List (Option Scalar) → BufferValue
+holding buffer values = record {
   name = buffer.name;
   dtype = buffer.dtype;
   quote_char = buffer.quote_char;
   encoding = buffer.encoding;
-  values = buffer.values ++ value ∷ [];
+  values = values;
 }
+
+-- the same with these cells more, and with one more
+abbrev pub with_values : BufferValue → List (Option Scalar) → BufferValue
+with_values buffer more = holding buffer (buffer.values ++ more)
+
+abbrev pub with_value : BufferValue → Option Scalar → BufferValue
+with_value buffer value = with_values buffer (value ∷ [])
+
+-- the same with the first so many of its cells, or with all if there are fewer
+abbrev pub cut_to : ℕ → BufferValue → BufferValue
+cut_to len buffer = holding buffer (take len buffer.values)
+
+-- how texts of an encoding are read
+abbrev pub reading_with : CsvEncoding → Bool → Bool → Reading
+reading_with encoding missing_is_null ignore_errors = record { encoding = encoding; missing_is_null = missing_is_null; ignore_errors = ignore_errors }
 
 -- how a buffer reads
 abbrev pub reading_of : BufferValue → Bool → Bool → Reading
-reading_of buffer missing_is_null ignore_errors = record { encoding = buffer.encoding; missing_is_null = missing_is_null; ignore_errors = ignore_errors }
+reading_of buffer missing_is_null ignore_errors = reading_with buffer.encoding missing_is_null ignore_errors
 
--- the cell of a field without its carriage return, given whether it begins with the quote; where there is no quote none does
-abbrev pub given_cell : Reading → Option ℕ → DataType → Bool → List ℕ → Cell
-given_cell reading None type is_quoted field = plain_field_cell reading type field
-given_cell reading (Some q) type is_quoted field = field_cell reading q type is_quoted field
-
--- the buffer has the cell's value at its end
-pub record AddsCell (old new : BufferValue) (c : Cell) : Type 0 where
-  pub value : Option Scalar
-  pub is : c ≡ Ok value
-  pub pushed : new ≡ with_value old value
+-- ---- what a cell adds
 
 -- the cell has the fault, or memory was wanting
 abbrev pub IsCellFault : CellFault → Cell → Type 0
@@ -61,39 +64,20 @@ is_ignored true cell_fault.Utf8 = true
 is_ignored true cell_fault.Value = true
 is_ignored _ wrong = false
 
--- the cell was added, or it has the fault that is answered and nothing changed
-abbrev pub Answers : {T : Type 0} → BufferValue → BufferValue → Cell → Result T CellFault → Type 0
-Answers old new c (Ok done) = AddsCell old new c
-Answers old new c (Err wrong) = IsCellFault wrong c × (new ≡ old)
-
--- ---- lists of values
-
--- how texts of an encoding are read
-abbrev pub reading_with : CsvEncoding → Bool → Bool → Reading
-reading_with encoding missing_is_null ignore_errors = record { encoding = encoding; missing_is_null = missing_is_null; ignore_errors = ignore_errors }
-
--- the list has the cell's value at its end
-pub record AddsValue (old new : List (Option Scalar)) (c : Cell) : Type 0 where
+-- the cell has a value, which stands at the end
+pub record Adds {B : Type 0} (push : B → Option Scalar → B) (old new : B) (c : Cell) : Type 0 where
   pub value : Option Scalar
   pub is : c ≡ Ok value
-  pub pushed : new ≡ old ++ value ∷ []
+  pub pushed : new ≡ push old value
 
--- the cell was added to the list, or it has the fault that is answered and nothing changed
+-- the cell was added, or it has the fault that is answered and nothing changed
+abbrev pub AnswersBy : {B T : Type 0} → (B → Option Scalar → B) → B → B → Cell → Result T CellFault → Type 0
+AnswersBy push old new c (Ok done) = Adds push old new c
+AnswersBy push old new c (Err wrong) = IsCellFault wrong c × (new ≡ old)
+
+-- the same of a buffer, and of its values
+abbrev pub Answers : {T : Type 0} → BufferValue → BufferValue → Cell → Result T CellFault → Type 0
+Answers old new c result = AnswersBy with_value old new c result
+
 abbrev pub ListAnswers : {T : Type 0} → List (Option Scalar) → List (Option Scalar) → Cell → Result T CellFault → Type 0
-ListAnswers old new c (Ok done) = AddsValue old new c
-ListAnswers old new c (Err wrong) = IsCellFault wrong c × (new ≡ old)
-
--- the value of a missing text: none, or the empty text where the column holds strings and missing ones are not null
-abbrev pub missing_value : Bool → DataType → Option Scalar
-missing_value is_null dtype.String = if is_null then None else Some (Letters [])
-missing_value is_null type = None
-
--- an enum's categories, and texts among them
-pub record EnumValue : Type 0 where
-  pub categories : List (List ℕ)
-  pub texts : List (Option (List ℕ))
-
--- each code is the place of its text among the categories, and each text is one of their enum
-pub record ArePlaces (categories : List (List ℕ)) (places : List (Option ℕ)) : Type 0 where
-  pub codes : AreCodes categories places
-  pub held : HoldsType (dtype.Enum (Some categories)) (text_cells (decoded categories places))
+ListAnswers old new c result = AnswersBy (λ values value. values ++ value ∷ []) old new c result

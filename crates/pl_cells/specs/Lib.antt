@@ -4,8 +4,12 @@ pub mod Buffers
 pub mod Casts
 pub mod Cells
 pub mod Dates
+pub mod DecimalParts
 pub mod Decimals
+pub mod EnumPlaces
+pub mod Faults
 pub mod Integers
+pub mod NullTest
 pub mod NullValues
 pub mod Quoting
 pub mod Times

@@ -1,5 +1,8 @@
 -- Texts that mean null, in all columns or by name (docs/types.md, "Null values").
-use Rattle.std.specs.Prelude.{◌≡◌, ◌≤◌, ℕ, Bool, not, if◌then◌else◌, List, [], ◌∷◌, length, map, find, Option, None, Some, is_some, slice_get}
+use Rattle.std.specs.Prelude.{◌≡◌, ◌≤◌, ℕ, Bool, false, ◌&&◌, not, if◌then◌else◌, List, [], ◌∷◌, length, map, find, Option, None, Some, is_some, slice_get}
+use Rattle.std.specs.Borrow.{Bor}
+use Rattle.std.specs.Cmp.{IsEquivalence, and_equiv, on_equiv}
+use Rattle.std.specs.Cmp.Lexicographic.{nat_list_eq_equiv}
 use Rattle.std.specs.List.{list_any}
 use Rattle.std.specs.Option.{option_map, unwrap_or}
 use Rattle.std.specs.Str.{bytes_eq}
@@ -10,10 +13,19 @@ use Rattle.pl_cells.specs.declared.null_values.NullValues.{NullValues}
 use Rattle.pl_cells.specs.declared.null_values.NullValues.TheVariants as values
 use Rattle.pl_cells.specs.declared.null_values.NullValuesCompiled.{NullValuesCompiled}
 use Rattle.pl_cells.specs.declared.null_values.NullValuesCompiled.TheVariants as compiled
+use Rattle.pl_cells.specs.NullTest.{NullTest}
 
 -- names with their texts, in order
 abbrev pub NamedTexts : Type 0
 NamedTexts = List (List ℕ × List ℕ)
+
+-- the same text under the same name
+abbrev pub entries_equal : List ℕ × List ℕ → List ℕ × List ℕ → Bool
+entries_equal a b = bytes_eq a.0 b.0 && bytes_eq a.1 b.1
+
+-- which is an equivalence, as the trait asks
+pub entries_equiv : IsEquivalence entries_equal
+entries_equiv = and_equiv (on_equiv (λ (entry : List ℕ × List ℕ). entry.0) nat_list_eq_equiv) (on_equiv (λ (entry : List ℕ × List ℕ). entry.1) nat_list_eq_equiv)
 
 -- the text of a name's last entry, or else another
 abbrev pub text_under : List ℕ → NamedTexts → List ℕ → List ℕ
@@ -65,3 +77,13 @@ abbrev pub HasColumns : NullValuesCompiled → ℕ → Type 0
 HasColumns (compiled.AllColumnsSingle text) columns = Unit {0}
 HasColumns (compiled.AllColumns texts) columns = Unit {0}
 HasColumns (compiled.Columns texts) columns = columns ≤ length texts
+
+-- a text means null in a column, where there are texts that do
+abbrev pub means_null : Option NullValuesCompiled → ℕ → NullTest
+means_null None column text = false
+means_null (Some nulls) column text = is_null_text nulls column text
+
+-- every column below this number has its texts, where there are such
+abbrev pub HaveTexts : Option (Bor NullValuesCompiled) → ℕ → Type 0
+HaveTexts None columns = Unit {0}
+HaveTexts (Some nulls) columns = HasColumns nulls.now columns

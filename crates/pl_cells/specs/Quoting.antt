@@ -1,10 +1,15 @@
 -- The text of a field (RFC 4180, section 2, rules 5 to 7; docs/grammar.md, "The text of a field").
-use Rattle.std.specs.Prelude.{ℕ, ◌-◌, Bool, true, false, ◌&&◌, ◌==◌, nat_eq, nat_le, if◌then◌else◌, List, [], ◌∷◌, length, take, drop}
+use Rattle.std.specs.Prelude.{ℕ, ◌-◌, Bool, true, false, ◌&&◌, ◌==◌, nat_eq, nat_le, if◌then◌else◌, List, [], ◌∷◌, length, take, drop, Option, None}
 use Rattle.std.specs.List.{ends_with}
+use Rattle.pl_scan.specs.Fields.{begins_quoted}
 
 -- without one carriage return at the end
 abbrev pub strip : List ℕ → List ℕ
 strip f = if ends_with nat_eq f (13 ∷ []) then take (length f - 1) f else f
+
+-- the quote, where a field begins with it
+abbrev pub quote_of : Option ℕ → List ℕ → Option ℕ
+quote_of quote field = if begins_quoted quote field then quote else None
 
 -- at least two bytes, of which the last is the quote
 abbrev pub is_well_quoted : ℕ → List ℕ → Bool

@@ -1,5 +1,6 @@
 -- The value of a text, for each type (docs/types.md, "Values").
-use Rattle.std.specs.Prelude.{ℕ, ℤ, pos, Bool, true, false, if◌then◌else◌, List, [], ◌∷◌, Option, None, Some}
+use Rattle.std.specs.Prelude.{ℕ, ℤ, pos, if◌then◌else◌, List, Option, None, Some}
+use Rattle.std.specs.List.{list_any}
 use Rattle.std.specs.Option.{option_map}
 use Rattle.std.specs.Str.{bytes_eq}
 use Rattle.pl_frame.specs.declared.data_type.DataType.{DataType}
@@ -12,14 +13,9 @@ use Rattle.pl_cells.specs.Dates.{date_value}
 use Rattle.pl_cells.specs.Times.{time_value, datetime_value}
 use Rattle.pl_cells.specs.Decimals.{decimal_value}
 
--- the text is one of these
-abbrev pub is_among : List (List ℕ) → List ℕ → Bool
-is_among [] text = false
-is_among (category ∷ categories) text = if bytes_eq category text then true else is_among categories text
-
 -- a text that is one of the categories
 abbrev pub category_value : List (List ℕ) → List ℕ → Option (List ℕ)
-category_value categories text = if is_among categories text then Some text else None
+category_value categories text = if list_any (bytes_eq text) categories then Some text else None
 
 -- the number of a text of a type that holds numbers
 abbrev pub number_value : DataType → List ℕ → Option ℤ

@@ -4,7 +4,7 @@ ghost use Rattle.pl_cells.specs.Booleans.{boolean_value};
 
 /// The truth value that a text writes: `true` or `false`, in any case of the letters.
 #[inline]
-pub fn parse_boolean(text: &[u8]) -> Option<bool>
+pub(crate) fn parse_boolean(text: &[u8]) -> Option<bool>
     ensures { result ≡ boolean_value text.now }
 {
     if text.eq_ignore_ascii_case(b"true") {

@@ -1,17 +1,22 @@
 //! Buffers into which cells are read, one variant for each type that can be read.
-ghost use Rattle.std.specs.Prelude.{◌≡◌, Bool, [], true, not, length, IfOk, IsOk, OnOk, OnErr, IsOkUnless};
+ghost use Rattle.std.specs.Prelude.{◌≡◌, Bool, [], true, not, if◌then◌else◌, length, None, suc, IfOk, IsOk, OnOk, OnErr, IsOkUnless};
+ghost use Rattle.std.specs.Option.{option_copied};
 ghost use Rattle.pl_frame.specs.declared.error.PolarsError.TheVariants as error;
 ghost use Rattle.pl_frame.specs.Types.{is_readable, is_readable_decimal};
-ghost use Rattle.pl_cells.specs.Buffers.{Answers, with_value, missing_value, reading_of, column_of, given_cell};
+ghost use Rattle.pl_cells.specs.Buffers.{Answers, with_value, cut_to, reading_of, column_of};
 ghost use Rattle.pl_cells.specs.BufferState.{state_of, empty_buffer};
-ghost use Rattle.pl_cells.specs.Cells.{plain_field_cell, quoted_cell, quoted_field_cell, softened};
+ghost use Rattle.pl_cells.specs.Cells.{missing_value, cell, stripped_cell, plain_cell, quoted_cell, softened};
+ghost use Rattle.pl_cells.specs.NullTest.{nothing_is_null};
+ghost use Rattle.pl_cells.specs.NullValues.{HaveTexts, means_null};
 
 use crate::cell_fault::CellFault;
 use crate::column_settings::ColumnSettings;
 use crate::decimal_type::Decimal;
 use crate::enum_texts::EnumTexts;
 use crate::moment_types::{Date, Datetime, Time};
-use crate::quoting::between_quotes;
+use crate::null_test::is_null_cell;
+use crate::null_values::NullValuesCompiled;
+use crate::quoting::{between_quotes, quote_of, without_return};
 use crate::text_buffer::TextBuffer;
 use crate::value_buffer::ValueBuffer;
 use crate::value_types::Boolean;
@@ -47,7 +52,11 @@ pub enum Buffer {
 
 impl Buffer {
     // An empty buffer for a type that can be read.
-    pub fn new(alloc: Global, settings: ColumnSettings, dtype: &DataType) -> PolarsResult<Buffer>
+    pub(crate) fn new(
+        alloc: Global,
+        settings: ColumnSettings,
+        dtype: &DataType,
+    ) -> PolarsResult<Buffer>
         requires { is_readable dtype.now ≡ true }
         ensures empty { IfOk result (λ buffer. state_of buffer ≡ empty_buffer settings.quote_char settings.encoding (settings.name, dtype.now)) }
         ensures refused { IsOkUnless result error.OutOfMemory }
@@ -123,7 +132,7 @@ impl Buffer {
         ignore_errors: bool,
         missing_is_null: bool,
     ) -> Result<(), CellFault>
-        ensures { Answers (state_of self.old) (state_of self.new) (plain_field_cell (reading_of (state_of self.old) missing_is_null ignore_errors) (state_of self.old).dtype text.now) result }
+        ensures { Answers (state_of self.old) (state_of self.new) (softened ignore_errors (plain_cell (reading_of (state_of self.old) missing_is_null ignore_errors) (state_of self.old).dtype text.now)) result }
     {
         match self {
             Buffer::Boolean(buffer) => buffer.add_plain(text, ignore_errors, missing_is_null),
@@ -171,18 +180,36 @@ impl Buffer {
         }
     }
 
-    // Puts the cell of a field at the end that begins with the quote.
+    // Puts the cell of a field at the end that begins with the quote, and is none of the null texts.
     fn add_quoted_field(
         &mut self,
         field: &[u8],
         quote: u8,
         ignore_errors: bool,
     ) -> Result<(), CellFault>
-        ensures { Answers (state_of self.old) (state_of self.new) (quoted_field_cell (reading_of (state_of self.old) true ignore_errors) quote (state_of self.old).dtype field.now) result }
+        ensures { Answers (state_of self.old) (state_of self.new) (stripped_cell (reading_of (state_of self.old) true ignore_errors) nothing_is_null (Some quote) (state_of self.old).dtype field.now) result }
     {
         match between_quotes(field, quote) {
             Some(text) => self.add_quoted(text, quote, ignore_errors),
             None => Err(CellFault::Escape),
+        }
+    }
+
+    // Puts the cell of a field at the end that has lost its carriage return and is none of the null texts, given the quote
+    // that it begins with.
+    #[inline]
+    fn add_stripped(
+        &mut self,
+        text: &[u8],
+        quote: Option<u8>,
+        ignore_errors: bool,
+        missing_is_null: bool,
+    ) -> Result<(), CellFault>
+        ensures { Answers (state_of self.old) (state_of self.new) (stripped_cell (reading_of (state_of self.old) missing_is_null ignore_errors) nothing_is_null quote (state_of self.old).dtype text.now) result }
+    {
+        match quote {
+            Some(quote) => self.add_quoted_field(text, quote, ignore_errors),
+            None => self.add_plain(text, ignore_errors, missing_is_null),
         }
     }
 
@@ -200,15 +227,41 @@ impl Buffer {
         needs_escaping: bool,
         missing_is_null: bool,
     ) -> Result<(), CellFault>
-        ensures { Answers (state_of self.old) (state_of self.new) (given_cell (reading_of (state_of self.old) missing_is_null ignore_errors) (state_of self.old).quote_char (state_of self.old).dtype needs_escaping bytes.now) result }
+        ensures { Answers (state_of self.old) (state_of self.new) (stripped_cell (reading_of (state_of self.old) missing_is_null ignore_errors) nothing_is_null (if needs_escaping then (state_of self.old).quote_char else None) (state_of self.old).dtype bytes.now) result }
     {
-        if !needs_escaping {
-            return self.add_plain(bytes, ignore_errors, missing_is_null);
+        let quote = if needs_escaping {
+            self.quote_char()
+        } else {
+            None
+        };
+        self.add_stripped(bytes, quote, ignore_errors, missing_is_null)
+    }
+
+    /// Puts the cell of a field at the end, in a column in which some texts mean null. `quote_char` is the buffer's, and
+    /// under `Columns` there must be texts for so many columns.
+    ///
+    /// Refuses as `add` does, and is then as it was.
+    #[inline]
+    pub fn add_field(
+        &mut self,
+        field: &[u8],
+        quote_char: Option<u8>,
+        null_values: Option<&NullValuesCompiled>,
+        column: usize,
+        ignore_errors: bool,
+        missing_is_null: bool,
+    ) -> Result<(), CellFault>
+        requires quote { quote_char ≡ (state_of self.old).quote_char }
+        requires texts { HaveTexts null_values (suc column) }
+        ensures { Answers (state_of self.old) (state_of self.new) (cell (reading_of (state_of self.old) missing_is_null ignore_errors) (means_null (option_copied null_values.entry) column) quote_char (state_of self.old).dtype field.now) result }
+    {
+        let quote = quote_of(field, quote_char);
+        let text = without_return(field);
+        if is_null_cell(null_values, text, column, quote) {
+            self.add_missing(true)?;
+            return Ok(());
         }
-        match self.quote_char() {
-            Some(quote) => self.add_quoted_field(bytes, quote, ignore_errors),
-            None => self.add_plain(bytes, ignore_errors, missing_is_null),
-        }
+        self.add_stripped(text, quote, ignore_errors, missing_is_null)
     }
 
     /// Puts a null at the end, or, where it is `valid` and the column holds strings, the empty text. Refuses only want of
@@ -274,6 +327,31 @@ impl Buffer {
             Buffer::Time(buffer) => buffer.reserve(additional),
             Buffer::Datetime(buffer) => buffer.reserve(additional),
             Buffer::Decimal(buffer) => buffer.reserve(additional),
+        }
+    }
+
+    /// Keeps so many cells, or all if there are fewer, without taking memory.
+    pub fn truncate(&mut self, len: usize)
+        ensures { state_of self.new ≡ cut_to len (state_of self.old) }
+    {
+        match self {
+            Buffer::Boolean(buffer) => buffer.truncate(len),
+            Buffer::Int8(buffer) => buffer.truncate(len),
+            Buffer::Int16(buffer) => buffer.truncate(len),
+            Buffer::Int32(buffer) => buffer.truncate(len),
+            Buffer::Int64(buffer) => buffer.truncate(len),
+            Buffer::Int128(buffer) => buffer.truncate(len),
+            Buffer::UInt8(buffer) => buffer.truncate(len),
+            Buffer::UInt16(buffer) => buffer.truncate(len),
+            Buffer::UInt32(buffer) => buffer.truncate(len),
+            Buffer::UInt64(buffer) => buffer.truncate(len),
+            Buffer::String(buffer) => buffer.truncate(len),
+            Buffer::Categorical(buffer) => buffer.truncate(len),
+            Buffer::Enum(buffer) => buffer.truncate(len),
+            Buffer::Date(buffer) => buffer.truncate(len),
+            Buffer::Time(buffer) => buffer.truncate(len),
+            Buffer::Datetime(buffer) => buffer.truncate(len),
+            Buffer::Decimal(buffer) => buffer.truncate(len),
         }
     }
 

@@ -209,6 +209,8 @@ mod tests {
         assert_eq!(rt; buffer.len(), 0);
         assert_eq!(rt; fault(&mut buffer, b" 5"), None);
         assert!(rt; buffer.add_null(true).is_ok());
+        assert_eq!(rt; fault(&mut buffer, b"6"), None);
+        buffer.truncate(2);
         assert!(rt; buffer.dtype().expect(&rt, "a type") == DataType::Int64);
         assert!(rt; is_int64(&rt, rt.alloc(), &series(&rt, buffer), 5));
     }
@@ -228,6 +230,8 @@ mod tests {
         let mut buffer = buffer_of(&rt, rt.alloc(), DataType::Categorical);
         assert_eq!(rt; fault(&mut buffer, b"\"\""), None);
         assert!(rt; buffer.add(b"", false, false, false).is_ok());
+        assert_eq!(rt; fault(&mut buffer, b"q"), None);
+        buffer.truncate(2);
         assert!(rt; is_category(&rt, rt.alloc(), &series(&rt, buffer), ""));
     }
 }

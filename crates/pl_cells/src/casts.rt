@@ -391,6 +391,15 @@ mod tests {
         );
         assert_eq!(rt; value_of(&rt, rt.alloc(), "+7", DataType::Int8), Some(7));
         assert_eq!(rt; value_of(&rt, rt.alloc(), "-1", DataType::UInt64), None);
+        let greatest = "18446744073709551615";
+        assert_eq!(rt;
+            value_of(&rt, rt.alloc(), greatest, DataType::UInt64),
+            Some(u64::MAX as i128)
+        );
+        assert_eq!(rt;
+            value_of(&rt, rt.alloc(), greatest, DataType::Int128),
+            Some(u64::MAX as i128)
+        );
         assert_eq!(rt; value_of(&rt, rt.alloc(), " 7", DataType::Int64), None);
         assert_eq!(rt; value_of(&rt, rt.alloc(), "", DataType::Int64), None);
         assert_eq!(rt;

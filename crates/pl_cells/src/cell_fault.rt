@@ -30,7 +30,7 @@ impl From<AllocError> for CellFault {
 impl CellFault {
     /// Whether the cell is null instead, which is so for some faults where errors are ignored.
     #[inline]
-    pub fn is_ignored(self, ignore_errors: bool) -> bool
+    pub(crate) fn is_ignored(self, ignore_errors: bool) -> bool
         ensures { result ≡ is_ignored ignore_errors self }
     {
         ignore_errors && matches!(self, CellFault::Utf8 | CellFault::Value)

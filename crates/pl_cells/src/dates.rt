@@ -8,7 +8,7 @@ use jiff_core::civil::Date;
 
 /// The number that two digits write.
 #[inline]
-pub fn two_digits(text: &[u8], start: usize) -> Option<u8>
+pub(crate) fn two_digits(text: &[u8], start: usize) -> Option<u8>
     requires { start + 2 ≤ length text.now }
     ensures value { result ≡ digits_value (part start 2 text.now) }
     ensures small { IfSome result (λ n. n < 100) }

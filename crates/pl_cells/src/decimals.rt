@@ -2,8 +2,10 @@
 ghost use Rattle.std.specs.Prelude.{◌≡◌, ◌+◌, ◌++◌, ◌^◌, ◌≤◌, ◌-◌, length, neg_ℤ, pos, true, IfSome, unwrap_or, nat_lt, take, drop, Some};
 ghost use Rattle.pl_frame.specs.Types.{is_readable_decimal, from_to, is_within, decimal_range};
 ghost use Rattle.pl_cells.specs.Integers.{is_negative, without_sign, signed, only_within};
+ghost use Rattle.pl_cells.specs.DecimalParts as parts;
 ghost use Rattle.pl_cells.specs.Decimals as spec;
-ghost use Rattle.pl_cells.specs.Decimals.{before_point, behind_point, scaled_below, decimal_value};
+ghost use Rattle.pl_cells.specs.Decimals.{before_point, behind_point, decimal_value};
+ghost use Rattle.pl_cells.specs.DecimalParts.{scaled_below};
 
 use crate::integers::split_sign;
 use memchr::memchr;
@@ -36,7 +38,7 @@ fn are_zeros(text: &[u8]) -> bool
 
 // The number of the digits that follow those of a number, where it fits 64 bits.
 fn read_on_short(number: u64, digits: &[u8]) -> Option<u64>
-    ensures { result ≡ spec.read_on (2 ^ 64) number digits.now }
+    ensures { result ≡ parts.read_on (2 ^ 64) number digits.now }
 {
     let mut all = number;
     for byte in digits {
@@ -50,7 +52,7 @@ fn read_on_short(number: u64, digits: &[u8]) -> Option<u64>
 
 // The same in 128 bits.
 fn read_on(number: u128, digits: &[u8]) -> Option<u128>
-    ensures { result ≡ spec.read_on (2 ^ 128) number digits.now }
+    ensures { result ≡ parts.read_on (2 ^ 128) number digits.now }
 {
     let mut all = number;
     for byte in digits {
@@ -64,7 +66,7 @@ fn read_on(number: u128, digits: &[u8]) -> Option<u128>
 
 // The number of the digits of one text and then another, where it fits 64 bits.
 fn read_both_short(whole: &[u8], fraction: &[u8]) -> Option<u64>
-    ensures { result ≡ spec.read_on (2 ^ 64) 0 (whole.now ++ fraction.now) }
+    ensures { result ≡ parts.read_on (2 ^ 64) 0 (whole.now ++ fraction.now) }
 {
     let number = read_on_short(0, whole)?;
     read_on_short(number, fraction)
@@ -72,7 +74,7 @@ fn read_both_short(whole: &[u8], fraction: &[u8]) -> Option<u64>
 
 // The same in 128 bits.
 fn read_both_wide(whole: &[u8], fraction: &[u8]) -> Option<u128>
-    ensures { result ≡ spec.read_on (2 ^ 128) 0 (whole.now ++ fraction.now) }
+    ensures { result ≡ parts.read_on (2 ^ 128) 0 (whole.now ++ fraction.now) }
 {
     let number = read_on(0, whole)?;
     read_on(number, fraction)
@@ -80,7 +82,7 @@ fn read_both_wide(whole: &[u8], fraction: &[u8]) -> Option<u128>
 
 // The same: most numbers fit 64 bits, where reading is faster.
 fn read_both(whole: &[u8], fraction: &[u8]) -> Option<u128>
-    ensures { result ≡ spec.read_on (2 ^ 128) 0 (whole.now ++ fraction.now) }
+    ensures { result ≡ parts.read_on (2 ^ 128) 0 (whole.now ++ fraction.now) }
 {
     match read_both_short(whole, fraction) {
         Some(number) => Some(u128::from(number)),

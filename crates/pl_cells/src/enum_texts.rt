@@ -1,5 +1,5 @@
 //! Texts among the categories of an enum.
-ghost use Rattle.std.specs.Prelude.{◌≡◌, ◌++◌, ◌∷◌, [], None, Some, position, IfOk, IsOkUnless, OnOk, OnErr};
+ghost use Rattle.std.specs.Prelude.{◌≡◌, ◌++◌, ◌∷◌, [], None, Some, position, take, IfOk, IsOkUnless, OnOk, OnErr};
 ghost use Rattle.std.specs.Str.{bytes_eq};
 ghost use Rattle.pl_frame.specs.declared.data_type.DataType.TheVariants as dtype;
 ghost use Rattle.pl_frame.specs.declared.error.PolarsError.TheVariants as error;
@@ -81,7 +81,7 @@ pub struct EnumTexts {
 
 impl Model for EnumTexts {
     ghost use Rattle.pl_frame.specs.Categories.{decoded};
-    ghost use Rattle.pl_cells.specs.Buffers.{EnumValue, ArePlaces};
+    ghost use Rattle.pl_cells.specs.EnumPlaces.{EnumValue, ArePlaces};
 
     ghost Value = { EnumValue };
 
@@ -92,7 +92,7 @@ impl Model for EnumTexts {
 
 impl EnumTexts {
     /// No texts among these categories. Refuses only want of memory.
-    pub fn new(alloc: Global, categories: Categories) -> PolarsResult<Self>
+    pub(crate) fn new(alloc: Global, categories: Categories) -> PolarsResult<Self>
         requires { first_repeat categories ≡ None }
         ensures empty { IfOk result (λ texts. texts ≡ record { categories = categories; texts = [] }) }
         ensures refused { IsOkUnless result error.OutOfMemory }
@@ -112,6 +112,13 @@ impl EnumTexts {
         ensures err { OnErr result (self.new ≡ self.old) }
     {
         self.places.push(place as u64)
+    }
+
+    // Keeps so many texts, or all if there are fewer.
+    fn truncate(&mut self, len: usize)
+        ensures { self.new ≡ record { categories = self.old.categories; texts = take len self.old.texts } }
+    {
+        self.places.truncate(len)
     }
 
     // The place of a text among the categories.
@@ -141,6 +148,10 @@ impl TextType for EnumTexts {
 
     fn make_room(&mut self, additional: usize) -> Result<(), AllocError> {
         self.places.reserve(additional)
+    }
+
+    fn cut_back(&mut self, len: usize) {
+        self.truncate(len)
     }
 
     #[inline]

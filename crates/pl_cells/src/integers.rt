@@ -87,7 +87,7 @@ fn number_of_wide(digits: &[u8]) -> Option<u128>
 
 // Whether a minus stands in front, and what stands behind one sign.
 #[inline]
-pub fn split_sign(text: &[u8]) -> (bool, &[u8])
+pub(crate) fn split_sign(text: &[u8]) -> (bool, &[u8])
     ensures negative { result.0 ≡ is_negative text.now }
     ensures digits { result.1.now ≡ without_sign text.now }
 {
@@ -129,7 +129,7 @@ fn with_wide_sign(negative: bool, number: u128) -> Option<i128>
 }
 
 /// The whole number that a text writes, where it fits 64 bits: an optional sign and one or more ASCII digits.
-pub fn parse_int64(text: &[u8]) -> Option<i64>
+pub(crate) fn parse_int64(text: &[u8]) -> Option<i64>
     ensures { result ≡ int64_value text.now }
 {
     let (negative, digits) = split_sign(text);
@@ -138,7 +138,7 @@ pub fn parse_int64(text: &[u8]) -> Option<i64>
 }
 
 /// The same where the number lies from `low` to `high`, both included.
-pub fn parse_narrow(text: &[u8], low: i64, high: i64) -> Option<i64>
+pub(crate) fn parse_narrow(text: &[u8], low: i64, high: i64) -> Option<i64>
     ensures value { result ≡ signed_value (from_to low high) text.now }
     ensures within { IfSome result (λ n. is_within (from_to low high) n ≡ true) }
 {
@@ -151,7 +151,7 @@ pub fn parse_narrow(text: &[u8], low: i64, high: i64) -> Option<i64>
 }
 
 /// The whole number that a text writes, where it fits 128 bits: an optional sign and one or more ASCII digits.
-pub fn parse_int128(text: &[u8]) -> Option<i128>
+pub(crate) fn parse_int128(text: &[u8]) -> Option<i128>
     ensures { result ≡ signed_value (signed_range 128) text.now }
 {
     let (negative, digits) = split_sign(text);
@@ -160,7 +160,7 @@ pub fn parse_int128(text: &[u8]) -> Option<i128>
 }
 
 /// The whole number from 0 to `high` that a text writes: an optional plus and one or more ASCII digits.
-pub fn parse_unsigned_narrow(text: &[u8], high: i64) -> Option<i64>
+pub(crate) fn parse_unsigned_narrow(text: &[u8], high: i64) -> Option<i64>
     ensures value { result ≡ unsigned_value (from_to (pos 0) high) text.now }
     ensures within { IfSome result (λ n. is_within (from_to (pos 0) high) n ≡ true) }
 {
@@ -172,7 +172,7 @@ pub fn parse_unsigned_narrow(text: &[u8], high: i64) -> Option<i64>
 
 /// The whole number that a text writes, where it fits 64 bits without a sign: an optional plus and one or more ASCII
 /// digits.
-pub fn parse_uint64(text: &[u8]) -> Option<u64>
+pub(crate) fn parse_uint64(text: &[u8]) -> Option<u64>
     ensures { option_map pos result ≡ unsigned_value (unsigned_range 64) text.now }
 {
     match text {

@@ -13,6 +13,7 @@ pub mod decimals;
 pub mod enum_texts;
 pub mod integers;
 pub mod moment_types;
+pub mod null_test;
 pub mod null_values;
 pub mod quoting;
 pub mod text_buffer;

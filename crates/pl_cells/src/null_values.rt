@@ -1,11 +1,13 @@
 //! Texts that mean null.
 ghost use Rattle.std.specs.Prelude.{◌≡◌, ◌++◌, ◌∷◌, [], suc, if◌then◌else◌, None, is_some, IfOk, IfErr, OnOk, IsOkUnless};
 ghost use Rattle.std.specs.Option.{option_map};
+ghost use Rattle.std.specs.Cmp.{partial_equiv_from_equiv};
+ghost use Rattle.std.specs.Cmp.Lexicographic.{lists_equiv, lists_per, nat_list_eq_equiv, pointwise};
 ghost use Rattle.std.specs.List.{list_any};
 ghost use Rattle.std.specs.Str.{bytes_eq};
 ghost use Rattle.pl_frame.specs.Schema.{names_in, place_of};
 ghost use Rattle.pl_frame.specs.declared.error.PolarsError.TheVariants as error;
-ghost use Rattle.pl_cells.specs.NullValues.{text_under, column_texts, compiled_for, unknown_among, unknown_name, IsNameFault, is_null_text, HasColumns};
+ghost use Rattle.pl_cells.specs.NullValues.{text_under, column_texts, compiled_for, unknown_among, unknown_name, IsNameFault, entries_equal, entries_equiv, is_null_text, HasColumns};
 
 use pl_frame::error::{PolarsError, PolarsResult};
 use pl_frame::name::PlSmallStr;
@@ -27,6 +29,21 @@ impl Model for NullTexts {
     ghost view = { λ t. t.texts.items };
 }
 
+// By the bytes of its texts in order.
+impl PartialEq for NullTexts {
+    ghost eq = { pointwise bytes_eq };
+
+    ghost laws = { lists_per (partial_equiv_from_equiv nat_list_eq_equiv) };
+
+    fn eq(&self, other: &NullTexts) -> bool {
+        self.texts == other.texts
+    }
+}
+
+impl Eq for NullTexts {
+    ghost laws = { lists_equiv nat_list_eq_equiv };
+}
+
 /// Names of columns with texts, in order. Contracts see the list of pairs of their bytes.
 #[derive(Debug, Drop)]
 pub struct NamedTexts {
@@ -41,8 +58,23 @@ impl Model for NamedTexts {
     ghost view = { λ t. t.entries.items };
 }
 
+// By the bytes of its names and texts in order.
+impl PartialEq for NamedTexts {
+    ghost eq = { pointwise entries_equal };
+
+    ghost laws = { lists_per (partial_equiv_from_equiv entries_equiv) };
+
+    fn eq(&self, other: &NamedTexts) -> bool {
+        self.entries == other.entries
+    }
+}
+
+impl Eq for NamedTexts {
+    ghost laws = { lists_equiv entries_equiv };
+}
+
 /// Which texts mean null (docs/types.md, "Null values").
-#[derive(Debug, Drop)]
+#[derive(Debug, Drop, PartialEq, Eq)]
 pub enum NullValues {
     /// This text, in every column.
     AllColumnsSingle(PlSmallStr),
@@ -53,7 +85,7 @@ pub enum NullValues {
 }
 
 /// Which texts mean null in the columns of a schema.
-#[derive(Debug, Drop)]
+#[derive(Debug, Drop, PartialEq, Eq)]
 pub enum NullValuesCompiled {
     /// This text, in every column.
     AllColumnsSingle(PlSmallStr),
@@ -69,6 +101,13 @@ impl NullTexts {
         ensures { result ≡ texts.items }
     {
         NullTexts { texts }
+    }
+
+    /// The texts again, without taking memory.
+    pub fn into_texts(self) -> Vec<PlSmallStr>
+        ensures { result.items ≡ self }
+    {
+        self.texts
     }
 
     /// The texts in order, without taking memory.
@@ -97,6 +136,13 @@ impl NamedTexts {
         ensures { result ≡ entries.items }
     {
         NamedTexts { entries }
+    }
+
+    /// The names with texts again, without taking memory.
+    pub fn into_entries(self) -> Vec<(PlSmallStr, PlSmallStr)>
+        ensures { result.items ≡ self }
+    {
+        self.entries
     }
 
     /// The names with their texts, without taking memory.
@@ -340,6 +386,22 @@ mod tests {
         assert_eq!(rt; is_null_in(&compiled, b"NA", 1), Some(false));
         assert_eq!(rt; is_null_in(&compiled, b"", 1), Some(true));
         assert_eq!(rt; is_null_in(&compiled, b"", 2), None);
+        Ok(())
+    }
+
+    #[test]
+    fn null_values_are_compared_and_given_back(rt: HostRuntime) -> Result<(), Fail> {
+        let alloc = rt.alloc();
+        let values = named(alloc, "a")?;
+        let copy = values.try_clone()?;
+        assert!(rt; copy == values);
+        assert!(rt; copy != named(alloc, "b")?);
+        match copy {
+            NullValues::Named(texts) => assert_eq!(rt; texts.into_entries().len(), 2),
+            _ => panic!(rt; "names with texts"),
+        }
+        let texts = vec![in alloc; PlSmallStr::from_str(alloc, "NA")?]?;
+        assert_eq!(rt; NullTexts::new(texts).into_texts().len(), 1);
         Ok(())
     }
 

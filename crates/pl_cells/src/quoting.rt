@@ -1,6 +1,6 @@
 //! The text of a field: without its carriage return, between its quotes, and with doubled quotes undoubled.
-ghost use Rattle.std.specs.Prelude.{◌≡◌, ◌<◌, ◌++◌, ◌∷◌, [], if◌then◌else◌, OnOk, MatchOption, true, false, length, slice_get, Some};
-ghost use Rattle.pl_cells.specs.Quoting.{strip, is_well_quoted, inside, undouble};
+ghost use Rattle.std.specs.Prelude.{◌≡◌, ◌<◌, ◌++◌, ◌∷◌, [], if◌then◌else◌, OnOk, OnErr, MatchOption, true, false, length, slice_get, Some};
+ghost use Rattle.pl_cells.specs.Quoting.{strip, quote_of, is_well_quoted, inside, undouble};
 
 use memchr::memchr;
 use std::alloc::AllocError;
@@ -13,6 +13,17 @@ pub fn without_return(field: &[u8]) -> &[u8]
     match field {
         [front @ .., b'\r'] => front,
         _ => field,
+    }
+}
+
+/// The quote, where the field begins with it.
+#[inline]
+pub fn quote_of(field: &[u8], quote_char: Option<u8>) -> Option<u8>
+    ensures { result ≡ quote_of quote_char field.now }
+{
+    match (field, quote_char) {
+        ([first, ..], Some(quote)) if *first == quote => Some(quote),
+        _ => None,
     }
 }
 
@@ -41,8 +52,8 @@ fn behind_quote(text: &[u8], quote: u8) -> (bool, &[u8])
     }
 }
 
-/// Writes over `to` the text with each two adjacent quotes made one, from the left, and a lone quote dropped.
-pub fn undouble_into(to: &mut Vec<u8>, text: &[u8], quote: u8) -> Result<(), AllocError>
+// Writes over `to` the text with each two adjacent quotes made one, from the left, and a lone quote dropped.
+fn write_undoubled(to: &mut Vec<u8>, text: &[u8], quote: u8) -> Result<(), AllocError>
     ensures { OnOk result (to.new.items ≡ undouble quote text.now) }
 {
     to.clear();
@@ -58,4 +69,17 @@ pub fn undouble_into(to: &mut Vec<u8>, text: &[u8], quote: u8) -> Result<(), All
     }
     to.extend_from_slice(rest)?;
     Ok(())
+}
+
+/// Writes over `to` the text with each two adjacent quotes made one, from the left, and a lone quote dropped. Refuses only
+/// want of memory, and `to` is then empty.
+pub fn undouble_into(to: &mut Vec<u8>, text: &[u8], quote: u8) -> Result<(), AllocError>
+    ensures undoubled { OnOk result (to.new.items ≡ undouble quote text.now) }
+    ensures refused { OnErr result (to.new.items ≡ []) }
+{
+    let written = write_undoubled(to, text, quote);
+    if written.is_err() {
+        to.clear();
+    }
+    written
 }

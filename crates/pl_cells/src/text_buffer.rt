@@ -2,8 +2,8 @@
 ghost use Rattle.std.specs.Prelude.{◌≡◌, ℕ, Bool, true, IsTrue, [], length, OnOk, OnErr, IfOk, IsOkUnless};
 ghost use Rattle.pl_frame.specs.declared.error.PolarsError.TheVariants as error;
 ghost use Rattle.pl_frame.specs.Types.{is_text};
-ghost use Rattle.pl_cells.specs.Buffers.{Answers, ListAnswers, with_value, missing_value, reading_of, reading_with, column_of};
-ghost use Rattle.pl_cells.specs.Cells.{plain_field_cell, quoted_cell, softened, text_cell};
+ghost use Rattle.pl_cells.specs.Buffers.{Answers, ListAnswers, with_value, cut_to, reading_of, reading_with, column_of};
+ghost use Rattle.pl_cells.specs.Cells.{missing_value, plain_cell, quoted_cell, softened, text_cell};
 ghost use Rattle.pl_cells.specs.Quoting.{undouble};
 
 use crate::cell_fault::CellFault;
@@ -71,7 +71,7 @@ fn add_text<L: TextType>(
 
 impl<L: TextType> TextBuffer<L> {
     /// The texts of a list, without taking memory.
-    pub fn new(alloc: Global, settings: ColumnSettings, texts: L) -> Self
+    pub(crate) fn new(alloc: Global, settings: ColumnSettings, texts: L) -> Self
         ensures { result ≡ record { name = settings.name; dtype = L.dtype texts; quote_char = settings.quote_char; encoding = settings.encoding; values = L.values texts } }
     {
         TextBuffer {
@@ -83,14 +83,14 @@ impl<L: TextType> TextBuffer<L> {
 
     /// The quote, if there is one.
     #[inline]
-    pub fn quote_char(&self) -> Option<u8>
+    pub(crate) fn quote_char(&self) -> Option<u8>
         ensures { result ≡ self.now.quote_char }
     {
         self.settings.quote_char
     }
 
     /// The type of the column. Refuses only want of memory.
-    pub fn dtype(&self) -> PolarsResult<DataType>
+    pub(crate) fn dtype(&self) -> PolarsResult<DataType>
         ensures is { IfOk result (λ dtype. dtype ≡ self.now.dtype) }
         ensures refused { IsOkUnless result error.OutOfMemory }
     {
@@ -99,23 +99,30 @@ impl<L: TextType> TextBuffer<L> {
 
     /// How many cells there are, without taking memory.
     #[inline]
-    pub fn len(&self) -> usize
+    pub(crate) fn len(&self) -> usize
         ensures { result ≡ length self.now.values }
     {
         self.texts.count()
     }
 
     /// Makes room for so many more cells. Refuses only want of memory; the cells stay as they are.
-    pub fn reserve(&mut self, additional: usize) -> Result<(), AllocError>
+    pub(crate) fn reserve(&mut self, additional: usize) -> Result<(), AllocError>
         ensures { self.new ≡ self.old }
     {
         self.texts.make_room(additional)
     }
 
+    /// Keeps so many cells, or all if there are fewer, without taking memory.
+    pub(crate) fn truncate(&mut self, len: usize)
+        ensures { self.new ≡ cut_to len self.old }
+    {
+        self.texts.cut_back(len)
+    }
+
     /// Puts the cell of a missing text at the end: a null, or, where it is not to be one and the column holds strings,
     /// the empty text. Refuses only want of memory, and is then as it was.
     #[inline]
-    pub fn add_missing(&mut self, is_null: bool) -> Result<(), AllocError>
+    pub(crate) fn add_missing(&mut self, is_null: bool) -> Result<(), AllocError>
         ensures ok { OnOk result (self.new ≡ with_value self.old (missing_value is_null self.old.dtype)) }
         ensures err { OnErr result (self.new ≡ self.old) }
     {
@@ -125,13 +132,13 @@ impl<L: TextType> TextBuffer<L> {
     /// Puts the cell of a plain text at the end. Refuses a text that is not UTF-8 (`Utf8`) and one that is none of the
     /// type (`Value`), where errors are not ignored, and want of memory; the buffer is then as it was.
     #[inline]
-    pub fn add_plain(
+    pub(crate) fn add_plain(
         &mut self,
         text: &[u8],
         ignore_errors: bool,
         missing_is_null: bool,
     ) -> Result<(), CellFault>
-        ensures { Answers self.old self.new (plain_field_cell (reading_of self.old missing_is_null ignore_errors) self.old.dtype text.now) result }
+        ensures { Answers self.old self.new (softened ignore_errors (plain_cell (reading_of self.old missing_is_null ignore_errors) self.old.dtype text.now)) result }
     {
         if text.is_empty() {
             self.add_missing(missing_is_null)?;
@@ -149,7 +156,7 @@ impl<L: TextType> TextBuffer<L> {
 
     /// Puts the cell of what stands between quotes at the end, undoubled. Refuses as `add_plain` does.
     #[inline]
-    pub fn add_quoted(
+    pub(crate) fn add_quoted(
         &mut self,
         text: &[u8],
         quote: u8,
@@ -173,7 +180,7 @@ impl<L: TextType> TextBuffer<L> {
     }
 
     /// The column, without taking memory.
-    pub fn into_series(self) -> Series
+    pub(crate) fn into_series(self) -> Series
         ensures { result ≡ column_of self }
     {
         let TextBuffer {

@@ -1,5 +1,5 @@
 //! Lists of texts, one for each type whose cells are texts.
-ghost use Rattle.std.specs.Prelude.{◌≡◌, ◌++◌, ◌∷◌, [], Bool, List, Option, true, false, length, map, OnOk, OnErr, IfOk, IsOkUnless, MatchOption};
+ghost use Rattle.std.specs.Prelude.{◌≡◌, ◌++◌, ◌∷◌, [], Bool, List, Option, true, false, length, map, take, OnOk, OnErr, IfOk, IsOkUnless, MatchOption};
 ghost use Rattle.std.specs.Str.{is_utf8};
 ghost use Rattle.std.specs.Str.Lossy.{utf8_lossy};
 ghost use Rattle.std.specs.Option.{option_map};
@@ -9,8 +9,8 @@ ghost use Rattle.pl_frame.specs.declared.error.PolarsError.TheVariants as error;
 ghost use Rattle.pl_frame.specs.Columns.{text_cells};
 ghost use Rattle.pl_frame.specs.Frame.{Scalar, Letters};
 ghost use Rattle.pl_frame.specs.Types.{is_text};
-ghost use Rattle.pl_cells.specs.Buffers.{ListAnswers, missing_value, reading_with};
-ghost use Rattle.pl_cells.specs.Cells.{text_cell};
+ghost use Rattle.pl_cells.specs.Buffers.{ListAnswers, reading_with};
+ghost use Rattle.pl_cells.specs.Cells.{missing_value, text_cell};
 
 use crate::cell_fault::CellFault;
 use crate::utf8::CsvEncoding;
@@ -42,6 +42,11 @@ pub trait TextType {
         ensures same { values self.new ≡ values self.old }
         ensures dtype { dtype self.new ≡ dtype self.old };
 
+    /// Keeps so many values, or all if there are fewer, without taking memory.
+    fn cut_back(&mut self, len: usize)
+        ensures kept { values self.new ≡ take len (values self.old) }
+        ensures dtype { dtype self.new ≡ dtype self.old };
+
     /// Puts the value of a missing text at the end. Refuses only want of memory, and is then as it was.
     fn add_missing(&mut self, is_null: bool) -> Result<(), AllocError>
         ensures ok { OnOk result (values self.new ≡ values self.old ++ missing_value is_null (dtype self.old) ∷ []) }
@@ -67,7 +72,7 @@ pub trait TextType {
 
 // The bytes as text, where they are UTF-8.
 #[inline]
-pub fn as_text(bytes: &[u8]) -> Option<&str>
+pub(crate) fn as_text(bytes: &[u8]) -> Option<&str>
     ensures { MatchOption result (is_utf8 bytes.now ≡ false) (λ text. (is_utf8 bytes.now ≡ true) × (text.now ≡ bytes.now)) }
 {
     match simdutf8::basic::from_utf8(bytes) {
@@ -102,6 +107,10 @@ impl TextType for Texts {
 
     fn make_room(&mut self, additional: usize) -> Result<(), AllocError> {
         self.reserve(additional, 0)
+    }
+
+    fn cut_back(&mut self, len: usize) {
+        self.truncate(len)
     }
 
     #[inline]
@@ -150,6 +159,10 @@ impl TextType for CodesBuilder {
 
     fn make_room(&mut self, _additional: usize) -> Result<(), AllocError> {
         Ok(())
+    }
+
+    fn cut_back(&mut self, len: usize) {
+        self.truncate(len)
     }
 
     #[inline]

@@ -2,7 +2,7 @@
 ghost use Rattle.std.specs.Prelude.{◌≡◌};
 ghost use Rattle.std.specs.Str.{is_utf8};
 
-/// What is done with bytes that are not UTF-8.
+/// What is done with bytes of a `String` column that are not UTF-8. Of categories and enums they are a fault under either.
 #[derive(Clone, Copy, Debug, Default, PartialEq, Eq)]
 pub enum CsvEncoding {
     /// They are a fault.

@@ -1,8 +1,8 @@
 //! Buffers of truth values and of numbers.
 ghost use Rattle.std.specs.Prelude.{◌≡◌, true, [], length, OnOk, OnErr, None};
 ghost use Rattle.pl_frame.specs.Types.{is_text};
-ghost use Rattle.pl_cells.specs.Buffers.{Answers, with_value, missing_value, reading_of, column_of};
-ghost use Rattle.pl_cells.specs.Cells.{plain_field_cell, quoted_cell, softened, value_or_null, counted_text};
+ghost use Rattle.pl_cells.specs.Buffers.{Answers, with_value, cut_to, reading_of, column_of};
+ghost use Rattle.pl_cells.specs.Cells.{missing_value, plain_cell, quoted_cell, softened, value_or_null, counted_text};
 ghost use Rattle.pl_cells.specs.Integers.{without_blanks};
 
 use crate::cell_fault::CellFault;
@@ -65,7 +65,7 @@ fn counted<'a, K: ValueType>(kind: &K, text: &'a [u8]) -> &'a [u8]
 
 impl<K: ValueType> ValueBuffer<K> {
     /// No cells, without taking memory.
-    pub fn new(alloc: Global, settings: ColumnSettings, kind: K) -> Self
+    pub(crate) fn new(alloc: Global, settings: ColumnSettings, kind: K) -> Self
         ensures { result ≡ record { name = settings.name; dtype = K.dtype kind; quote_char = settings.quote_char; encoding = settings.encoding; values = [] } }
     {
         ValueBuffer {
@@ -77,14 +77,14 @@ impl<K: ValueType> ValueBuffer<K> {
 
     /// The quote, if there is one.
     #[inline]
-    pub fn quote_char(&self) -> Option<u8>
+    pub(crate) fn quote_char(&self) -> Option<u8>
         ensures { result ≡ self.now.quote_char }
     {
         self.settings.quote_char
     }
 
     /// The type of the column, without taking memory.
-    pub fn dtype(&self) -> DataType
+    pub(crate) fn dtype(&self) -> DataType
         ensures { result ≡ self.now.dtype }
     {
         self.kind.data_type()
@@ -92,22 +92,29 @@ impl<K: ValueType> ValueBuffer<K> {
 
     /// How many cells there are, without taking memory.
     #[inline]
-    pub fn len(&self) -> usize
+    pub(crate) fn len(&self) -> usize
         ensures { result ≡ length self.now.values }
     {
         self.values.len()
     }
 
     /// Makes room for so many more cells. Refuses only want of memory; the cells stay as they are.
-    pub fn reserve(&mut self, additional: usize) -> Result<(), AllocError>
+    pub(crate) fn reserve(&mut self, additional: usize) -> Result<(), AllocError>
         ensures { self.new ≡ self.old }
     {
         self.values.reserve(additional)
     }
 
+    /// Keeps so many cells, or all if there are fewer, without taking memory.
+    pub(crate) fn truncate(&mut self, len: usize)
+        ensures { self.new ≡ cut_to len self.old }
+    {
+        self.values.truncate(len)
+    }
+
     /// Puts the cell of a missing text at the end, which is a null. Refuses only want of memory, and is then as it was.
     #[inline]
-    pub fn add_missing(&mut self, _is_null: bool) -> Result<(), AllocError>
+    pub(crate) fn add_missing(&mut self, _is_null: bool) -> Result<(), AllocError>
         ensures ok { OnOk result (self.new ≡ with_value self.old (missing_value _is_null self.old.dtype)) }
         ensures err { OnErr result (self.new ≡ self.old) }
     {
@@ -134,13 +141,13 @@ impl<K: ValueType> ValueBuffer<K> {
     /// Puts the cell of a plain text at the end. Refuses a text without a value (`Value`), where errors are not ignored,
     /// and want of memory; the buffer is then as it was.
     #[inline]
-    pub fn add_plain(
+    pub(crate) fn add_plain(
         &mut self,
         text: &[u8],
         ignore_errors: bool,
         missing_is_null: bool,
     ) -> Result<(), CellFault>
-        ensures { Answers self.old self.new (plain_field_cell (reading_of self.old missing_is_null ignore_errors) self.old.dtype text.now) result }
+        ensures { Answers self.old self.new (softened ignore_errors (plain_cell (reading_of self.old missing_is_null ignore_errors) self.old.dtype text.now)) result }
     {
         let text = counted(&self.kind, text);
         self.add_value(text, ignore_errors)
@@ -148,7 +155,7 @@ impl<K: ValueType> ValueBuffer<K> {
 
     /// Puts the cell of what stands between quotes at the end, which is that of a plain text. Refuses as `add_plain` does.
     #[inline]
-    pub fn add_quoted(
+    pub(crate) fn add_quoted(
         &mut self,
         text: &[u8],
         quote: u8,
@@ -161,7 +168,7 @@ impl<K: ValueType> ValueBuffer<K> {
     }
 
     /// The column, without taking memory.
-    pub fn into_series(self) -> Series
+    pub(crate) fn into_series(self) -> Series
         ensures { result ≡ column_of self }
     {
         let ValueBuffer {

@@ -20,7 +20,7 @@ use Rattle.pl_frame.proofs.SchemaLaws.{none_passes, position-map}
 abbrev pub text_for : List (List ℕ) → Option ℕ → Option (List ℕ)
 text_for d c = option_map (λ code. get_or d code []) c
 
-dictionary-push : (values : List (Option (List ℕ))) (v : Option (List ℕ)) → dictionary_of (values ++ v ∷ []) ≡ with_text (dictionary_of values) v
+pub dictionary-push : (values : List (Option (List ℕ))) (v : Option (List ℕ)) → dictionary_of (values ++ v ∷ []) ≡ with_text (dictionary_of values) v
 dictionary-push values v = fold-append with_text [] values (v ∷ [])
 
 decoded-push : (d : List (List ℕ)) (cs : List (Option ℕ)) (c : Option ℕ) → decoded d (cs ++ c ∷ []) ≡ decoded d cs ++ text_for d c ∷ []
@@ -79,7 +79,7 @@ get_or-last : {X : Type 0} (d : List X) (x e : X) → get_or (d ++ x ∷ []) (le
 get_or-last [] x e = refl
 get_or-last (y ∷ ys) x e = get_or-last ys x e
 
-place-more : (d : List (List ℕ)) (x t : List ℕ) (k : ℕ) → position (bytes_eq t) d ≡ Some k → position (bytes_eq t) (d ++ x ∷ []) ≡ Some k
+pub place-more : (d : List (List ℕ)) (x t : List ℕ) (k : ℕ) → position (bytes_eq t) d ≡ Some k → position (bytes_eq t) (d ++ x ∷ []) ≡ Some k
 place-more d x t k at =
     let found = position-Some (bytes_eq t) d k [] at in
     let more : length (d ++ x ∷ []) ≡ length d + 1 = length-append d (x ∷ []) in
@@ -94,7 +94,7 @@ absent d t none i l = by (bytes_eq t (get_or d i [])) refl
     by false e = e
     by true e = let seen = list_any_at (bytes_eq t) d i [] l e in let unseen = none_passes (bytes_eq t) d none in absurd (cc)
 
-place-new : (d : List (List ℕ)) (t : List ℕ) → position (bytes_eq t) d ≡ None → position (bytes_eq t) (d ++ t ∷ []) ≡ Some (length d)
+pub place-new : (d : List (List ℕ)) (t : List ℕ) → position (bytes_eq t) d ≡ None → position (bytes_eq t) (d ++ t ∷ []) ≡ Some (length d)
 place-new d t none =
     let more : length (d ++ t ∷ []) ≡ length d + 1 = length-append d (t ∷ []) in
     position-found (bytes_eq t) (d ++ t ∷ []) (length d) [] (omega (arith, more))
@@ -154,7 +154,7 @@ length-decoded d (c ∷ cs) = ap suc (length-decoded d cs)
 pub decoded-at : (d : List (List ℕ)) (cs : List (Option ℕ)) (i : ℕ) (c : Option ℕ) → slice_get cs i ≡ Some c → slice_get (decoded d cs) i ≡ Some (text_for d c)
 decoded-at d cs i c at = slice_get-map (text_for d) cs i ∙ ap (option_map (text_for d)) at
 
-some_same : {X : Type 0} (x y : X) → Some x ≡ Some y → x ≡ y
+pub some_same : {X : Type 0} (x y : X) → Some x ≡ Some y → x ≡ y
 some_same x y e = cc
 
 pub code-at : (d : List (List ℕ)) (cs : List (Option ℕ)) (i : ℕ) (c : Option ℕ) → AreCodes d cs → slice_get cs i ≡ Some c → code_of d (text_for d c) ≡ c

@@ -1,5 +1,5 @@
 -- Laws of frames of which one column is another.
-use Rattle.std.proofs.Common.{◌≡◌, ◌≢◌, ℕ, zero, suc, ◌<◌, Bool, true, false, List, [], ◌∷◌, length, map, get_or, slice_get, slice_set, Option, None, Some, AllPairs, refl, sym, ◌∙◌, ap, subst, arith, true≢false}
+use Rattle.std.proofs.Common.{◌≡◌, ◌≢◌, ℕ, zero, suc, ◌<◌, true, false, List, [], ◌∷◌, length, get_or, slice_get, slice_set, None, Some, AllPairs, refl, sym, ◌∙◌, ap, subst, arith, true≢false}
 use Rattle.pl_frame.specs.declared.data_type.DataType.{DataType}
 use Rattle.pl_frame.specs.Casts.{is_cast, can_cast, with_cast, cast_column}
 use Rattle.pl_frame.specs.Frame.{ColumnValue, IsFrame, HaveHeight, height_of, names_of}

@@ -19,6 +19,19 @@ flagged-push [] (f ∷ fs) y g h = absurd (omega arith)
 flagged-push (x ∷ xs) [] y g h = absurd (omega arith)
 flagged-push (x ∷ xs) (f ∷ fs) y g h = ap (λ rest. (if f then Some x else None) ∷ rest) (flagged-push xs fs y g (omega arith))
 
+pub flagged-take : {X : Type 0} (n : ℕ) (xs : List X) (flags : List Bool) → flagged (take n xs) (take n flags) ≡ take n (flagged xs flags)
+flagged-take zero xs flags = refl
+flagged-take (suc n) [] flags = refl
+flagged-take (suc n) (x ∷ xs) [] = refl
+flagged-take (suc n) (x ∷ xs) (f ∷ fs) = ap (λ rest. (if f then Some x else None) ∷ rest) (flagged-take n xs fs)
+
+pub length-take-same : {X Y : Type 0} (n : ℕ) (xs : List X) (ys : List Y) → length xs ≡ length ys → length (take n xs) ≡ length (take n ys)
+length-take-same zero xs ys h = refl
+length-take-same (suc n) [] [] h = refl
+length-take-same (suc n) [] (y ∷ ys) h = absurd (omega arith)
+length-take-same (suc n) (x ∷ xs) [] h = absurd (omega arith)
+length-take-same (suc n) (x ∷ xs) (y ∷ ys) h = ap suc (length-take-same n xs ys (omega arith))
+
 -- at a place whose flag is set stands the value, and at another none
 pub slice_get-flagged_set : {X : Type 0} (xs : List X) (flags : List Bool) (i : ℕ) (x : X) (f : Bool) → length xs ≡ length flags → i < length flags →
     x ≡ get_or xs i x → f ≡ get_or flags i f → f ≡ true → slice_get (flagged xs flags) i ≡ Some (Some x)
@@ -95,7 +108,7 @@ AllUtf8-at [] i text h e = absurd (cc)
 AllUtf8-at (t ∷ ts) zero text h e = let same : t ≡ text = cc in subst IsUtf8 same h.0
 AllUtf8-at (t ∷ ts) (suc i) text h e = AllUtf8-at ts i text h.1 e
 
-pub ruleset flags = (length-flagged, slice_get-flagged_set, slice_get-flagged_unset, flagged-push, nulls-flagged)
+pub ruleset flags = (length-flagged, flagged-take, length-take-same, slice_get-flagged_set, slice_get-flagged_unset, flagged-push, nulls-flagged)
 
 -- one part more, with nothing in it
 pub parts_between-push_nothing : (from : ℕ) (ends bytes : List ℕ) → RiseTo from ends (length bytes) →

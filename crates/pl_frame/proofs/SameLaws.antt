@@ -1,9 +1,9 @@
 -- What equality takes for equal is the same.
-use Rattle.std.proofs.Common.{◌≡◌, Bool, true, false, List, Option, refl, subst}
+use Rattle.std.proofs.Common.{◌≡◌, Bool, true, List, Option, subst}
 use Rattle.std.specs.Bool.{Decides}
 use Rattle.std.specs.Cmp.{IsEquivalence, first_so, second_so}
 use Rattle.std.specs.Cmp.Lexicographic.{pointwise, pointwise_decides, bytes_decides}
-use Rattle.pl_frame.specs.Equal.{types_equal, scalars_equal, cells_equal, columns_equal}
+use Rattle.pl_frame.specs.Equal.{scalars_equal, cells_equal, columns_equal}
 use Rattle.pl_frame.specs.EqualLaws.{scalars_decide, cells_equiv, columns_equiv}
 use Rattle.pl_frame.specs.Frame.{Scalar, ColumnValue}
 use Rattle.pl_frame.proofs.TypeLaws.{types_told, options_told}

@@ -5,7 +5,7 @@ use Rattle.std.specs.Cmp.Lexicographic.{pointwise, pointwise_decides, bytes_deci
 use Rattle.std.specs.Option.{option_eq}
 use Rattle.std.specs.Str.{bytes_eq}
 use denote.Enum.Compared.{Each, by}
-use denote.Enum.Declared.{Record, Choice, values_one}
+use denote.Enum.Declared.{Choice, values_one}
 use denote.Struct.Field.{Field}
 use denote.Struct.Values.{Values}
 use Rattle.pl_frame.specs.contracts.data_type.DataType as declared

@@ -1,5 +1,5 @@
 -- When schemas, columns and frames are equal (docs/types.md, "Columns and frames").
-use Rattle.std.specs.Prelude.{ℕ, ℤ, Bool, true, false, ◌&&◌, List, Option}
+use Rattle.std.specs.Prelude.{Bool, false, ◌&&◌, Option}
 use Rattle.std.specs.Bool.{beq}
 use Rattle.std.specs.Cmp.Lexicographic.{pointwise}
 use Rattle.std.specs.Option.{option_eq}

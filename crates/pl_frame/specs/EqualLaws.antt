@@ -1,11 +1,9 @@
 -- The laws of equality, which the traits ask for.
-use Rattle.std.proofs.Common.{◌≡◌, ℕ, ℤ, pos, Bool, true, false, List, [], refl, sym, ap, true≢false}
+use Rattle.std.proofs.Common.{◌≡◌, ℕ, ℤ, pos, Bool, true, false, List, [], sym, ap, true≢false}
 use Rattle.std.specs.Bool.{Decides}
 use Rattle.std.specs.Cmp.{IsEquivalence, and_equiv, on_equiv, decided, signed_Decides, booleans_Decides}
-use Rattle.std.specs.Cmp.Lexicographic.{nat_list_eq_equiv, lists_equiv, options_equiv, pointwise, bytes_decides}
-use Rattle.std.specs.Option.{option_map, option_eq}
+use Rattle.std.specs.Cmp.Lexicographic.{nat_list_eq_equiv, lists_equiv, options_equiv, bytes_decides}
 use Rattle.pl_frame.specs.contracts.data_type.DataTypeEq.TheImpl.Laws as types
-use Rattle.pl_frame.specs.declared.data_type.DataType.{DataType}
 use Rattle.pl_frame.specs.Equal.{types_equal, entries_equal, scalars_equal, cells_equal, columns_equal}
 use Rattle.pl_frame.specs.Frame.{Scalar, Truth, Number, Letters, ColumnValue}
 use Rattle.pl_frame.specs.Schema.{Entry}

@@ -1,5 +1,5 @@
 -- How values are printed, by their type (docs/types.md, "Printed").
-use Rattle.std.specs.Prelude.{ℕ, ◌+◌, ◌-◌, ◌/◌, ◌%◌, ◌^◌, ◌==◌, Bool, true, false, if◌then◌else◌, ℤ, pos, unsigned_abs, List, [], ◌∷◌, ◌++◌, length, take, drop, replicate, map, find, Option, None, Some, unwrap_or, codes, decimal}
+use Rattle.std.specs.Prelude.{ℕ, ◌+◌, ◌-◌, ◌/◌, ◌%◌, ◌^◌, ◌==◌, true, false, if◌then◌else◌, ℤ, pos, unsigned_abs, List, [], ◌∷◌, ◌++◌, length, take, drop, replicate, map, find, Option, None, Some, unwrap_or, codes, decimal}
 use Rattle.std.specs.Fmt.{signed_decimal}
 use Rattle.std.specs.Int.{int_div_euclid, int_rem_euclid, is_negative}
 use Rattle.std.specs.List.{flat_map, range_with_len}

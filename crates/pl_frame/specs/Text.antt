@@ -3,7 +3,7 @@ use Rattle.std.specs.Prelude.{ℕ, Bool, true, false, ◌||◌, ◌==◌, if◌t
 use Rattle.std.specs.List.{list_any, join_with_byte, flat_map, range_with_len}
 use Rattle.pl_frame.specs.declared.data_type.DataType.{DataType}
 use Rattle.pl_frame.specs.declared.data_type.DataType.TheVariants as dtype
-use Rattle.pl_frame.specs.Frame.{Scalar, Truth, Number, Letters, ColumnValue, cell_at, height_of, names_of}
+use Rattle.pl_frame.specs.Frame.{Scalar, Letters, ColumnValue, cell_at, height_of, names_of}
 use Rattle.pl_frame.specs.Printed.{printed}
 
 -- When a cell is quoted. As a number: 0 Necessary, 1 Always, 2 NonNumeric, 3 Never.

@@ -1,5 +1,5 @@
 //! Texts as codes beside a dictionary.
-ghost use Rattle.std.specs.Prelude.{◌≡◌, ◌<◌, [], ◌∷◌, ◌++◌, length, ◌==◌, OnOk, OnErr, IfOk, IfSome, IfNone, None, Some, slice_get, count_by, is_none, position, unwrap_or};
+ghost use Rattle.std.specs.Prelude.{◌≡◌, ◌+◌, ◌<◌, [], ◌∷◌, ◌++◌, take, length, ◌==◌, OnOk, OnErr, IfOk, IfSome, IfNone, None, Some, slice_get, count_by, is_none, position, unwrap_or};
 ghost use Rattle.std.specs.Str.{bytes_eq};
 ghost use Rattle.pl_frame.specs.Categories.{code_of, dictionary_of};
 ghost use Rattle.pl_frame.specs.Optional.{AreAllUtf8};
@@ -98,6 +98,41 @@ impl Codes {
         ensures { result ≡ count_by is_none self.now }
     {
         self.codes.null_count()
+    }
+
+    /// Keeps so many texts, or all if there are fewer, without taking memory. The dictionary loses the texts that only the
+    /// others have.
+    #[tactic(auto, using(crate::proofs::CutLaws::cut_codes))]
+    pub fn truncate(&mut self, len: usize)
+        ensures { self.new ≡ take len self.old }
+    {
+        let distinct = self.distinct_before(len);
+        self.codes.truncate(len);
+        self.dictionary.truncate(distinct);
+    }
+
+    // How many texts occur before a place: as each gets its code at its first appearance, one more than the greatest code.
+    fn distinct_before(&self, len: usize) -> usize
+        ensures { result ≡ length (dictionary_of (take len self.now)) }
+    {
+        let mut distinct: usize = 0;
+        for i in 0..len.min(self.codes.len()) {
+            distinct = self.distinct_with(distinct, i);
+        }
+        distinct
+    }
+
+    // How many texts occur up to a place, where so many occur before it.
+    #[inline]
+    fn distinct_with(&self, before: usize, i: usize) -> usize
+        requires place { i < length self.now }
+        requires before { before ≡ length (dictionary_of (take i self.now)) }
+        ensures { result ≡ length (dictionary_of (take (i + 1) self.now)) }
+    {
+        match self.codes.get(i) {
+            Some(code) if code as usize >= before => code as usize + 1,
+            _ => before,
+        }
     }
 
     // Puts a null at the end.
@@ -221,6 +256,14 @@ impl CodesBuilder {
         ensures err { OnErr result (self.new ≡ self.old) }
     {
         self.kept.push_null()
+    }
+
+    /// Keeps so many texts, or all if there are fewer, without taking memory.
+    pub fn truncate(&mut self, len: usize)
+        ensures { self.new ≡ take len self.old }
+    {
+        self.kept.truncate(len);
+        self.places.truncate(self.kept.dictionary().len());
     }
 
     /// The texts as codes, without taking memory.

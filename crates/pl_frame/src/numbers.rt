@@ -1,5 +1,5 @@
 //! Numbers, some of which are missing.
-ghost use Rattle.std.specs.Prelude.{◌≡◌, ◌<◌, [], ◌∷◌, ◌++◌, length, ◌==◌, OnOk, OnErr, IfOk, slice_get, count_by, is_none};
+ghost use Rattle.std.specs.Prelude.{◌≡◌, ◌<◌, [], ◌∷◌, ◌++◌, take, length, ◌==◌, OnOk, OnErr, IfOk, slice_get, count_by, is_none};
 
 use std::alloc::{AllocError, Global};
 use std::marker::Model;
@@ -83,6 +83,15 @@ impl<T: Copy + Default> Numbers<T> {
         self.values.push_reserved(T::default());
         self.present.push_reserved(false);
         Ok(())
+    }
+
+    /// Keeps so many numbers, or all if there are fewer, without taking memory.
+    #[inline]
+    pub fn truncate(&mut self, len: usize)
+        ensures { self.new ≡ take len self.old }
+    {
+        self.values.truncate(len);
+        self.present.truncate(len);
     }
 
     /// Equal numbers. Refuses only want of memory.

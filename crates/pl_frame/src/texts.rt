@@ -1,5 +1,5 @@
 //! Texts, some of which are missing.
-ghost use Rattle.std.specs.Prelude.{◌≡◌, ◌<◌, [], ◌∷◌, ◌++◌, length, ◌==◌, OnOk, OnErr, IfOk, IfSome, IfNone, ◌≤◌, IsUtf8, slice_range, slice_index, slice_get, count_by, is_none};
+ghost use Rattle.std.specs.Prelude.{◌≡◌, ◌<◌, [], ◌∷◌, ◌++◌, take, length, ◌==◌, OnOk, OnErr, IfOk, IfSome, IfNone, ◌≤◌, IsUtf8, slice_range, slice_index, slice_get, count_by, is_none};
 ghost use Rattle.pl_frame.specs.Optional.{AreAllUtf8};
 
 use crate::numbers::copy_of;
@@ -92,6 +92,19 @@ impl Texts {
         Ok(())
     }
 
+    /// Keeps so many texts, or all if there are fewer, without taking memory.
+    #[tactic(auto, using(crate::proofs::CutLaws::cut_texts))]
+    pub fn truncate(&mut self, len: usize)
+        ensures { self.new ≡ take len self.old }
+    {
+        if len < self.ends.len() {
+            let begin = begin_of(&self.ends, len);
+            self.bytes.truncate(begin);
+            self.ends.truncate(len);
+            self.present.truncate(len);
+        }
+    }
+
     /// Equal texts. Refuses only want of memory.
     pub fn try_clone(&self) -> Result<Self, AllocError>
         ensures { IfOk result (λ texts. texts ≡ self.now) }
@@ -166,6 +179,10 @@ mod tests {
         assert_eq!(rt; texts.get(2), Some(""));
         assert_eq!(rt; texts.get(3), Some("last"));
         assert_eq!(rt; texts.null_count(), 1);
+        texts.truncate(2);
+        texts.truncate(7);
+        assert_eq!(rt; texts.len(), 2);
+        assert_eq!(rt; texts.get(0), Some("é1"));
         Ok(())
     }
 }

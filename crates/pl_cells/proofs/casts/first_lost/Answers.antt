@@ -1,4 +1,4 @@
-use Rattle.std.proofs.Common.{ℕ, None, get_or, sym, ◌∙◌, ap, arith, below_more, true, false, ◌≡◌}
+use Rattle.std.proofs.Common.{ℕ, None, get_or, sym, ◌∙◌, ap, arith, below_more, false, ◌≡◌}
 use Rattle.pl_frame.proofs.AlikeLaws.{cell_is}
 use Rattle.pl_frame.proofs.ColumnLaws.{position-found, position-nowhere}
 use Rattle.pl_cells.specs.Casts.{is_lost}

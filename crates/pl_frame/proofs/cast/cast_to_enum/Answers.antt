@@ -1,6 +1,5 @@
-use Rattle.std.proofs.Common.{◌≡◌, ◌∙◌, ap, sym, subst, Some, map}
+use Rattle.std.proofs.Common.{◌∙◌, ap, sym, subst, Some}
 use Rattle.pl_frame.specs.declared.data_type.DataType.TheVariants as dtype
-use Rattle.pl_frame.specs.Casts.{cast_value}
 use Rattle.pl_frame.specs.Categories.{AreCodes, decoded}
 use Rattle.pl_frame.specs.Columns.{text_cells}
 use Rattle.pl_frame.proofs.CastLaws.{places_cast, places_coded, none_misfit, held_as}

@@ -1,4 +1,4 @@
-use Rattle.std.proofs.Common.{arith, ap, refl}
+use Rattle.std.proofs.Common.{arith, refl}
 use Rattle.pl_frame.specs.Columns.{text_in}
 use Rattle.pl_frame.proofs.CastLaws.{row_more}
 use Rattle.pl_frame.proofs.cast.codes_of.Goals as goal

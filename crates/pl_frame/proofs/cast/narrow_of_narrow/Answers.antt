@@ -1,4 +1,4 @@
-use Rattle.std.proofs.Common.{◌∙◌, ap, sym, arith, None, length}
+use Rattle.std.proofs.Common.{arith}
 use Rattle.std.specs.Option.{option_map}
 use Rattle.pl_frame.specs.Casts.{number_in}
 use Rattle.pl_frame.specs.Columns.{number_cells}

@@ -1,4 +1,4 @@
-use Rattle.std.proofs.Common.{◌∙◌, arith}
+use Rattle.std.proofs.Common.{arith}
 use Rattle.pl_frame.specs.Casts.{number_in}
 use Rattle.pl_frame.specs.Types.{from_to}
 use Rattle.pl_frame.proofs.CastLaws.{row_more}

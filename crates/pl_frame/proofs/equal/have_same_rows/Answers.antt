@@ -1,9 +1,6 @@
-use Rattle.std.proofs.Common.{◌≡◌, ◌<◌, false, true, None, sym, ◌∙◌, get_or, length, arith}
-use Rattle.pl_frame.specs.Columns.{scalar_of}
+use Rattle.std.proofs.Common.{◌≡◌, ◌<◌, None, sym, ◌∙◌, length, arith}
 use Rattle.pl_frame.specs.Equal.{cells_equal}
 use Rattle.pl_frame.proofs.AlikeLaws.{pointwise-all, pointwise-differ, each_more, row_told}
-use Rattle.pl_frame.proofs.ColumnLaws.{true_from_not}
-use Rattle.std.specs.Cmp.Lexicographic.{unequal}
 use Rattle.pl_frame.proofs.equal.have_same_rows.Goals as goal
 
 pub returns-then-not-is_same : goal.returns-then-not-is_same

@@ -1,4 +1,3 @@
-use Rattle.pl_frame.proofs.TypeLaws.{types_told}
 use Rattle.std.proofs.Common.{◌∙◌}
 use Rattle.pl_frame.proofs.AlikeLaws.{values_same}
 use Rattle.pl_frame.proofs.equal.is_same.Goals as goal

@@ -11,5 +11,5 @@ returns-then-holds_no_quote g c =
 pub returns : goal.returns
 returns g c =
     buffer_answers c.args.self.now _ _ _ _ _ _ _ _ _ c.add_text-2.result c.self.view_is c.add_text-2.ensures.dtype
-    (quoted_same _ c.args.self.now true c.args.ignore_errors c.args.quote c.args.text.now c.deref.result.now c.self.view_is (c.deref.ensures.value ∙ c.in_ok-undouble_into.ensures) c.add_text-2.ensures.is_text)
+    (quoted_same _ c.args.self.now true c.args.ignore_errors c.args.quote c.args.text.now c.deref.result.now c.self.view_is (c.deref.ensures.value ∙ c.in_ok-undouble_into.ensures.undoubled) c.add_text-2.ensures.is_text)
     (c.add_text-2.ensures.answers true)

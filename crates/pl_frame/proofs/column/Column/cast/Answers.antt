@@ -1,5 +1,4 @@
 use Rattle.std.proofs.Common.{◌≡◌, ◌∙◌, ap, sym, subst, IfOk}
-use Rattle.pl_frame.specs.Casts.{cast_column}
 use Rattle.pl_frame.specs.Equal.{types_equal}
 use Rattle.pl_frame.proofs.CastLaws.{cast_same}
 use Rattle.pl_frame.proofs.TypeLaws.{types_told}

@@ -1,5 +1,5 @@
-use Rattle.std.proofs.Common.{◌≡◌, ◌<◌, true, Some, length, slice_get, slice_set, refl, sym, ◌∙◌, ap, subst, arith}
-use Rattle.pl_frame.specs.Casts.{can_cast, with_cast, cast_column}
+use Rattle.std.proofs.Common.{slice_set, sym, ◌∙◌, ap, subst, arith}
+use Rattle.pl_frame.specs.Casts.{can_cast, with_cast}
 use Rattle.pl_frame.specs.Equal.{types_equal}
 use Rattle.pl_frame.specs.Frame.{IsFrame}
 use Rattle.pl_frame.proofs.CastLaws.{cast_same}

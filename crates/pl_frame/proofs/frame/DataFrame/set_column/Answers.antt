@@ -1,4 +1,4 @@
-use Rattle.std.proofs.Common.{length, slice_get, sym, ◌∙◌, ap, arith}
+use Rattle.std.proofs.Common.{slice_get, sym, ◌∙◌, ap, arith}
 use Rattle.pl_frame.specs.Frame.{height_of, names_of}
 use Rattle.pl_frame.proofs.FrameLaws.{fits_within, fits_names, fits_height, fits_frame}
 use Rattle.pl_frame.proofs.frame.DataFrame.set_column.Goals as goal

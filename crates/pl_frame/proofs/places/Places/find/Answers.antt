@@ -1,6 +1,5 @@
-use Rattle.std.proofs.Common.{sym, ◌∙◌, ap, position}
+use Rattle.std.proofs.Common.{◌∙◌}
 use Rattle.std.specs.Prelude.{string_bytes}
-use Rattle.std.specs.Str.{bytes_eq}
 use Rattle.pl_frame.proofs.CategoryLaws.{key_place}
 use Rattle.pl_frame.proofs.places.Places.find.Goals as goal
 

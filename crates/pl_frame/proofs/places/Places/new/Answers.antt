@@ -1,6 +1,5 @@
-use Rattle.std.proofs.Common.{◌≡◌, None, sym, ◌∙◌, ap, position, take, get_or, [], ◌∷◌, ◌++◌, arith}
+use Rattle.std.proofs.Common.{◌≡◌, sym, ◌∙◌, ap, take, get_or, [], ◌∷◌, ◌++◌, arith}
 use Rattle.std.specs.Prelude.{string_bytes}
-use Rattle.std.specs.Str.{bytes_eq}
 use Rattle.std.proofs.lemmas.List.{get_or_default, take_more}
 use Rattle.pl_frame.proofs.CategoryLaws.{keys-more}
 use Rattle.pl_frame.proofs.NameLaws.{absent_before}

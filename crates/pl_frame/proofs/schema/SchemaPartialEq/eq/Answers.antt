@@ -1,4 +1,4 @@
-use Rattle.std.proofs.Common.{◌≡◌, Bool, refl, ◌∙◌}
+use Rattle.std.proofs.Common.{refl, ◌∙◌}
 use Rattle.std.specs.Cmp.Lexicographic.{pointwise}
 use Rattle.pl_frame.specs.Equal.{entries_equal}
 use Rattle.pl_frame.proofs.AlikeLaws.{pointwise-map}

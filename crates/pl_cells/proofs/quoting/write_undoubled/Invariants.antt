@@ -1,6 +1,6 @@
 use Rattle.std.proofs.Common.{◌≡◌, ◌++◌, length}
 use Rattle.pl_cells.specs.Quoting.{undouble}
-use Rattle.pl_cells.proofs.quoting.undouble_into.Given as goal
+use Rattle.pl_cells.proofs.quoting.write_undoubled.Given as goal
 
 abbrev pub invariant-loop-at : goal.invariant-loop-at
 invariant-loop-at l = l.to.items ++ undouble l.quote l.rest ≡ undouble l.quote l.text

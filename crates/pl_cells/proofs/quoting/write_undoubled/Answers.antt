@@ -1,7 +1,7 @@
 use Rattle.std.proofs.Common.{◌≡◌, [], ◌∷◌, take, ◌++◌, sym, ◌∙◌, ap, append_assoc, arith}
 use Rattle.pl_cells.specs.Quoting.{undouble}
 use Rattle.pl_cells.proofs.QuotingLaws.{undouble-pass, undouble-none, written_more}
-use Rattle.pl_cells.proofs.quoting.undouble_into.Goals as goal
+use Rattle.pl_cells.proofs.quoting.write_undoubled.Goals as goal
 
 pub loop-at-preserved-in_ok-push : goal.loop-at-preserved-in_ok-push
 loop-at-preserved-in_ok-push c =

@@ -1,0 +1,68 @@
+//! The null test of a field.
+ghost use Rattle.std.specs.Prelude.{◌≡◌, ◌&&◌, not, suc};
+ghost use Rattle.std.specs.Option.{option_copied};
+ghost use Rattle.pl_cells.specs.Cells.{is_missing};
+ghost use Rattle.pl_cells.specs.NullTest.{null_test};
+ghost use Rattle.pl_cells.specs.NullValues.{HasColumns, HaveTexts, is_null_text, means_null};
+
+use crate::null_values::NullValuesCompiled;
+use crate::quoting::between_quotes;
+
+/// Whether a field without its carriage return means null in a column, given the quote that it begins with. Of one between
+/// quotes what stands between them is tested.
+pub fn is_null_in(
+    null_values: &NullValuesCompiled,
+    text: &[u8],
+    column: usize,
+    quote: Option<u8>,
+) -> bool
+    requires { HasColumns null_values.now (suc column) }
+    ensures { result ≡ null_test (is_null_text null_values.now column) quote text.now }
+{
+    match quote {
+        None => null_values.is_null(text, column),
+        Some(quote) => match between_quotes(text, quote) {
+            Some(inside) => null_values.is_null(inside, column),
+            None => false,
+        },
+    }
+}
+
+/// The same, where there may be no texts that mean null.
+#[inline]
+pub fn is_null(
+    null_values: Option<&NullValuesCompiled>,
+    text: &[u8],
+    column: usize,
+    quote: Option<u8>,
+) -> bool
+    requires { HaveTexts null_values (suc column) }
+    ensures { result ≡ null_test (means_null (option_copied null_values.entry) column) quote text.now }
+{
+    match null_values {
+        Some(null_values) => is_null_in(null_values, text, column, quote),
+        None => false,
+    }
+}
+
+// Whether a field without its carriage return is plain and empty, given the quote that it begins with.
+#[inline]
+fn is_missing(text: &[u8], quote: Option<u8>) -> bool
+    ensures { result ≡ is_missing quote text.now }
+{
+    quote.is_none() && text.is_empty()
+}
+
+/// Whether a field without its carriage return means null and is not missing, given the quote that it begins with.
+#[inline]
+pub(crate) fn is_null_cell(
+    null_values: Option<&NullValuesCompiled>,
+    text: &[u8],
+    column: usize,
+    quote: Option<u8>,
+) -> bool
+    requires { HaveTexts null_values (suc column) }
+    ensures { result ≡ (null_test (means_null (option_copied null_values.entry) column) quote text.now && not (is_missing quote text.now)) }
+{
+    is_null(null_values, text, column, quote) && !is_missing(text, quote)
+}

@@ -13,6 +13,8 @@ use Rattle.pl_cells.specs.declared.cell_fault.CellFault.{CellFault}
 use Rattle.pl_cells.specs.declared.cell_fault.CellFault.TheVariants as cell_fault
 use Rattle.pl_cells.specs.Buffers.{IsCellFault}
 use Rattle.pl_cells.specs.Cells.{Cell}
+use Rattle.pl_cells.specs.Faults.{Fault, kind_of}
+use Rattle.pl_cells.specs.Faults as cell
 use Rattle.pl_rows.specs.declared.row_rest.RowRest.{RowRest}
 use Rattle.pl_rows.specs.declared.row_rest.RowRest.TheVariants as rest
 use Rattle.pl_rows.specs.RowRest.{fields_left, behind_row, IsDone, HasMore}
@@ -110,8 +112,9 @@ excess_fault-more m b n (rest.Fields bytes) left_is behind_is more =
 excess_fault-more m b n (rest.End bytes) left_is behind_is more = absurd more
 
 -- the fault of a column's cell is the row's
-pub row_fault-is : (wrong : CellFault) (v : Cell) (i : ℕ) (first : Option (ℕ × FaultKind)) → IsCellFault wrong v → ((kind : FaultKind) → v ≡ Err kind → first ≡ Some (i, kind)) → IsRowFault (row_fault_of i wrong) first
-row_fault-is cell_fault.Escape v i first is given = given fault.Escape is
-row_fault-is cell_fault.Utf8 v i first is given = given fault.Utf8 is
-row_fault-is cell_fault.Value v i first is given = given fault.Value is
+pub row_fault-is : (wrong : CellFault) (v : Cell) (i : ℕ) (first : Option (ℕ × FaultKind)) → IsCellFault wrong v → ((given : Fault) → v ≡ Err given → first ≡ Some (i, kind_of given))
+    → IsRowFault (row_fault_of i wrong) first
+row_fault-is cell_fault.Escape v i first is given = given cell.Escape is
+row_fault-is cell_fault.Utf8 v i first is given = given cell.Utf8 is
+row_fault-is cell_fault.Value v i first is given = given cell.Value is
 row_fault-is cell_fault.OutOfMemory v i first is given = tt

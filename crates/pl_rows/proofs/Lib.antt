@@ -1,4 +1,3 @@
-pub mod CellLaws
 pub mod RuleLaws
 pub mod RestLaws
 pub mod ExcessLaws

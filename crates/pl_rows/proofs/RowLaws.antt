@@ -12,13 +12,14 @@ use Rattle.pl_frame.specs.Frame.{Scalar}
 use Rattle.pl_scan.specs.Dialect.{marks_of}
 use Rattle.pl_scan.specs.Fields.{fields, extent}
 use Rattle.pl_cells.specs.declared.cell_fault.CellFault.{CellFault}
-use Rattle.pl_cells.specs.Buffers.{BufferValue, with_value, IsCellFault}
-use Rattle.pl_cells.specs.Cells.{Cell, value_of, fault_of}
+use Rattle.pl_cells.specs.Buffers.{BufferValue, with_value, with_values, IsCellFault}
+use Rattle.pl_cells.specs.Cells.{value_of, fault_of}
+use Rattle.pl_cells.specs.Faults.{Fault, kind_of}
 use Rattle.pl_rows.specs.declared.plan.RangePlan.{RangePlan}
 use Rattle.pl_rows.specs.declared.row.RowFault.{RowFault}
 use Rattle.pl_rows.specs.declared.row_rest.RowRest.{RowRest}
 use Rattle.pl_rows.specs.Cells.{RowRules, cell}
-use Rattle.pl_rows.specs.Columns.{column_cells, with_cells, with_columns}
+use Rattle.pl_rows.specs.Columns.{with_columns}
 use Rattle.pl_rows.specs.Plan.{AreRising, rules_of, plan_columns, state_types}
 use Rattle.pl_rows.specs.RowRest.{fields_left, behind_row}
 use Rattle.pl_rows.specs.Rows.{Row, field_at, column_fault, first_or, excess_fault, passes_excess, first_fault, row_at}
@@ -116,7 +117,7 @@ HasReadColumns-more plan b before now left begin behind i next place old value r
         front =
             take_more_set now i new at.inside
             ∙ ap (λ l. l ++ new ∷ []) read.cells.front
-            ∙ ap (λ c. with_columns rules (row ∷ []) (take i places) (take i before) ++ with_cells old (value_of c ∷ []) ∷ []) (sym fine)
+            ∙ ap (λ c. with_columns rules (row ∷ []) (take i places) (take i before) ++ with_values old (value_of c ∷ []) ∷ []) (sym fine)
             ∙ sym (with_columns-more rules (row ∷ []) (take i places) (take i before) place old (length-take-le i places (omega arith) ∙ sym (length-take-le i before (omega arith))))
             ∙ ap (λ p. with_columns rules (row ∷ []) (take i places ++ p ∷ []) (take i before ++ old ∷ [])) at.place_is
             ∙ ap (λ ps. with_columns rules (row ∷ []) ps (take i before ++ old ∷ [])) (sym (take_more places i 0 within_places))
@@ -138,12 +139,12 @@ HasReadColumns-more plan b before now left begin behind i next place old value r
         (cell_faults (rules_of plan) (fields (marks_of plan.dialect) b) (drop (i + 1) plan.projection.places.now) (state_types (drop (i + 1) before)))
 
 -- the first fault where a cell has one
-pub first_fault-here : (plan : RangePlan) (b : List ℕ) (before now : List BufferValue) (left begin : RowRest) (i next place : ℕ) (old : BufferValue) (kind : FaultKind)
+pub first_fault-here : (plan : RangePlan) (b : List ℕ) (before now : List BufferValue) (left begin : RowRest) (i next place : ℕ) (old : BufferValue) (given : Fault)
     → HasReadColumns plan b before now left i next → IsAt plan before now i place old
     → fields_left (marks_of plan.dialect) begin ≡ drop (place - next) (fields_left (marks_of plan.dialect) left)
-    → cell (rules_of plan) place old.dtype (field_at (fields_left (marks_of plan.dialect) begin) 0) ≡ Err kind
-    → first_fault (rules_of plan) (plan_columns plan before) (row_at (marks_of plan.dialect) b) ≡ Some (place, kind)
-first_fault-here plan b before now left begin i next place old kind read at begin_is wrong =
+    → cell (rules_of plan) place old.dtype (field_at (fields_left (marks_of plan.dialect) begin) 0) ≡ Err given
+    → first_fault (rules_of plan) (plan_columns plan before) (row_at (marks_of plan.dialect) b) ≡ Some (place, kind_of given)
+first_fault-here plan b before now left begin i next place old given read at begin_is wrong =
     let rules = rules_of plan in
     let fs = fields (marks_of plan.dialect) b in
     let row = row_at (marks_of plan.dialect) b in
@@ -151,7 +152,7 @@ first_fault-here plan b before now left begin i next place old kind read at begi
     let columns = plan_columns plan before in
     let other = excess_fault (passes_excess rules columns) columns.width row in
     let field = next_field_is plan b before now left begin i next place old read at begin_is in
-    let fails : cell rules place old.dtype (field_at fs place) ≡ Err kind = sym (ap (cell rules place old.dtype) field.1) ∙ wrong in
+    let fails : cell rules place old.dtype (field_at fs place) ≡ Err given = sym (ap (cell rules place old.dtype) field.1) ∙ wrong in
     let there = here_before plan before now i place old at read.cells.rest in
     ap (first_or other) (read.sound
     ∙ ap (λ ps. cell_faults rules fs ps (state_types (drop i before))) (here_places plan before now i place old at)
@@ -175,7 +176,7 @@ cells_fault plan b before now after left begin i next place old wrong read at be
       added = record { front = ap (take i) kept ∙ read.cells.front; rest = ap (drop i) kept ∙ read.cells.rest };
       first = row_fault-is wrong (cell rules place old.dtype (field_at (fields_left (marks_of plan.dialect) begin) 0)) place
           (first_fault rules (plan_columns plan before) (row_at (marks_of plan.dialect) b)) fault
-          (λ kind is. first_fault-here plan b before now left begin i next place old kind read at begin_is is);
+          (λ given is. first_fault-here plan b before now left begin i next place old given read at begin_is is);
     }
 
 -- all columns were read

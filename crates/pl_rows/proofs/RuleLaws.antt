@@ -1,16 +1,11 @@
 -- Buffers that read by the rules, and columns that have their null texts.
 use Rattle.std.proofs.Common.{◌≡◌, ℕ, zero, suc, ◌+◌, ◌≤◌, List, [], ◌∷◌, drop, refl, subst, arith}
-use Rattle.std.specs.Prelude.{Option, None, Some}
-use Rattle.std.specs.Borrow.{Bor}
 use Rattle.pl_frame.specs.Schema.{Entry}
-use Rattle.pl_cells.specs.declared.null_values.NullValuesCompiled.{NullValuesCompiled}
-use Rattle.pl_cells.specs.declared.null_values.NullValuesCompiled.TheVariants as compiled
 use Rattle.pl_cells.specs.Buffers.{BufferValue}
-use Rattle.pl_cells.specs.NullValues.{HasColumns}
 use Rattle.pl_cells.specs.BufferState.{empty_buffers}
 use Rattle.pl_rows.specs.Cells.{RowRules}
 use Rattle.pl_rows.specs.Columns.{with_columns}
-use Rattle.pl_rows.specs.Plan.{FollowsRules, FollowRules, HaveTexts}
+use Rattle.pl_rows.specs.Plan.{FollowsRules, FollowRules}
 use Rattle.pl_rows.specs.Rows.{Row}
 
 -- the buffer at a place does
@@ -31,13 +26,3 @@ FollowRules-with_columns rules given (place ∷ places) (buffer ∷ others) foll
 pub FollowRules-empty : (rules : RowRules) (schema : List Entry) (places : List ℕ) → FollowRules rules (empty_buffers rules.quote_char rules.reading.encoding schema places)
 FollowRules-empty rules schema [] = tt
 FollowRules-empty rules schema (place ∷ places) = ((refl, refl), FollowRules-empty rules schema places)
-
--- fewer columns have their texts too
-HasColumns-fewer : (nulls : NullValuesCompiled) (n k : ℕ) → k ≤ n → HasColumns nulls n → HasColumns nulls k
-HasColumns-fewer (compiled.AllColumnsSingle text) n k few has = tt
-HasColumns-fewer (compiled.AllColumns texts) n k few has = tt
-HasColumns-fewer (compiled.Columns texts) n k few has = omega arith
-
-pub HaveTexts-fewer : (nulls : Option (Bor NullValuesCompiled)) (n k : ℕ) → k ≤ n → HaveTexts nulls n → HaveTexts nulls k
-HaveTexts-fewer None n k few has = tt
-HaveTexts-fewer (Some nulls) n k few has = HasColumns-fewer nulls.now n k few has

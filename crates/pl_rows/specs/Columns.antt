@@ -1,9 +1,9 @@
 -- Columns of the cells of rows (docs/types.md, "Ranges").
-use Rattle.std.specs.Prelude.{ℕ, List, [], ◌∷◌, ◌++◌, map, Option}
+use Rattle.std.specs.Prelude.{ℕ, List, [], ◌∷◌, map, Option}
 use Rattle.pl_frame.specs.declared.data_type.DataType.{DataType}
 use Rattle.pl_frame.specs.Frame.{Scalar, ColumnValue}
 use Rattle.pl_frame.specs.Schema.{Entry}
-use Rattle.pl_cells.specs.Buffers.{BufferValue, column_of}
+use Rattle.pl_cells.specs.Buffers.{BufferValue, with_values, column_of}
 use Rattle.pl_cells.specs.Cells.{value_of}
 use Rattle.pl_rows.specs.Cells.{RowRules, cell}
 use Rattle.pl_rows.specs.Rows.{Row, field_at}
@@ -12,20 +12,10 @@ use Rattle.pl_rows.specs.Rows.{Row, field_at}
 abbrev pub column_cells : RowRules → List Row → ℕ × DataType → List (Option Scalar)
 column_cells rules given (column, type) = map (λ row. value_of (cell rules column type (field_at row.fields column))) given
 
--- a buffer with cells at its end
-abbrev pub with_cells : BufferValue → List (Option Scalar) → BufferValue
-with_cells buffer cells = record {
-  name = buffer.name;
-  dtype = buffer.dtype;
-  quote_char = buffer.quote_char;
-  encoding = buffer.encoding;
-  values = buffer.values ++ cells;
-}
-
 -- each buffer with the cells of its column over rows at its end, given the columns' places
 abbrev pub with_columns : RowRules → List Row → List ℕ → List BufferValue → List BufferValue
 with_columns rules given (place ∷ places) (buffer ∷ others) =
-    with_cells buffer (column_cells rules given (place, buffer.dtype)) ∷ with_columns rules given places others
+    with_values buffer (column_cells rules given (place, buffer.dtype)) ∷ with_columns rules given places others
 with_columns rules given places others = []
 
 -- a column of a frame, given its place in the schema, its name and its type

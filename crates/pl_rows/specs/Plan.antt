@@ -1,16 +1,14 @@
 -- What a plan of a reading says: which columns are read, by which rules, and into which buffers (docs/types.md, "Ranges").
-use Rattle.std.specs.Prelude.{◌≡◌, ℕ, ◌+◌, ◌<◌, ◌≤◌, List, [], ◌∷◌, length, map, Option, None, Some}
-use Rattle.std.specs.Borrow.{Bor}
+use Rattle.std.specs.Prelude.{◌≡◌, ℕ, ◌+◌, ◌<◌, ◌≤◌, List, [], ◌∷◌, length, map, Option}
 use Rattle.std.specs.List.{AllByRecursion, zip}
 use Rattle.std.specs.Option.{option_map}
 use Rattle.pl_frame.specs.declared.data_type.DataType.{DataType}
 use Rattle.pl_frame.specs.Dialect.{AreDistinct}
 use Rattle.pl_scan.specs.Dialect.{marks_of}
 use Rattle.pl_cells.specs.declared.buffer.Buffer.{Buffer}
-use Rattle.pl_cells.specs.declared.null_values.NullValuesCompiled.{NullValuesCompiled}
 use Rattle.pl_cells.specs.BufferState.{state_of}
 use Rattle.pl_cells.specs.Buffers.{BufferValue}
-use Rattle.pl_cells.specs.NullValues.{HasColumns}
+use Rattle.pl_cells.specs.NullValues.{HaveTexts}
 use Rattle.pl_rows.specs.declared.plan.RangePlan.{RangePlan}
 use Rattle.pl_rows.specs.declared.plan.RowOptions.{RowOptions}
 use Rattle.pl_rows.specs.Cells.{RowRules}
@@ -56,11 +54,6 @@ FollowsRules rules buffer = (buffer.quote_char ≡ rules.quote_char) × (buffer.
 -- each of the buffers does
 abbrev pub FollowRules : RowRules → List BufferValue → Type 0
 FollowRules rules given = AllByRecursion (FollowsRules rules) given
-
--- so many columns have their null texts, where there are such
-abbrev pub HaveTexts : Option (Bor NullValuesCompiled) → ℕ → Type 0
-HaveTexts None columns = Unit {0}
-HaveTexts (Some nulls) columns = HasColumns nulls.now columns
 
 -- Buffers into which a plan can read: the marks differ from one another, the places rise and are places of the schema, each
 -- has a buffer that reads by the plan's rules, and each column of the schema has its null texts.

@@ -7,7 +7,7 @@ use Rattle.pl_scan.specs.Dialect.{marks_of}
 use Rattle.pl_scan.specs.Fields.{fields, extent}
 use Rattle.pl_cells.specs.declared.cell_fault.CellFault.{CellFault}
 use Rattle.pl_cells.specs.declared.cell_fault.CellFault.TheVariants as cell_fault
-use Rattle.pl_cells.specs.Buffers.{BufferValue}
+use Rattle.pl_cells.specs.Buffers.{BufferValue, cut_to}
 use Rattle.pl_rows.specs.declared.plan.RangePlan.{RangePlan}
 use Rattle.pl_rows.specs.declared.row.RowFault.{RowFault}
 use Rattle.pl_rows.specs.declared.row.RowFault.TheVariants as row_fault
@@ -20,16 +20,6 @@ use Rattle.pl_rows.specs.Ranges.{is_judged}
 use Rattle.pl_rows.specs.RowRest.{fields_left, behind_row, IsDone, HasMore}
 use Rattle.pl_rows.specs.Rows.{Row, row_at, first_fault, column_fault}
 use Rattle.std.specs.List.{filter_map}
-
--- a buffer with so many of its cells
-abbrev pub cut_to : ℕ → BufferValue → BufferValue
-cut_to n buffer = record {
-  name = buffer.name;
-  dtype = buffer.dtype;
-  quote_char = buffer.quote_char;
-  encoding = buffer.encoding;
-  values = take n buffer.values;
-}
 
 -- a buffer without its last cells
 abbrev pub without_last : ℕ → BufferValue → BufferValue

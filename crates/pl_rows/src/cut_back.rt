@@ -1,21 +1,17 @@
 //! Cells that buffers lose again.
 ghost use Rattle.std.specs.Prelude.{◌≡◌, ◌≤◌, length};
 ghost use Rattle.pl_rows.specs.Plan.{states};
-ghost use Rattle.pl_rows.specs.Steps.{without_last, cut_back, cut_to};
+ghost use Rattle.pl_rows.specs.Steps.{without_last, cut_back};
 ghost use Rattle.pl_cells.specs.BufferState.{state_of};
 
 use pl_cells::buffer::Buffer;
-
-fn truncate(buffer: &mut Buffer, len: usize)
-    ensures { state_of buffer.new ≡ cut_to len (state_of buffer.old) }
-{}
 
 // Takes the last cells of a buffer away.
 fn remove_cells(buffer: &mut Buffer, count: usize)
     ensures { state_of buffer.new ≡ without_last count (state_of buffer.old) }
 {
     let len = buffer.len();
-    truncate(buffer, len.saturating_sub(count));
+    buffer.truncate(len.saturating_sub(count));
 }
 
 /// Takes the last cells of the first buffers away.

@@ -1,0 +1,9 @@
+pub mod RuleLaws
+pub mod RestLaws
+pub mod ExcessLaws
+pub mod ColumnLaws
+pub mod RowLaws
+pub mod RangeLaws
+pub mod OpenLaws
+pub mod FrameLaws
+pub mod PlanLaws

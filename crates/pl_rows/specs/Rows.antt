@@ -1,0 +1,69 @@
+-- Records as rows of cells, and the first fault of a row (docs/types.md, "Ranges").
+use Rattle.std.specs.Prelude.{ℕ, zero, suc, ◌+◌, Bool, not, ◌&&◌, ◌||◌, ◌==◌, nat_lt, if◌then◌else◌, List, [], ◌∷◌, length, drop, Option, None, Some, unwrap_or, slice_get}
+use Rattle.std.specs.List.{filter_map}
+use Rattle.pl_frame.specs.declared.data_type.DataType.{DataType}
+use Rattle.pl_frame.specs.declared.error.FaultKind.{FaultKind}
+use Rattle.pl_frame.specs.declared.error.FaultKind.TheVariants as fault
+use Rattle.pl_frame.specs.Dialect.{Marks}
+use Rattle.pl_scan.specs.Fields.{fields, extent}
+use Rattle.pl_scan.specs.Items.{ItemText, CommentText, RecordText, items_behind}
+use Rattle.pl_cells.specs.Cells.{fault_of}
+use Rattle.pl_rows.specs.Cells.{RowRules, cell}
+use Rattle.pl_rows.specs.Plan.{Columns}
+
+-- a record as it is read: its fields, and whether nothing stands behind it in the text
+pub record Row : Type 0 where
+  pub fields : List (List ℕ)
+  pub is_end : Bool
+
+-- the record at the front of a text
+abbrev pub row_at : Marks → List ℕ → Row
+row_at m b = record { fields = fields m b; is_end = length (drop (extent m b) b) == 0 }
+
+-- comments give no row
+abbrev pub row_of : Marks → ItemText × List ℕ → Option Row
+row_of m (CommentText text, behind) = None
+row_of m (RecordText text, behind) = Some (record { fields = fields m text; is_end = length behind == 0 })
+
+-- the records of a text, numbered from 0
+abbrev pub rows : Marks → Option (List ℕ) → List ℕ → List Row
+rows m comment b = filter_map (row_of m) (items_behind m comment b)
+
+-- the field of a column, where a missing one counts as the empty one
+abbrev pub field_at : List (List ℕ) → ℕ → List ℕ
+field_at fs column = unwrap_or (slice_get fs column) []
+
+-- the fault of a column's cell, if it has one
+abbrev pub column_fault : RowRules → List (List ℕ) → ℕ × DataType → Option (ℕ × FaultKind)
+column_fault rules fs (column, type) = elim (fault_of (cell rules column type (field_at fs column))) [ None ↦ None | Some kind ↦ Some (column, kind) ]
+
+-- one field too many, empty, whose separator is the last byte of the text
+abbrev pub is_forgiven : ℕ → Row → Bool
+is_forgiven width row = row.is_end && (length row.fields == width + 1 && length (field_at row.fields width) == 0)
+
+-- more fields than columns, where they are not passed over
+abbrev pub excess_fault : Bool → ℕ → Row → Option (ℕ × FaultKind)
+excess_fault passed width row =
+    if not passed && (nat_lt width (length row.fields) && not (is_forgiven width row)) then Some (width, fault.Fields) else None
+
+-- more fields than the schema has columns are passed over where they may be, and where not all of its columns are read
+abbrev pub passes_excess : RowRules → Columns → Bool
+passes_excess rules columns = rules.truncate_ragged_lines || not (length columns.read == columns.width)
+
+-- the first element, or else another
+abbrev pub first_or : {X : Type 0} → Option X → List X → Option X
+first_or other [] = other
+first_or other (x ∷ xs) = Some x
+
+-- the least column among those that are read whose cell has a fault, or else more fields than the schema has columns
+abbrev pub first_fault : RowRules → Columns → Row → Option (ℕ × FaultKind)
+first_fault rules columns row =
+    first_or (excess_fault (passes_excess rules columns) columns.width row) (filter_map (column_fault rules row.fields) columns.read)
+
+-- the least row with a fault, counted from a number on, and its first fault
+abbrev pub first_faulty : RowRules → Columns → ℕ → List Row → Option (ℕ × (ℕ × FaultKind))
+first_faulty rules columns number [] = None
+first_faulty rules columns number (row ∷ others) = elim (first_fault rules columns row) [
+  | Some found ↦ Some (number, found)
+  | None ↦ first_faulty rules columns (number + 1) others
+]

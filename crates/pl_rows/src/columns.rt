@@ -1,0 +1,67 @@
+//! From a schema to buffers, and from buffers to columns.
+ghost use Rattle.std.specs.Prelude.{◌≡◌, ◌<◌, ℕ, None, length, slice_index, IfOk};
+ghost use Rattle.std.specs.List.{range_with_len};
+ghost use Rattle.pl_cells.specs.BufferState.{empty_buffers, first_unreadable, IsTypeFault};
+ghost use Rattle.pl_rows.specs.Plan.{states};
+ghost use Rattle.pl_rows.specs.Columns.{columns_of};
+
+use pl_cells::buffer::Buffer;
+use pl_cells::buffers::init_buffers;
+use pl_cells::utf8::CsvEncoding;
+use pl_frame::column::Column;
+use pl_frame::error::PolarsError;
+use pl_frame::schema::Schema;
+use std::alloc::{AllocError, Global};
+
+/// The numbers below a number, in order: the places of that many columns. Refuses only want of memory.
+pub fn all_places(alloc: Global, count: usize) -> Result<Vec<usize>, AllocError>
+    ensures { IfOk result (λ places. places.items ≡ range_with_len 0 count) }
+{
+    let mut places = Vec::new(alloc);
+    for place in 0..count {
+        places.push(place)?;
+    }
+    Ok(places)
+}
+
+/// An empty buffer for each of these columns of a schema, whose types can be read. Refuses only want of memory.
+pub fn empty_buffers(
+    alloc: Global,
+    schema: &Schema,
+    places: &[usize],
+    quote_char: Option<u8>,
+    encoding: CsvEncoding,
+) -> Result<Vec<Buffer>, AllocError>
+    requires places { (k : ℕ) → k < length places.now → slice_index places.now k < length schema.now }
+    requires readable { first_unreadable schema.now places.now ≡ None }
+    ensures { IfOk result (λ buffers. states buffers.items ≡ empty_buffers quote_char encoding schema.now places.now) }
+{
+    match init_buffers(alloc, places, 0, schema, quote_char, encoding) {
+        Ok(buffers) => Ok(buffers),
+        Err(fault) => Err(wanting(fault)),
+    }
+}
+
+// The want of memory that a fault is where all types can be read.
+fn wanting(fault: PolarsError) -> AllocError
+    requires { IsTypeFault None fault }
+{
+    match fault {
+        PolarsError::OutOfMemory => AllocError,
+        _ => unreachable!(),
+    }
+}
+
+/// The columns that buffers are. Refuses only want of memory.
+pub fn into_columns(alloc: Global, buffers: Vec<Buffer>) -> Result<Vec<Column>, AllocError>
+    ensures { IfOk result (λ columns. columns.items ≡ columns_of (states buffers.items)) }
+{
+    let mut columns = Vec::new(alloc);
+    for buffer in buffers {
+        match buffer.into_series() {
+            Ok(column) => columns.push(column)?,
+            Err(_) => return Err(AllocError),
+        }
+    }
+    Ok(columns)
+}

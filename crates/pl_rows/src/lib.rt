@@ -1,0 +1,11 @@
+//! A range of records into buffers: rows, their cells and faults, and the columns that they make.
+#![tactic(auto)]
+
+pub mod columns;
+mod cut_back;
+mod field;
+pub mod laws;
+pub mod plan;
+pub mod range;
+mod row;
+mod row_rest;

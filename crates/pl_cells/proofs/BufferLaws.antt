@@ -16,7 +16,7 @@ use Rattle.pl_frame.specs.Columns.{text_cells}
 use Rattle.pl_frame.specs.Frame.{Scalar, Letters}
 use Rattle.pl_cells.specs.declared.utf8.CsvEncoding.{CsvEncoding}
 use Rattle.pl_cells.specs.declared.utf8.CsvEncoding.TheVariants as encodings
-use Rattle.pl_cells.specs.Buffers.{BufferValue, Answers, Adds, ListAnswers, IsCellFault, is_ignored, reading_of, reading_with}
+use Rattle.pl_cells.specs.BufferValue.{BufferValue, Answers, Adds, ListAnswers, IsCellFault, is_ignored, reading_of, reading_with}
 use Rattle.pl_cells.specs.NullTest.{nothing_is_null}
 use Rattle.pl_cells.specs.Cells.{missing_value, Cell, Reading, plain_cell, quoted_cell, stripped_cell, is_missing, softened, value_or_null, counted_text, string_cell, text_cell}
 

@@ -1,7 +1,7 @@
 //! Buffers of truth values and of numbers.
 ghost use Rattle.std.specs.Prelude.{◌≡◌, true, [], length, OnOk, OnErr, None};
 ghost use Rattle.pl_frame.specs.Types.{is_text};
-ghost use Rattle.pl_cells.specs.Buffers.{Answers, with_value, cut_to, reading_of, column_of};
+ghost use Rattle.pl_cells.specs.BufferValue.{Answers, with_value, cut_to, reading_of, column_of};
 ghost use Rattle.pl_cells.specs.Cells.{missing_value, plain_cell, quoted_cell, softened, value_or_null, counted_text};
 ghost use Rattle.pl_cells.specs.Integers.{without_blanks};
 
@@ -26,7 +26,7 @@ impl<K: ValueType> Model for ValueBuffer<K> {
     ghost use Rattle.std.specs.Prelude.{map};
     ghost use Rattle.std.specs.Option.{option_map};
     ghost use Rattle.pl_frame.specs.Columns.{HoldsType};
-    ghost use Rattle.pl_cells.specs.Buffers.{BufferValue};
+    ghost use Rattle.pl_cells.specs.BufferValue.{BufferValue};
 
     ghost Value = { BufferValue };
 

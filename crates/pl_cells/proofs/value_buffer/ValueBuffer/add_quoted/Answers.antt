@@ -1,5 +1,5 @@
 use Rattle.std.proofs.Common.{true, ap}
-use Rattle.pl_cells.specs.Buffers.{BufferValue}
+use Rattle.pl_cells.specs.BufferValue.{BufferValue}
 use Rattle.pl_cells.proofs.BufferLaws.{answers_quoted}
 use Rattle.pl_cells.proofs.value_buffer.ValueBuffer.add_quoted.Goals as goal
 

@@ -16,9 +16,9 @@ use Rattle.pl_frame.specs.Columns.{text_cells}
 use Rattle.pl_frame.specs.Frame.{Scalar, Letters}
 use Rattle.pl_cells.specs.declared.utf8.CsvEncoding.{CsvEncoding}
 use Rattle.pl_cells.specs.declared.utf8.CsvEncoding.TheVariants as encodings
-use Rattle.pl_cells.specs.Buffers.{BufferValue, Answers, Adds, ListAnswers, IsCellFault, is_ignored, reading_of, reading_with}
+use Rattle.pl_cells.specs.BufferValue.{BufferValue, Answers, Adds, ListAnswers, IsCellFault, is_ignored, reading_of, reading_with}
 use Rattle.pl_cells.specs.NullTest.{nothing_is_null}
-use Rattle.pl_cells.specs.Cells.{missing_value, Cell, Reading, plain_cell, quoted_cell, stripped_cell, is_missing, softened, value_or_null, counted_text, string_cell, text_cell}
+use Rattle.pl_cells.specs.Cells.{missing_value, Cell, Reading, plain_cell, quoted_cell, stripped_cell, is_missing, softened, value_or_null, value_text, string_cell, text_cell}
 
 abbrev pub push_value : List (Option Scalar) → Option Scalar → List (Option Scalar)
 push_value values value = values ++ value ∷ []
@@ -27,7 +27,7 @@ abbrev pub record_of : List ℕ → DataType → Option ℕ → CsvEncoding → 
 record_of name type quote encoding values = record { name = name; dtype = type; quote_char = quote; encoding = encoding; values = values }
 
 -- the cell of a type that holds no texts is its value or a null, in quotes or not
-pub plain_value : (reading : Reading) (type : DataType) (text : List ℕ) → is_text type ≡ false → plain_cell reading type text ≡ value_or_null type (counted_text type text)
+pub plain_value : (reading : Reading) (type : DataType) (text : List ℕ) → is_text type ≡ false → plain_cell reading type text ≡ value_or_null type (value_text type text)
 plain_value reading dtype.Boolean [] h = refl
 plain_value reading dtype.Boolean (x ∷ xs) h = refl
 plain_value reading dtype.Int8 [] h = refl
@@ -62,7 +62,7 @@ plain_value reading dtype.String text h = absurd (cc)
 plain_value reading dtype.Categorical text h = absurd (cc)
 plain_value reading (dtype.Enum c) text h = absurd (cc)
 
-pub quoted_value : (reading : Reading) (q : ℕ) (type : DataType) (text : List ℕ) → is_text type ≡ false → quoted_cell reading q type text ≡ value_or_null type (counted_text type text)
+pub quoted_value : (reading : Reading) (q : ℕ) (type : DataType) (text : List ℕ) → is_text type ≡ false → quoted_cell reading q type text ≡ value_or_null type (value_text type text)
 quoted_value reading q dtype.Boolean text h = refl
 quoted_value reading q dtype.Int8 text h = refl
 quoted_value reading q dtype.Int16 text h = refl
@@ -84,19 +84,19 @@ quoted_value reading q (dtype.Enum c) text h = absurd (cc)
 
 -- what a buffer of values answers for a plain text, and for one between quotes
 pub answers_plain : {T : Type 0} (old new : BufferValue) (type : DataType) (text counted : List ℕ) (ignore missing : Bool) (r : Result T CellFault) → type ≡ old.dtype
-    → counted ≡ counted_text type text → is_text type ≡ false → Answers old new (softened ignore (value_or_null old.dtype counted)) r
+    → counted ≡ value_text type text → is_text type ≡ false → Answers old new (softened ignore (value_or_null old.dtype counted)) r
     → Answers old new (softened ignore (plain_cell (reading_of old missing ignore) old.dtype text)) r
 answers_plain old new type text counted ignore missing r is counted_is no_text h =
     let here : is_text old.dtype ≡ false = subst (λ (t : DataType). is_text t ≡ false) is no_text in
-    let same = ap (value_or_null old.dtype) (counted_is ∙ ap (λ (t : DataType). counted_text t text) is) ∙ sym (plain_value (reading_of old missing ignore) old.dtype text here) in
+    let same = ap (value_or_null old.dtype) (counted_is ∙ ap (λ (t : DataType). value_text t text) is) ∙ sym (plain_value (reading_of old missing ignore) old.dtype text here) in
     subst (λ (c : Cell). Answers old new (softened ignore c) r) same h
 
 pub answers_quoted : {T : Type 0} (old new : BufferValue) (type : DataType) (text counted : List ℕ) (ignore missing : Bool) (q : ℕ) (r : Result T CellFault) → type ≡ old.dtype
-    → counted ≡ counted_text type text → is_text type ≡ false → Answers old new (softened ignore (value_or_null old.dtype counted)) r
+    → counted ≡ value_text type text → is_text type ≡ false → Answers old new (softened ignore (value_or_null old.dtype counted)) r
     → Answers old new (softened ignore (quoted_cell (reading_of old missing ignore) q old.dtype text)) r
 answers_quoted old new type text counted ignore missing q r is counted_is no_text h =
     let here : is_text old.dtype ≡ false = subst (λ (t : DataType). is_text t ≡ false) is no_text in
-    let same = ap (value_or_null old.dtype) (counted_is ∙ ap (λ (t : DataType). counted_text t text) is) ∙ sym (quoted_value (reading_of old missing ignore) q old.dtype text here) in
+    let same = ap (value_or_null old.dtype) (counted_is ∙ ap (λ (t : DataType). value_text t text) is) ∙ sym (quoted_value (reading_of old missing ignore) q old.dtype text here) in
     subst (λ (c : Cell). Answers old new (softened ignore c) r) same h
 
 -- ---- texts

@@ -16,7 +16,8 @@ use Rattle.pl_frame.specs.Columns.{is_value_of, misfits}
 use Rattle.pl_frame.specs.declared.schema.Field.{Field}
 use Rattle.pl_frame.specs.Frame.{Scalar, ColumnValue, IsFrame, HaveHeight, names_of, height_of}
 use Rattle.pl_frame.proofs.SchemaLaws.{none_passes, position-map}
-use Rattle.pl_cells.specs.Casts.{IsCastFault, cast_fault, carried_cell, carried_cast, place_named, placed_cast, cast_of, with_casts, with_placed, with_all_placed, FitsAt, field_named, field_fault, first_fault}
+use Rattle.pl_cells.specs.Casts.{IsCastFault, cast_fault, carried_cell, carried_cast, place_named, cast_of, with_casts, field_named, field_fault, first_fault}
+use Rattle.pl_cells.specs.CastPlaces.{placed_cast, with_placed, with_all_placed, FitsAt}
 
 some_same : {X : Type 0} (x y : X) → Some x ≡ Some y → x ≡ y
 some_same x y e = cc

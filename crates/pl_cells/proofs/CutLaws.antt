@@ -10,7 +10,7 @@ use Rattle.pl_frame.specs.Frame.{Scalar}
 use Rattle.pl_frame.proofs.ColumnLaws.{position-nowhere}
 use Rattle.pl_frame.proofs.SchemaLaws.{none_passes}
 use Rattle.pl_cells.specs.declared.utf8.CsvEncoding.{CsvEncoding}
-use Rattle.pl_cells.specs.Buffers.{BufferValue, cut_to}
+use Rattle.pl_cells.specs.BufferValue.{BufferValue, cut_to}
 use Rattle.pl_cells.specs.EnumPlaces.{EnumValue, ArePlaces}
 use Rattle.pl_cells.proofs.BufferLaws.{record_of}
 use Rattle.pl_cells.proofs.EnumLaws.{enum_of}

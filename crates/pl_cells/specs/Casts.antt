@@ -1,5 +1,5 @@
 -- Casts of columns of a frame, also from text (docs/types.md, "Casts").
-use Rattle.std.specs.Prelude.{◌≡◌, ℕ, Bool, ◌&&◌, ◌||◌, if◌then◌else◌, List, [], ◌∷◌, Option, None, Some, is_some, is_none, length, map, find, position, slice_get, slice_set}
+use Rattle.std.specs.Prelude.{◌≡◌, ℕ, Bool, ◌&&◌, ◌||◌, if◌then◌else◌, List, [], ◌∷◌, Option, None, Some, is_some, is_none, map, find, position, slice_get}
 use Rattle.std.specs.Option.{option_map, option_map_or, option_and_then}
 use Rattle.std.specs.Str.{bytes_eq}
 use Rattle.pl_frame.specs.declared.data_type.DataType.{DataType}
@@ -92,24 +92,3 @@ cast_of fields column = option_map_or (λ field. carried_cast column field.dtype
 -- each column of a frame so
 abbrev pub with_casts : List Field → List ColumnValue → List ColumnValue
 with_casts fields columns = map (cast_of fields) columns
-
--- ---- columns on the way into a frame
-
--- the cast column of a field with its place, where the frame has one of its name
-abbrev pub placed_cast : List ColumnValue → Field → Option (ℕ × ColumnValue)
-placed_cast columns field =
-    option_and_then (λ place. option_map (λ column. (place, carried_cast column field.dtype)) (slice_get columns place)) (place_named field.name columns)
-
--- the columns with one of them at its place
-abbrev pub with_placed : Option (ℕ × ColumnValue) → List ColumnValue → List ColumnValue
-with_placed placed columns = option_map_or (λ p. slice_set columns p.0 p.1) placed columns
-
--- the columns with each of these at its place; where two have one place, the first of them stands
-abbrev pub with_all_placed : List (Option (ℕ × ColumnValue)) → List ColumnValue → List ColumnValue
-with_all_placed [] columns = columns
-with_all_placed (placed ∷ rest) columns = with_placed placed (with_all_placed rest columns)
-
--- the column has a name of the frame at its place, and the frame's height
-abbrev pub FitsAt : List (List ℕ) → ℕ → Option (ℕ × ColumnValue) → Type 0
-FitsAt names height None = Unit {0}
-FitsAt names height (Some placed) = (slice_get names placed.0 ≡ Some placed.1.name) × (length placed.1.values ≡ height)

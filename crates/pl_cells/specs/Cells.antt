@@ -46,16 +46,16 @@ abbrev pub value_or_null : DataType → List ℕ → Cell
 value_or_null type [] = Ok None
 value_or_null type (x ∷ xs) = value_cell type (x ∷ xs)
 
--- blanks in front of a whole number don't count
-abbrev pub counted_text : DataType → List ℕ → List ℕ
-counted_text type text = if is_whole_number type then without_blanks text else text
+-- the text whose value is taken: blanks in front of a whole number don't count
+abbrev pub value_text : DataType → List ℕ → List ℕ
+value_text type text = if is_whole_number type then without_blanks text else text
 
 -- the cell of a text, by its type
 abbrev pub text_cell : Reading → DataType → List ℕ → Cell
 text_cell reading dtype.String text = string_cell reading.encoding text
 text_cell reading dtype.Categorical text = category_cell dtype.Categorical text
 text_cell reading (dtype.Enum (Some categories)) text = category_cell (dtype.Enum (Some categories)) text
-text_cell reading type text = value_or_null type (counted_text type text)
+text_cell reading type text = value_or_null type (value_text type text)
 
 -- ---- the cell of a field
 

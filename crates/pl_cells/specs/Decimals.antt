@@ -32,6 +32,7 @@ abbrev pub decimal_of : Option ℕ → ℕ → Bool → List ℕ → List ℕ �
 decimal_of precision scale negative whole fraction =
     if is_decimal scale whole fraction then only_within (decimal_range precision) (signed negative (scaled scale whole fraction)) else None
 
+-- the number of a text, at the scale
 abbrev pub decimal_value : Option ℕ → ℕ → List ℕ → Option ℤ
 decimal_value precision scale text =
     decimal_of precision scale (is_negative text) (before_point (without_sign text)) (behind_point (without_sign text))

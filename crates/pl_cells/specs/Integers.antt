@@ -13,6 +13,7 @@ abbrev pub number_after : ℕ → List ℕ → ℕ
 number_after n [] = n
 number_after n (x ∷ xs) = number_after (n * 10 + (x - 48)) xs
 
+-- the number of digits
 abbrev pub number_of : List ℕ → ℕ
 number_of digits = number_after 0 digits
 

@@ -1,6 +1,6 @@
 pub mod Booleans
-pub mod BufferState
-pub mod Buffers
+pub mod BufferValue
+pub mod CastPlaces
 pub mod Casts
 pub mod Cells
 pub mod Dates
@@ -8,7 +8,9 @@ pub mod DecimalParts
 pub mod Decimals
 pub mod EnumPlaces
 pub mod Faults
+pub mod InitBuffers
 pub mod Integers
+pub mod Laws
 pub mod NullTest
 pub mod NullValues
 pub mod Quoting

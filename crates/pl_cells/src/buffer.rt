@@ -3,8 +3,8 @@ ghost use Rattle.std.specs.Prelude.{◌≡◌, Bool, [], true, not, if◌then◌
 ghost use Rattle.std.specs.Option.{option_copied};
 ghost use Rattle.pl_frame.specs.declared.error.PolarsError.TheVariants as error;
 ghost use Rattle.pl_frame.specs.Types.{is_readable, is_readable_decimal};
-ghost use Rattle.pl_cells.specs.Buffers.{Answers, with_value, cut_to, reading_of, column_of};
-ghost use Rattle.pl_cells.specs.BufferState.{state_of, empty_buffer};
+ghost use Rattle.pl_cells.specs.BufferValue.{Answers, with_value, cut_to, reading_of, column_of};
+ghost use Rattle.pl_cells.specs.InitBuffers.{state_of, empty_buffer};
 ghost use Rattle.pl_cells.specs.Cells.{missing_value, cell, stripped_cell, plain_cell, quoted_cell, softened};
 ghost use Rattle.pl_cells.specs.NullTest.{nothing_is_null};
 ghost use Rattle.pl_cells.specs.NullValues.{HaveTexts, means_null};

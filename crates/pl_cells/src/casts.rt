@@ -7,7 +7,8 @@ ghost use Rattle.pl_frame.specs.declared.error.PolarsError.TheVariants as error;
 ghost use Rattle.pl_frame.specs.Columns.{HoldsType, is_value_of, scalar_of};
 ghost use Rattle.pl_frame.specs.Frame.{cell_at, height_of, names_of};
 ghost use Rattle.pl_frame.specs.Types.{is_readable};
-ghost use Rattle.pl_cells.specs.Casts.{is_read, is_carried, is_text_cast, read_cell, carried_cell, carried_cast, is_lost, first_lost, cast_fault, field_fault, first_fault, IsCastFault, with_casts, placed_cast, with_placed, with_all_placed, FitsAt};
+ghost use Rattle.pl_cells.specs.Casts.{is_read, is_carried, is_text_cast, read_cell, carried_cell, carried_cast, is_lost, first_lost, cast_fault, field_fault, first_fault, IsCastFault, with_casts};
+ghost use Rattle.pl_cells.specs.CastPlaces.{placed_cast, with_placed, with_all_placed, FitsAt};
 
 use crate::decimal_type::Decimal;
 use crate::moment_types::{Date, Datetime, Time};

@@ -1,6 +1,6 @@
 //! What is wrong with a cell.
 ghost use Rattle.std.specs.Prelude.{◌≡◌};
-ghost use Rattle.pl_cells.specs.Buffers.{is_ignored};
+ghost use Rattle.pl_cells.specs.BufferValue.{is_ignored};
 
 use std::alloc::AllocError;
 

@@ -3,7 +3,6 @@
 
 pub mod booleans;
 pub mod buffer;
-pub mod buffers;
 pub mod casts;
 pub mod cell_fault;
 pub mod column_settings;
@@ -11,7 +10,9 @@ pub mod dates;
 pub mod decimal_type;
 pub mod decimals;
 pub mod enum_texts;
+pub mod init_buffers;
 pub mod integers;
+pub mod laws;
 pub mod moment_types;
 pub mod null_test;
 pub mod null_values;

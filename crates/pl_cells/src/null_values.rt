@@ -363,6 +363,14 @@ mod tests {
         Ok(NullValues::Named(NamedTexts::new(vec![in alloc; first, last]?)))
     }
 
+    // How many names with texts are given back.
+    fn given_back(values: NullValues) -> Option<usize> {
+        match values {
+            NullValues::Named(texts) => Some(texts.into_entries().len()),
+            _ => None,
+        }
+    }
+
     // Whether a text means null in a column, where the columns have texts of their own and the column is one of them.
     fn is_null_in(values: &NullValuesCompiled, text: &[u8], column: usize) -> Option<bool> {
         match values {
@@ -396,10 +404,7 @@ mod tests {
         let copy = values.try_clone()?;
         assert!(rt; copy == values);
         assert!(rt; copy != named(alloc, "b")?);
-        match copy {
-            NullValues::Named(texts) => assert_eq!(rt; texts.into_entries().len(), 2),
-            _ => panic!(rt; "names with texts"),
-        }
+        assert_eq!(rt; given_back(copy), Some(2));
         let texts = vec![in alloc; PlSmallStr::from_str(alloc, "NA")?]?;
         assert_eq!(rt; NullTexts::new(texts).into_texts().len(), 1);
         Ok(())

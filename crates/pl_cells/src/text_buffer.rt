@@ -2,7 +2,7 @@
 ghost use Rattle.std.specs.Prelude.{◌≡◌, ℕ, Bool, true, IsTrue, [], length, OnOk, OnErr, IfOk, IsOkUnless};
 ghost use Rattle.pl_frame.specs.declared.error.PolarsError.TheVariants as error;
 ghost use Rattle.pl_frame.specs.Types.{is_text};
-ghost use Rattle.pl_cells.specs.Buffers.{Answers, ListAnswers, with_value, cut_to, reading_of, reading_with, column_of};
+ghost use Rattle.pl_cells.specs.BufferValue.{Answers, ListAnswers, with_value, cut_to, reading_of, reading_with, column_of};
 ghost use Rattle.pl_cells.specs.Cells.{missing_value, plain_cell, quoted_cell, softened, text_cell};
 ghost use Rattle.pl_cells.specs.Quoting.{undouble};
 
@@ -28,7 +28,7 @@ pub struct TextBuffer<L: TextType> {
 }
 
 impl<L: TextType> Model for TextBuffer<L> {
-    ghost use Rattle.pl_cells.specs.Buffers.{BufferValue};
+    ghost use Rattle.pl_cells.specs.BufferValue.{BufferValue};
 
     ghost Value = { BufferValue };
 

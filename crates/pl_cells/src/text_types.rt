@@ -9,7 +9,7 @@ ghost use Rattle.pl_frame.specs.declared.error.PolarsError.TheVariants as error;
 ghost use Rattle.pl_frame.specs.Columns.{text_cells};
 ghost use Rattle.pl_frame.specs.Frame.{Scalar, Letters};
 ghost use Rattle.pl_frame.specs.Types.{is_text};
-ghost use Rattle.pl_cells.specs.Buffers.{ListAnswers, reading_with};
+ghost use Rattle.pl_cells.specs.BufferValue.{ListAnswers, reading_with};
 ghost use Rattle.pl_cells.specs.Cells.{missing_value, text_cell};
 
 use crate::cell_fault::CellFault;

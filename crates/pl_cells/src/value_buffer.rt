@@ -1,8 +1,8 @@
 //! Buffers of truth values and of numbers.
 ghost use Rattle.std.specs.Prelude.{◌≡◌, true, [], length, OnOk, OnErr, None};
 ghost use Rattle.pl_frame.specs.Types.{is_text};
-ghost use Rattle.pl_cells.specs.Buffers.{Answers, with_value, cut_to, reading_of, column_of};
-ghost use Rattle.pl_cells.specs.Cells.{missing_value, plain_cell, quoted_cell, softened, value_or_null, counted_text};
+ghost use Rattle.pl_cells.specs.BufferValue.{Answers, with_value, cut_to, reading_of, column_of};
+ghost use Rattle.pl_cells.specs.Cells.{missing_value, plain_cell, quoted_cell, softened, value_or_null, value_text};
 ghost use Rattle.pl_cells.specs.Integers.{without_blanks};
 
 use crate::cell_fault::CellFault;
@@ -26,7 +26,7 @@ impl<K: ValueType> Model for ValueBuffer<K> {
     ghost use Rattle.std.specs.Prelude.{map};
     ghost use Rattle.std.specs.Option.{option_map};
     ghost use Rattle.pl_frame.specs.Columns.{HoldsType};
-    ghost use Rattle.pl_cells.specs.Buffers.{BufferValue};
+    ghost use Rattle.pl_cells.specs.BufferValue.{BufferValue};
 
     ghost Value = { BufferValue };
 
@@ -51,10 +51,10 @@ fn skip_blanks(text: &[u8]) -> &[u8]
     rest
 }
 
-// What counts of a text of a type.
+// The text whose value is taken, of a type.
 #[inline]
-fn counted<'a, K: ValueType>(kind: &K, text: &'a [u8]) -> &'a [u8]
-    ensures { result.now ≡ counted_text (K.dtype kind.now) text.now }
+fn value_text<'a, K: ValueType>(kind: &K, text: &'a [u8]) -> &'a [u8]
+    ensures { result.now ≡ value_text (K.dtype kind.now) text.now }
 {
     if kind.skips_blanks() {
         skip_blanks(text)
@@ -149,7 +149,7 @@ impl<K: ValueType> ValueBuffer<K> {
     ) -> Result<(), CellFault>
         ensures { Answers self.old self.new (softened ignore_errors (plain_cell (reading_of self.old missing_is_null ignore_errors) self.old.dtype text.now)) result }
     {
-        let text = counted(&self.kind, text);
+        let text = value_text(&self.kind, text);
         self.add_value(text, ignore_errors)
     }
 
@@ -163,7 +163,7 @@ impl<K: ValueType> ValueBuffer<K> {
     ) -> Result<(), CellFault>
         ensures { Answers self.old self.new (softened ignore_errors (quoted_cell (reading_of self.old true ignore_errors) quote self.old.dtype text.now)) result }
     {
-        let text = counted(&self.kind, text);
+        let text = value_text(&self.kind, text);
         self.add_value(text, ignore_errors)
     }
 

@@ -9,7 +9,7 @@ use Rattle.pl_frame.specs.Dialect.{Marks}
 use Rattle.pl_frame.specs.Text.{byte_order_mark}
 use Rattle.pl_scan.specs.Comment.{is_comment}
 use Rattle.pl_scan.specs.Items.{ItemText, text_of, item, items}
-use Rattle.pl_scan.specs.Start.{unless_empty, skip_line, skip_lines, cut_ends, behind_item, pass_items, pass_comments, pass_comments_within, pass_one, pass_header, cut_mark, cut_head, Skips, data_left, start}
+use Rattle.pl_scan.specs.Start.{unless_empty, skip_line, skip_lines, cut_ends, behind_item, pass_items, pass_comments, pass_comments_within, pass_header, cut_mark, cut_head, Skips, data_left, start}
 use Rattle.pl_scan.proofs.ItemLaws.{items-nil, items-step}
 
 unless_empty-some : (b l : List ℕ) → 0 < length l → unless_empty b l ≡ l

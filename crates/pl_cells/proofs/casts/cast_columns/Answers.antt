@@ -1,7 +1,7 @@
 use Rattle.std.proofs.Common.{List, map, sym, ◌∙◌, ap, subst}
 use Rattle.std.specs.List.{AllByRecursion}
 use Rattle.pl_frame.specs.Frame.{ColumnValue, height_of, names_of}
-use Rattle.pl_cells.specs.Casts.{placed_cast, with_all_placed, FitsAt}
+use Rattle.pl_cells.specs.CastPlaces.{placed_cast, with_all_placed, FitsAt}
 use Rattle.pl_cells.proofs.CastLaws.{cast_frame, casts_fit}
 use Rattle.pl_cells.proofs.casts.cast_columns.Goals as goal
 

@@ -1,6 +1,7 @@
 use Rattle.std.proofs.Common.{rules, [], ◌∷◌, ◌++◌, ◌∙◌, ap}
 use Rattle.pl_frame.proofs.FrameLaws.{read_at}
-use Rattle.pl_cells.specs.Casts.{placed_cast, first_fault, IsCastFault}
+use Rattle.pl_cells.specs.Casts.{first_fault, IsCastFault}
+use Rattle.pl_cells.specs.CastPlaces.{placed_cast}
 use Rattle.pl_cells.proofs.CastLaws.{refused_first, faultless_more, row_made}
 use Rattle.pl_cells.proofs.casts.make_casts.Goals as goal
 

@@ -1,5 +1,6 @@
 use Rattle.std.proofs.Common.{◌≡◌, None, map, take}
-use Rattle.pl_cells.specs.Casts.{placed_cast, first_fault}
+use Rattle.pl_cells.specs.Casts.{first_fault}
+use Rattle.pl_cells.specs.CastPlaces.{placed_cast}
 use Rattle.pl_cells.proofs.casts.make_casts.Given as goal
 
 abbrev pub invariant-loop-field : goal.invariant-loop-field

@@ -1,7 +1,7 @@
 use Rattle.std.proofs.Common.{List, sym, ◌∙◌, ap, subst, ℕ}
 use Rattle.std.specs.List.{AllByRecursion}
 use Rattle.pl_frame.specs.Frame.{height_of, names_of}
-use Rattle.pl_cells.specs.Casts.{with_all_placed, FitsAt}
+use Rattle.pl_cells.specs.CastPlaces.{with_all_placed, FitsAt}
 use Rattle.pl_cells.proofs.CastLaws.{placed_last, all_front}
 use Rattle.pl_cells.proofs.casts.place_all.Goals as goal
 

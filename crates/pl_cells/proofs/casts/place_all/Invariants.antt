@@ -1,7 +1,7 @@
 use Rattle.std.proofs.Common.{◌≡◌, length}
 use Rattle.std.specs.List.{AllByRecursion}
 use Rattle.pl_frame.specs.Frame.{height_of, names_of}
-use Rattle.pl_cells.specs.Casts.{with_all_placed, FitsAt}
+use Rattle.pl_cells.specs.CastPlaces.{with_all_placed, FitsAt}
 use Rattle.pl_cells.proofs.casts.place_all.Given as goal
 
 abbrev pub invariant-loop-cast : goal.invariant-loop-cast

@@ -1,5 +1,5 @@
 use Rattle.std.proofs.Common.{sym, ◌∙◌}
-use Rattle.pl_cells.specs.Buffers.{reading_with}
+use Rattle.pl_cells.specs.BufferValue.{reading_with}
 use Rattle.pl_cells.specs.Cells.{text_cell}
 use Rattle.pl_cells.proofs.BufferLaws.{fault_kept}
 use Rattle.pl_cells.proofs.text_buffer.add_text.Goals as goal

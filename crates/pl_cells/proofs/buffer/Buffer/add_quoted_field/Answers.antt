@@ -1,4 +1,4 @@
-use Rattle.pl_cells.specs.BufferState.{state_of}
+use Rattle.pl_cells.specs.InitBuffers.{state_of}
 use Rattle.pl_cells.proofs.BufferLaws.{quoted_inside}
 use Rattle.pl_cells.proofs.buffer.Buffer.add_quoted_field.Goals as goal
 

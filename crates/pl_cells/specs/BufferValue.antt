@@ -1,5 +1,5 @@
 -- What a buffer holds, and what a cell adds to it (docs/types.md, "Buffers").
-use Rattle.std.specs.Prelude.{◌≡◌, ℕ, ◌++◌, Bool, true, false, if◌then◌else◌, List, [], ◌∷◌, take, Option, None, Some, Result, Ok, Err}
+use Rattle.std.specs.Prelude.{◌≡◌, ℕ, ◌++◌, Bool, true, false, List, [], ◌∷◌, take, Option, Result, Ok, Err}
 use Rattle.pl_frame.specs.declared.data_type.DataType.{DataType}
 use Rattle.pl_frame.specs.Frame.{Scalar, ColumnValue}
 use Rattle.pl_cells.specs.declared.cell_fault.CellFault.{CellFault}
@@ -30,10 +30,11 @@ holding buffer values = record {
   values = values;
 }
 
--- the same with these cells more, and with one more
+-- the same with these cells more
 abbrev pub with_values : BufferValue → List (Option Scalar) → BufferValue
 with_values buffer more = holding buffer (buffer.values ++ more)
 
+-- the same with one more
 abbrev pub with_value : BufferValue → Option Scalar → BufferValue
 with_value buffer value = with_values buffer (value ∷ [])
 
@@ -75,9 +76,10 @@ abbrev pub AnswersBy : {B T : Type 0} → (B → Option Scalar → B) → B → 
 AnswersBy push old new c (Ok done) = Adds push old new c
 AnswersBy push old new c (Err wrong) = IsCellFault wrong c × (new ≡ old)
 
--- the same of a buffer, and of its values
+-- the same of a buffer
 abbrev pub Answers : {T : Type 0} → BufferValue → BufferValue → Cell → Result T CellFault → Type 0
 Answers old new c result = AnswersBy with_value old new c result
 
+-- the same of a list of values
 abbrev pub ListAnswers : {T : Type 0} → List (Option Scalar) → List (Option Scalar) → Cell → Result T CellFault → Type 0
 ListAnswers old new c result = AnswersBy (λ values value. values ++ value ∷ []) old new c result

@@ -1,8 +1,8 @@
 use Rattle.std.proofs.Common.{ℕ, not, sym, ◌∙◌, ap}
 use Rattle.pl_frame.specs.Types.{is_readable}
-use Rattle.pl_cells.specs.BufferState.{entry_at}
+use Rattle.pl_cells.specs.InitBuffers.{entry_at}
 use Rattle.pl_cells.proofs.PlaceLaws.{find_first, find_more}
-use Rattle.pl_cells.proofs.buffers.first_unreadable.Goals as goal
+use Rattle.pl_cells.proofs.init_buffers.first_unreadable.Goals as goal
 
 pub returns-then-not-is_readable_at : goal.returns-then-not-is_readable_at
 returns-then-not-is_readable_at c =

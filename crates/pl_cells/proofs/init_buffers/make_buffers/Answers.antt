@@ -1,9 +1,9 @@
 use Rattle.std.proofs.Common.{ℕ, not}
 use Rattle.pl_frame.specs.Types.{is_readable}
 use Rattle.pl_frame.proofs.ColumnLaws.{true_from_not}
-use Rattle.pl_cells.specs.BufferState.{entry_at}
+use Rattle.pl_cells.specs.InitBuffers.{entry_at}
 use Rattle.pl_cells.proofs.PlaceLaws.{find_none}
-use Rattle.pl_cells.proofs.buffers.make_buffers.Goals as goal
+use Rattle.pl_cells.proofs.init_buffers.make_buffers.Goals as goal
 
 pub buffer_at-requires-clause-readable : goal.buffer_at-requires-clause-readable
 buffer_at-requires-clause-readable c =

@@ -9,7 +9,7 @@ use Rattle.pl_frame.specs.Types.{is_readable}
 use Rattle.pl_cells.specs.declared.buffer.Buffer.{Buffer}
 use Rattle.pl_cells.specs.declared.buffer.Buffer.TheVariants as buffer
 use Rattle.pl_cells.specs.declared.utf8.CsvEncoding.{CsvEncoding}
-use Rattle.pl_cells.specs.Buffers.{BufferValue}
+use Rattle.pl_cells.specs.BufferValue.{BufferValue}
 
 -- what a buffer holds
 abbrev pub state_of : Buffer → BufferValue

@@ -2,7 +2,7 @@
 ghost use Rattle.std.specs.Prelude.{◌≡◌, ◌<◌, true, None, Some, ℕ, length, map, slice_get, slice_index, IfOk, IfErr, OnOk, IsOkUnless};
 ghost use Rattle.pl_frame.specs.declared.error.PolarsError.TheVariants as error;
 ghost use Rattle.pl_frame.specs.Types.{is_readable};
-ghost use Rattle.pl_cells.specs.BufferState.{state_of, entry_at, empty_buffer, empty_buffers, first_unreadable, IsTypeFault};
+ghost use Rattle.pl_cells.specs.InitBuffers.{state_of, entry_at, empty_buffer, empty_buffers, first_unreadable, IsTypeFault};
 
 use crate::buffer::Buffer;
 use crate::column_settings::ColumnSettings;

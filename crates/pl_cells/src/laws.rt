@@ -1,0 +1,12 @@
+//! Laws of buffers: each function does nothing, and its contract is the law.
+ghost use Rattle.pl_cells.specs.Laws.{CutsBack, AddsInTurn};
+
+/// Cells that were put at the end are taken away by a cut back to the number that stood there before.
+pub fn cuts_back()
+    ensures { CutsBack }
+{}
+
+/// Cells that are put at the end one list after another are put there at once.
+pub fn adds_in_turn()
+    ensures { AddsInTurn }
+{}

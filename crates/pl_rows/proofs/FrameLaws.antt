@@ -1,8 +1,9 @@
 -- Columns of a schema, as they are read.
-use Rattle.std.proofs.Common.{◌≡◌, ℕ, zero, suc, ◌+◌, ◌<◌, List, [], ◌∷◌, map, length, get_or, arith, refl, sym, ◌∙◌, ap, subst}
+use Rattle.std.proofs.Common.{◌≡◌, ℕ, zero, suc, ◌+◌, ◌<◌, List, [], ◌∷◌, ◌++◌, map, length, take, drop, get_or, arith, refl, sym, ◌∙◌, ap, subst}
 use Rattle.std.specs.Prelude.{AllPairs, ◌≢◌}
-use Rattle.std.specs.List.{enumerate_from, range_with_len, zip}
+use Rattle.std.specs.List.{zip, AllByRecursion}
 use Rattle.std.proofs.lemmas.List.{length-map}
+use Rattle.std.proofs.Math.Seq.{take-append_seam}
 use Rattle.pl_frame.specs.declared.data_type.DataType.{DataType}
 use Rattle.pl_frame.specs.Frame.{HaveHeight, IsFrame, names_of}
 use Rattle.pl_frame.specs.Schema.{Entry, names_in, HaveDistinctNames}
@@ -10,14 +11,26 @@ use Rattle.pl_cells.specs.Cells.{value_of}
 use Rattle.pl_cells.specs.BufferState.{empty_buffer, empty_buffers, entry_at}
 use Rattle.pl_cells.specs.Buffers.{BufferValue}
 use Rattle.pl_rows.specs.Cells.{RowRules, cell}
-use Rattle.pl_rows.specs.Columns.{column_cells, with_columns, read_column, frame_of_rows, columns_of}
-use Rattle.pl_rows.specs.Plan.{state_types}
+use Rattle.pl_rows.specs.Columns.{column_cells, with_columns, read_column, frame_of_rows, columns_of, entries_in, columns_in}
+use Rattle.pl_frame.specs.Dialect.{AreDistinct}
+use Rattle.pl_scan.specs.Dialect.{marks_of}
+use Rattle.pl_cells.specs.NullValues.{HaveTexts}
+use Rattle.pl_rows.specs.declared.plan.RangePlan.{RangePlan}
+use Rattle.pl_rows.specs.Plan.{state_types, Columns, AreRising, CanRead, FollowsRules, rules_of, plan_columns}
+use Rattle.pl_rows.specs.Ranges.{judged_rows, sound_rows, with_range, range_frame}
 use Rattle.pl_rows.specs.Rows.{Row, field_at}
+use Rattle.pl_rows.proofs.RuleLaws.{FollowRules-empty}
+
+-- a list that was written back as a whole
+pub written_back : {X : Type 0} (items new : List X) (n : ℕ) → length items ≡ n → length new ≡ length items → take n (new ++ drop (length new) items) ≡ new
+written_back items new n full same =
+    let count : n ≡ length new = omega arith in
+    ap (λ k. take k (new ++ drop (length new) items)) count ∙ take-append_seam new (drop (length new) items)
 
 -- the columns at places of a schema, read into empty buffers
 pub columns_of-rows : (rules : RowRules) (given : List Row) (schema : List Entry) (places : List ℕ)
     → columns_of (with_columns rules given places (empty_buffers rules.quote_char rules.reading.encoding schema places))
-    ≡ frame_of_rows rules (map (λ place. (place, entry_at schema place)) places) given
+    ≡ frame_of_rows rules (entries_in schema places) given
 columns_of-rows rules given schema [] = refl
 columns_of-rows rules given schema (place ∷ places) =
     let column = entry_at schema place in
@@ -53,3 +66,39 @@ IsFrame-rows rules given (column ∷ others) distinct = record {
   one_height = same_height rules given (column ∷ others) _ (length-map given (λ (row : Row). value_of (cell rules column.0 column.1.1 (field_at row.fields column.0))));
   distinct = subst (AllPairs (λ a b. a ≢ b)) (sym (names_of-rows rules given (column ∷ others))) distinct;
 }
+
+-- a plan can read into empty buffers
+pub CanRead-empty : (plan : RangePlan) (schema : List Entry) (buffers : List BufferValue) → buffers ≡ empty_buffers plan.dialect.quote_char plan.options.encoding schema plan.projection.places.now
+    → AreDistinct (marks_of plan.dialect) → plan.projection.width ≡ length schema → AreRising 0 (length schema) plan.projection.places.now → HaveTexts plan.options.null_values (length schema)
+    → CanRead plan buffers
+CanRead-empty plan schema buffers is apart width rising texts =
+    let places = plan.projection.places.now in
+    record {
+      apart = apart;
+      rising = subst (λ w. AreRising 0 w places) (sym width) rising;
+      count = length-empty_buffers (rules_of plan) schema places ∙ sym (ap length is);
+      rules = subst (λ b. AllByRecursion (FollowsRules (rules_of plan)) b) (sym is) (FollowRules-empty (rules_of plan) schema places);
+      texts = subst (λ w. HaveTexts plan.options.null_values w) (sym width) texts;
+    }
+
+-- and reads these columns
+pub plan_columns-empty : (plan : RangePlan) (schema : List Entry) (buffers : List BufferValue) → buffers ≡ empty_buffers plan.dialect.quote_char plan.options.encoding schema plan.projection.places.now
+    → plan.projection.width ≡ length schema → plan_columns plan buffers ≡ columns_in schema plan.projection.places.now
+plan_columns-empty plan schema buffers is width =
+    let places = plan.projection.places.now in
+    ap (λ b. record { read = zip places (state_types b); width = plan.projection.width }) is
+    ∙ ap (λ r. record { read = r; width = plan.projection.width }) (types_of-empty (rules_of plan) schema places)
+    ∙ ap (λ w. record { read = map (λ place. (place, (entry_at schema place).1)) places; width = w }) width
+
+-- what the buffers then are
+pub range_frame-is : (plan : RangePlan) (schema : List Entry) (range : List ℕ) (buffers now : List BufferValue)
+    → buffers ≡ empty_buffers plan.dialect.quote_char plan.options.encoding schema plan.projection.places.now → plan.projection.width ≡ length schema → now ≡ with_range plan range buffers
+    → columns_of now ≡ range_frame plan schema range
+range_frame-is plan schema range buffers now is width read =
+    let rules = rules_of plan in
+    let places = plan.projection.places.now in
+    let given : Columns → List Row = λ columns. sound_rows rules columns (judged_rows plan range) in
+    ap columns_of read
+    ∙ ap (λ c. columns_of (with_columns rules (given c) places buffers)) (plan_columns-empty plan schema buffers is width)
+    ∙ ap (λ b. columns_of (with_columns rules (given (columns_in schema places)) places b)) is
+    ∙ columns_of-rows rules (given (columns_in schema places)) schema places

@@ -48,6 +48,12 @@ rising_from a (suc n) width e = (omega arith, omega arith, rising_from (a + 1) n
 pub rising-all : (n : ℕ) → AreRising 0 n (range_with_len 0 n)
 rising-all n = rising_from 0 n n (omega arith)
 
+-- each rising place is below the width
+pub rising-below : (from width : ℕ) (places : List ℕ) → AreRising from width places → (k : ℕ) → k < length places → slice_index places k < width
+rising-below from width [] rise k h = absurd (omega arith)
+rising-below from width (place ∷ places) rise zero h = rise.1
+rising-below from width (place ∷ places) rise (suc k) h = rising-below (place + 1) width places rise.2 k (omega arith)
+
 -- the places from one on
 pub rising-at : (from width : ℕ) (places others : List ℕ) (place : ℕ) → places ≡ place ∷ others → AreRising from width places
     → (from ≤ place) × (place < width) × AreRising (place + 1) width others

@@ -1,11 +1,13 @@
 -- Columns of the cells of rows (docs/types.md, "Ranges").
-use Rattle.std.specs.Prelude.{ℕ, List, [], ◌∷◌, map, Option}
+use Rattle.std.specs.Prelude.{ℕ, List, [], ◌∷◌, length, map, Option}
 use Rattle.pl_frame.specs.declared.data_type.DataType.{DataType}
 use Rattle.pl_frame.specs.Frame.{Scalar, ColumnValue}
 use Rattle.pl_frame.specs.Schema.{Entry}
 use Rattle.pl_cells.specs.Buffers.{BufferValue, with_values, column_of}
+use Rattle.pl_cells.specs.BufferState.{entry_at}
 use Rattle.pl_cells.specs.Cells.{value_of}
 use Rattle.pl_rows.specs.Cells.{RowRules, cell}
+use Rattle.pl_rows.specs.Plan.{Columns}
 use Rattle.pl_rows.specs.Rows.{Row, field_at}
 
 -- the cells of a column over rows
@@ -25,6 +27,14 @@ read_column rules given (column, (name, type)) = record { name = name; dtype = t
 -- columns of a schema, each cell from its field
 abbrev pub frame_of_rows : RowRules → List (ℕ × Entry) → List Row → List ColumnValue
 frame_of_rows rules columns given = map (read_column rules given) columns
+
+-- columns at places of a schema, each with its name and its type
+abbrev pub entries_in : List Entry → List ℕ → List (ℕ × Entry)
+entries_in schema places = map (λ place. (place, entry_at schema place)) places
+
+-- their types, and how many columns the schema has
+abbrev pub columns_in : List Entry → List ℕ → Columns
+columns_in schema places = record { read = map (λ place. (place, (entry_at schema place).1)) places; width = length schema }
 
 -- the columns that buffers are, once all is read
 abbrev pub columns_of : List BufferValue → List ColumnValue

@@ -1,15 +1,18 @@
 -- What reading a range gives: which rows it judges, where it ends, and what the buffers gain (docs/types.md, "Ranges").
-use Rattle.std.specs.Prelude.{ℕ, Bool, true, false, not, ◌||◌, List, take, Option, None, Some, filter, is_none, take_while}
+use Rattle.std.specs.Prelude.{◌≡◌, ℕ, Bool, true, false, not, ◌||◌, List, take, Option, None, Some, filter, is_none, take_while}
 use Rattle.std.specs.List.{list_any}
 use Rattle.pl_frame.specs.declared.error.FaultKind.{FaultKind}
+use Rattle.pl_frame.specs.Frame.{ColumnValue}
+use Rattle.pl_frame.specs.Schema.{Entry}
 use Rattle.pl_scan.specs.Closing.{have_open_end}
 use Rattle.pl_scan.specs.Dialect.{marks_of, comment_of}
 use Rattle.pl_cells.specs.Buffers.{BufferValue}
 use Rattle.pl_rows.specs.declared.plan.RangePlan.{RangePlan}
+use Rattle.pl_rows.specs.declared.columns.RangeColumns.{RangeColumns}
 use Rattle.pl_rows.specs.declared.range.RangeEnd.{RangeEnd}
 use Rattle.pl_rows.specs.declared.range.RangeEnd.TheVariants as end
 use Rattle.pl_rows.specs.Cells.{RowRules}
-use Rattle.pl_rows.specs.Columns.{with_columns}
+use Rattle.pl_rows.specs.Columns.{with_columns, entries_in, columns_in, frame_of_rows}
 use Rattle.pl_rows.specs.Plan.{Columns, plan_columns, rules_of}
 use Rattle.pl_rows.specs.Rows.{Row, rows, first_fault, first_faulty}
 
@@ -52,3 +55,14 @@ sound_rows rules columns given = take_while (λ row. is_none (first_fault rules 
 abbrev pub with_range : RangePlan → List ℕ → List BufferValue → List BufferValue
 with_range plan range buffers =
     with_columns (rules_of plan) (sound_rows (rules_of plan) (plan_columns plan buffers) (judged_rows plan range)) plan.projection.places.now buffers
+
+-- columns of a schema over the judged rows of a range before the first that has a fault
+abbrev pub range_frame : RangePlan → List Entry → List ℕ → List ColumnValue
+range_frame plan schema range =
+    frame_of_rows (rules_of plan) (entries_in schema plan.projection.places.now)
+    (sound_rows (rules_of plan) (columns_in schema plan.projection.places.now) (judged_rows plan range))
+
+-- what was read of a range of columns of a schema
+pub record IsRangeRead (plan : RangePlan) (schema : List Entry) (range : List ℕ) (read : RangeColumns) : Type 0 where
+  pub columns : read.columns.items ≡ range_frame plan schema range
+  pub end_is : read.end ≡ range_end plan (columns_in schema plan.projection.places.now) range

@@ -1,10 +1,16 @@
-//! From a schema to buffers, and from buffers to columns.
+//! From a schema to buffers, from buffers to columns, and a range of records into columns.
 ghost use Rattle.std.specs.Prelude.{◌≡◌, ◌<◌, ℕ, None, length, slice_index, IfOk};
 ghost use Rattle.std.specs.List.{range_with_len};
 ghost use Rattle.pl_cells.specs.BufferState.{empty_buffers, first_unreadable, IsTypeFault};
-ghost use Rattle.pl_rows.specs.Plan.{states};
+ghost use Rattle.pl_cells.specs.NullValues.{HaveTexts};
+ghost use Rattle.pl_frame.specs.Dialect.{AreDistinct};
+ghost use Rattle.pl_scan.specs.Dialect.{marks_of};
+ghost use Rattle.pl_rows.specs.Plan.{states, AreRising};
 ghost use Rattle.pl_rows.specs.Columns.{columns_of};
+ghost use Rattle.pl_rows.specs.Ranges.{IsRangeRead};
 
+use crate::plan::RangePlan;
+use crate::range::{RangeEnd, read_range};
 use pl_cells::buffer::Buffer;
 use pl_cells::buffers::init_buffers;
 use pl_cells::utf8::CsvEncoding;
@@ -64,4 +70,34 @@ pub fn into_columns(alloc: Global, buffers: Vec<Buffer>) -> Result<Vec<Column>, 
         }
     }
     Ok(columns)
+}
+
+/// The columns that were read of a range, and where it ended.
+#[derive(Debug, Drop)]
+pub struct RangeColumns {
+    /// One for each projected column.
+    pub columns: Vec<Column>,
+    pub end: RangeEnd,
+}
+
+/// Reads the records of a range, as `read_range` does, into columns of a schema. Refuses only want of memory.
+pub fn read_columns(
+    alloc: Global,
+    schema: &Schema,
+    range: &[u8],
+    plan: &RangePlan<'_>,
+) -> Result<RangeColumns, AllocError>
+    requires apart { AreDistinct (marks_of plan.now.dialect) }
+    requires width { plan.now.projection.width ≡ length schema.now }
+    requires rising { AreRising 0 (length schema.now) plan.now.projection.places.now }
+    requires readable { first_unreadable schema.now plan.now.projection.places.now ≡ None }
+    requires texts { HaveTexts plan.now.options.null_values (length schema.now) }
+    ensures { IfOk result (IsRangeRead plan.now schema.now range.now) }
+{
+    let places = plan.projection.places;
+    let quote_char = plan.dialect.quote_char;
+    let mut buffers = empty_buffers(alloc, schema, places, quote_char, plan.options.encoding)?;
+    let end = read_range(&mut buffers, range, plan)?;
+    let columns = into_columns(alloc, buffers)?;
+    Ok(RangeColumns { columns, end })
 }

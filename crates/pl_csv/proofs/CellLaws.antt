@@ -9,7 +9,7 @@ use Rattle.pl_scan.specs.Fields.{begins_quoted}
 use Rattle.pl_cells.specs.declared.cell_fault.CellFault.{CellFault}
 use Rattle.pl_cells.specs.declared.cell_fault.CellFault.TheVariants as cell_fault
 use Rattle.pl_cells.specs.Quoting.{strip, is_well_quoted, inside}
-use Rattle.pl_cells.specs.Buffers.{BufferValue, Answers, with_value, given_cell, reading_of, reading_with, missing_value}
+use Rattle.pl_cells.specs.BufferValue.{BufferValue, Answers, with_value, given_cell, reading_of, reading_with, missing_value}
 use Rattle.pl_cells.specs.Cells.{Cell, Reading, NullTest, cell, missing_cell, null_cell, plain_field_cell, quoted_field_cell}
 use Rattle.pl_cells.proofs.BufferLaws.{missing_null}
 use Rattle.pl_csv.specs.Cells.{RowRules}

@@ -18,7 +18,7 @@ use Rattle.pl_csv.specs.declared.rows.RowFault.{RowFault}
 use Rattle.pl_csv.specs.declared.rows.RowFault.TheVariants as row_fault
 use Rattle.pl_cells.specs.declared.cell_fault.CellFault.{CellFault}
 use Rattle.pl_cells.specs.declared.cell_fault.CellFault.TheVariants as cell_fault
-use Rattle.pl_cells.specs.Buffers.{IsCellFault}
+use Rattle.pl_cells.specs.BufferValue.{IsCellFault}
 use Rattle.pl_cells.specs.Cells.{Cell, fault_of}
 use Rattle.pl_csv.specs.Cells.{RowRules, cell}
 use Rattle.pl_csv.specs.Reading.{Row, field_at, column_fault, first_or, is_forgiven, excess_fault, first_fault, row_at}

@@ -14,8 +14,8 @@ use Rattle.pl_frame.specs.Schema.{Entry}
 use Rattle.pl_frame.specs.Types.{is_readable}
 use Rattle.pl_frame.proofs.ColumnLaws.{position-found, position-nowhere}
 use Rattle.pl_frame.proofs.SchemaLaws.{none_passes}
-use Rattle.pl_cells.specs.BufferState.{entry_at, empty_buffer, empty_buffers, IsTypeFault}
-use Rattle.pl_cells.specs.BufferState as cells
+use Rattle.pl_cells.specs.InitBuffers.{entry_at, empty_buffer, empty_buffers, IsTypeFault}
+use Rattle.pl_cells.specs.InitBuffers as cells
 use Rattle.pl_cells.specs.declared.utf8.CsvEncoding.{CsvEncoding}
 use Rattle.pl_csv.specs.Reading.{types_of, first_unreadable}
 

@@ -16,7 +16,7 @@ use Rattle.pl_scan.proofs.RecordLaws.{fields-text}
 use Rattle.pl_csv.specs.declared.rows.RowFault.{RowFault}
 use Rattle.pl_csv.specs.declared.rows.RowFault.TheVariants as row_fault
 use Rattle.pl_cells.specs.Cells.{value_of}
-use Rattle.pl_cells.specs.Buffers.{BufferValue}
+use Rattle.pl_cells.specs.BufferValue.{BufferValue}
 use Rattle.pl_csv.specs.Cells.{RowRules, cell}
 use Rattle.pl_csv.specs.Reading.{Row, items_behind_within, items_behind, row_of, row_at, rows, first_fault, first_faulty, field_at}
 use Rattle.pl_csv.specs.Rows.{state_types, with_row, with_rows, FollowRules, IsRowFault, IsRecordFault, record_fault_of}

@@ -12,7 +12,7 @@ use Rattle.pl_csv.specs.declared.rows.RowRest.TheVariants as rest
 use Rattle.pl_frame.specs.declared.data_type.DataType.{DataType}
 use Rattle.pl_frame.specs.declared.error.FaultKind.{FaultKind}
 use Rattle.pl_cells.specs.Cells.{Cell, value_of, fault_of}
-use Rattle.pl_cells.specs.Buffers.{BufferValue, with_value}
+use Rattle.pl_cells.specs.BufferValue.{BufferValue, with_value}
 use Rattle.pl_csv.specs.Cells.{RowRules, cell}
 use Rattle.pl_frame.specs.Frame.{Scalar}
 use Rattle.pl_csv.specs.Reading.{field_at}

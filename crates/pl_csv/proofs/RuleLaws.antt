@@ -5,7 +5,7 @@ use Rattle.std.specs.Borrow.{Bor}
 use Rattle.pl_frame.specs.Schema.{Entry}
 use Rattle.pl_cells.specs.declared.null_values.NullValuesCompiled.{NullValuesCompiled}
 use Rattle.pl_cells.specs.declared.null_values.NullValuesCompiled.TheVariants as compiled
-use Rattle.pl_cells.specs.Buffers.{BufferValue}
+use Rattle.pl_cells.specs.BufferValue.{BufferValue}
 use Rattle.pl_cells.specs.NullValues.{HasColumns}
 use Rattle.pl_csv.specs.Cells.{RowRules}
 use Rattle.pl_csv.specs.Rows.{FollowsRules, FollowRules, HaveTexts, with_row}

@@ -1,8 +1,8 @@
 -- From a schema to buffers, and from buffers to columns.
 use Rattle.std.specs.Prelude.{List, map}
 use Rattle.pl_frame.specs.Frame.{ColumnValue}
-use Rattle.pl_cells.specs.BufferState.{empty_buffer}
-use Rattle.pl_cells.specs.Buffers.{BufferValue, column_of}
+use Rattle.pl_cells.specs.InitBuffers.{empty_buffer}
+use Rattle.pl_cells.specs.BufferValue.{BufferValue, column_of}
 use Rattle.pl_csv.specs.Cells.{RowRules}
 use Rattle.pl_words.specs.SchemaText.{SchemaValue}
 

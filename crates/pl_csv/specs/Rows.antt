@@ -11,8 +11,8 @@ use Rattle.pl_scan.specs.Fields.{fields, extent, behind}
 use Rattle.pl_cells.specs.declared.buffer.Buffer.{Buffer}
 use Rattle.pl_cells.specs.declared.cell_fault.CellFault.{CellFault}
 use Rattle.pl_cells.specs.declared.cell_fault.CellFault.TheVariants as cell_fault
-use Rattle.pl_cells.specs.BufferState.{state_of}
-use Rattle.pl_cells.specs.Buffers.{BufferValue, with_value}
+use Rattle.pl_cells.specs.InitBuffers.{state_of}
+use Rattle.pl_cells.specs.BufferValue.{BufferValue, with_value}
 use Rattle.pl_cells.specs.Cells.{NullTest, value_of}
 use Rattle.pl_cells.specs.NullValues.{HasColumns}
 use Rattle.pl_cells.specs.Quoting.{is_well_quoted, inside}

@@ -2,13 +2,13 @@
 ghost use Rattle.std.specs.Prelude.{◌≡◌, ◌<◌, None, length, map, IfOk};
 ghost use Rattle.std.specs.List.{range_with_len};
 ghost use Rattle.pl_frame.specs.Types.{is_readable};
-ghost use Rattle.pl_cells.specs.BufferState.{empty_buffer, entry_at, IsTypeFault};
+ghost use Rattle.pl_cells.specs.InitBuffers.{empty_buffer, entry_at, IsTypeFault};
 ghost use Rattle.pl_csv.specs.Rows.{states};
 ghost use Rattle.pl_csv.specs.Reading.{first_unreadable};
 ghost use Rattle.pl_csv.specs.Frames.{columns_of};
 
 use pl_cells::buffer::Buffer;
-use pl_cells::buffers::init_buffers;
+use pl_cells::init_buffers::init_buffers;
 use pl_cells::utf8::CsvEncoding;
 use pl_frame::column::Column;
 use pl_frame::error::PolarsError;

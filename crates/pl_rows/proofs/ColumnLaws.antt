@@ -4,7 +4,7 @@ use Rattle.std.specs.Prelude.{Option}
 use Rattle.std.proofs.lemmas.List.{length-map, map-append, take_at, take-append-drop}
 use Rattle.pl_frame.specs.declared.data_type.DataType.{DataType}
 use Rattle.pl_frame.specs.Frame.{Scalar}
-use Rattle.pl_cells.specs.Buffers.{BufferValue, holding, with_values}
+use Rattle.pl_cells.specs.BufferValue.{BufferValue, holding, with_values}
 use Rattle.pl_cells.specs.Cells.{value_of}
 use Rattle.pl_rows.specs.Cells.{RowRules, cell}
 use Rattle.pl_rows.specs.Columns.{column_cells, with_columns}

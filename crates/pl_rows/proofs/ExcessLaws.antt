@@ -11,7 +11,7 @@ use Rattle.pl_scan.proofs.FieldLaws.{fields_last, fields_more}
 use Rattle.pl_scan.proofs.ItemLaws.{extent_last, fields-some}
 use Rattle.pl_cells.specs.declared.cell_fault.CellFault.{CellFault}
 use Rattle.pl_cells.specs.declared.cell_fault.CellFault.TheVariants as cell_fault
-use Rattle.pl_cells.specs.Buffers.{IsCellFault}
+use Rattle.pl_cells.specs.BufferValue.{IsCellFault}
 use Rattle.pl_cells.specs.Cells.{Cell}
 use Rattle.pl_cells.specs.Faults.{Fault, kind_of}
 use Rattle.pl_cells.specs.Faults as cell

@@ -8,8 +8,8 @@ use Rattle.pl_frame.specs.declared.data_type.DataType.{DataType}
 use Rattle.pl_frame.specs.Frame.{HaveHeight, IsFrame, names_of}
 use Rattle.pl_frame.specs.Schema.{Entry, names_in, HaveDistinctNames}
 use Rattle.pl_cells.specs.Cells.{value_of}
-use Rattle.pl_cells.specs.BufferState.{empty_buffer, empty_buffers, entry_at}
-use Rattle.pl_cells.specs.Buffers.{BufferValue}
+use Rattle.pl_cells.specs.InitBuffers.{empty_buffer, empty_buffers, entry_at}
+use Rattle.pl_cells.specs.BufferValue.{BufferValue}
 use Rattle.pl_rows.specs.Cells.{RowRules, cell}
 use Rattle.pl_rows.specs.Columns.{column_cells, with_columns, read_column, frame_of_rows, columns_of, entries_in, columns_in}
 use Rattle.pl_frame.specs.Dialect.{AreDistinct}

@@ -7,8 +7,8 @@ use Rattle.std.proofs.lemmas.List.FromFn.{length-range_with_len, get_or-range_wi
 use Rattle.pl_frame.specs.declared.error.ComputeFault.TheVariants as compute
 use Rattle.pl_frame.specs.declared.error.PolarsError.{PolarsError}
 use Rattle.pl_frame.specs.declared.error.PolarsError.TheVariants as error
-use Rattle.pl_cells.specs.BufferState.{IsTypeFault}
-use Rattle.pl_cells.specs.Buffers.{BufferValue}
+use Rattle.pl_cells.specs.InitBuffers.{IsTypeFault}
+use Rattle.pl_cells.specs.BufferValue.{BufferValue}
 use Rattle.pl_rows.specs.declared.plan.RangePlan.{RangePlan}
 use Rattle.pl_rows.specs.Columns.{with_columns}
 use Rattle.pl_rows.specs.Plan.{AreRising, CanRead, rules_of, plan_columns, state_types, Columns, FollowsRules}

@@ -15,7 +15,7 @@ use Rattle.pl_scan.specs.Fields.{fields, extent}
 use Rattle.pl_scan.specs.Items.{ItemText, CommentText, RecordText, text_of, item}
 use Rattle.pl_scan.proofs.ItemLaws.{IsRecordAt-extent, items_behind-nil, items_behind-step}
 use Rattle.pl_scan.proofs.RecordLaws.{fields-text, have_open_end-closed}
-use Rattle.pl_cells.specs.Buffers.{BufferValue}
+use Rattle.pl_cells.specs.BufferValue.{BufferValue}
 use Rattle.pl_rows.specs.declared.plan.RangePlan.{RangePlan}
 use Rattle.pl_rows.specs.declared.range.RangeEnd.{RangeEnd}
 use Rattle.pl_rows.specs.declared.range.RangeEnd.TheVariants as end

@@ -12,7 +12,7 @@ use Rattle.pl_frame.specs.Frame.{Scalar}
 use Rattle.pl_scan.specs.Dialect.{marks_of}
 use Rattle.pl_scan.specs.Fields.{fields, extent}
 use Rattle.pl_cells.specs.declared.cell_fault.CellFault.{CellFault}
-use Rattle.pl_cells.specs.Buffers.{BufferValue, with_value, with_values, IsCellFault}
+use Rattle.pl_cells.specs.BufferValue.{BufferValue, with_value, with_values, IsCellFault}
 use Rattle.pl_cells.specs.Cells.{value_of, fault_of}
 use Rattle.pl_cells.specs.Faults.{Fault, kind_of}
 use Rattle.pl_rows.specs.declared.plan.RangePlan.{RangePlan}

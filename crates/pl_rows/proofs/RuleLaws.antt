@@ -1,8 +1,8 @@
 -- Buffers that read by the rules, and columns that have their null texts.
 use Rattle.std.proofs.Common.{◌≡◌, ℕ, zero, suc, ◌+◌, ◌≤◌, List, [], ◌∷◌, drop, refl, subst, arith}
 use Rattle.pl_frame.specs.Schema.{Entry}
-use Rattle.pl_cells.specs.Buffers.{BufferValue}
-use Rattle.pl_cells.specs.BufferState.{empty_buffers}
+use Rattle.pl_cells.specs.BufferValue.{BufferValue}
+use Rattle.pl_cells.specs.InitBuffers.{empty_buffers}
 use Rattle.pl_rows.specs.Cells.{RowRules}
 use Rattle.pl_rows.specs.Columns.{with_columns}
 use Rattle.pl_rows.specs.Plan.{FollowsRules, FollowRules}

@@ -3,8 +3,8 @@ use Rattle.std.specs.Prelude.{ℕ, List, [], ◌∷◌, length, map, Option}
 use Rattle.pl_frame.specs.declared.data_type.DataType.{DataType}
 use Rattle.pl_frame.specs.Frame.{Scalar, ColumnValue}
 use Rattle.pl_frame.specs.Schema.{Entry}
-use Rattle.pl_cells.specs.Buffers.{BufferValue, with_values, column_of}
-use Rattle.pl_cells.specs.BufferState.{entry_at}
+use Rattle.pl_cells.specs.BufferValue.{BufferValue, with_values, column_of}
+use Rattle.pl_cells.specs.InitBuffers.{entry_at}
 use Rattle.pl_cells.specs.Cells.{value_of}
 use Rattle.pl_rows.specs.Cells.{RowRules, cell}
 use Rattle.pl_rows.specs.Plan.{Columns}

@@ -6,8 +6,8 @@ use Rattle.pl_frame.specs.declared.data_type.DataType.{DataType}
 use Rattle.pl_frame.specs.Dialect.{AreDistinct}
 use Rattle.pl_scan.specs.Dialect.{marks_of}
 use Rattle.pl_cells.specs.declared.buffer.Buffer.{Buffer}
-use Rattle.pl_cells.specs.BufferState.{state_of}
-use Rattle.pl_cells.specs.Buffers.{BufferValue}
+use Rattle.pl_cells.specs.InitBuffers.{state_of}
+use Rattle.pl_cells.specs.BufferValue.{BufferValue}
 use Rattle.pl_cells.specs.NullValues.{HaveTexts}
 use Rattle.pl_rows.specs.declared.plan.RangePlan.{RangePlan}
 use Rattle.pl_rows.specs.declared.plan.RowOptions.{RowOptions}

@@ -7,7 +7,7 @@ use Rattle.pl_scan.specs.Dialect.{marks_of}
 use Rattle.pl_scan.specs.Fields.{fields, extent}
 use Rattle.pl_cells.specs.declared.cell_fault.CellFault.{CellFault}
 use Rattle.pl_cells.specs.declared.cell_fault.CellFault.TheVariants as cell_fault
-use Rattle.pl_cells.specs.Buffers.{BufferValue, cut_to}
+use Rattle.pl_cells.specs.BufferValue.{BufferValue, cut_to}
 use Rattle.pl_rows.specs.declared.plan.RangePlan.{RangePlan}
 use Rattle.pl_rows.specs.declared.row.RowFault.{RowFault}
 use Rattle.pl_rows.specs.declared.row.RowFault.TheVariants as row_fault

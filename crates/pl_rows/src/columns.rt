@@ -1,7 +1,7 @@
 //! From a schema to buffers, from buffers to columns, and a range of records into columns.
 ghost use Rattle.std.specs.Prelude.{◌≡◌, ◌<◌, ℕ, None, length, slice_index, IfOk};
 ghost use Rattle.std.specs.List.{range_with_len};
-ghost use Rattle.pl_cells.specs.BufferState.{empty_buffers, first_unreadable, IsTypeFault};
+ghost use Rattle.pl_cells.specs.InitBuffers.{empty_buffers, first_unreadable, IsTypeFault};
 ghost use Rattle.pl_cells.specs.NullValues.{HaveTexts};
 ghost use Rattle.pl_frame.specs.Dialect.{AreDistinct};
 ghost use Rattle.pl_scan.specs.Dialect.{marks_of};
@@ -12,7 +12,7 @@ ghost use Rattle.pl_rows.specs.Ranges.{IsRangeRead};
 use crate::plan::RangePlan;
 use crate::range::{RangeEnd, read_range};
 use pl_cells::buffer::Buffer;
-use pl_cells::buffers::init_buffers;
+use pl_cells::init_buffers::init_buffers;
 use pl_cells::utf8::CsvEncoding;
 use pl_frame::column::Column;
 use pl_frame::error::PolarsError;

@@ -2,7 +2,7 @@
 ghost use Rattle.std.specs.Prelude.{◌≡◌, ◌≤◌, length};
 ghost use Rattle.pl_rows.specs.Plan.{states};
 ghost use Rattle.pl_rows.specs.Steps.{without_last, cut_back};
-ghost use Rattle.pl_cells.specs.BufferState.{state_of};
+ghost use Rattle.pl_cells.specs.InitBuffers.{state_of};
 
 use pl_cells::buffer::Buffer;
 

@@ -1,7 +1,7 @@
 //! A field into the buffer of its column.
 ghost use Rattle.std.specs.Prelude.{suc};
-ghost use Rattle.pl_cells.specs.BufferState.{state_of};
-ghost use Rattle.pl_cells.specs.Buffers.{Answers};
+ghost use Rattle.pl_cells.specs.InitBuffers.{state_of};
+ghost use Rattle.pl_cells.specs.BufferValue.{Answers};
 ghost use Rattle.pl_cells.specs.NullValues.{HaveTexts};
 ghost use Rattle.pl_rows.specs.Cells.{cell};
 ghost use Rattle.pl_rows.specs.Plan.{rules_of, FollowsRules};

@@ -1,6 +1,6 @@
 use Rattle.std.proofs.Common.{◌≡◌, length, ◌∙◌, ap, subst}
 use Rattle.std.specs.List.{range_with_len}
-use Rattle.pl_cells.specs.BufferState.{empty_buffers, first_unreadable, IsTypeFault}
+use Rattle.pl_cells.specs.InitBuffers.{empty_buffers, first_unreadable, IsTypeFault}
 use Rattle.pl_csv.proofs.PlaceLaws.{places_below, empty_buffers-all, all_readable}
 use Rattle.pl_csv.proofs.frames.empty_buffers.Goals as goal
 

@@ -1,6 +1,6 @@
 use Rattle.std.proofs.Common.{◌≡◌, ℕ, ◌<◌, false, not}
 use Rattle.pl_frame.specs.Types.{is_readable}
-use Rattle.pl_cells.specs.BufferState.{entry_at}
+use Rattle.pl_cells.specs.InitBuffers.{entry_at}
 use Rattle.pl_csv.proofs.frames.find_unreadable.Given as goal
 
 abbrev pub invariant-loop-place : goal.invariant-loop-place

@@ -1,6 +1,6 @@
 use Rattle.std.proofs.Common.{◌≡◌, true, false, not, Ok, sym, ◌∙◌, ap, subst}
-use Rattle.pl_cells.specs.BufferState.{state_of}
-use Rattle.pl_cells.specs.Buffers.{Answers, missing_value, given_cell}
+use Rattle.pl_cells.specs.InitBuffers.{state_of}
+use Rattle.pl_cells.specs.BufferValue.{Answers, missing_value, given_cell}
 use Rattle.pl_cells.specs.Cells.{Cell}
 use Rattle.pl_cells.specs.Quoting.{strip}
 use Rattle.pl_csv.specs.Cells.{means_null, cell}

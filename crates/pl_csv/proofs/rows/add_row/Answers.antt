@@ -2,8 +2,8 @@ use Rattle.std.proofs.Common.{◌≡◌, ◌<◌, ◌≤◌, ◌+◌, suc, Ok, �
 use Rattle.std.proofs.lemmas.List.{get_or-map, map-set, length-map, drop_more}
 use Rattle.pl_frame.specs.Dialect.{marks}
 use Rattle.pl_scan.specs.Fields.{fields}
-use Rattle.pl_cells.specs.BufferState.{state_of}
-use Rattle.pl_cells.specs.Buffers.{with_value}
+use Rattle.pl_cells.specs.InitBuffers.{state_of}
+use Rattle.pl_cells.specs.BufferValue.{with_value}
 use Rattle.pl_csv.specs.Cells.{cell}
 use Rattle.pl_csv.specs.Reading.{field_at, row_at}
 use Rattle.pl_csv.specs.Rows.{states, state_types, stated_rules, fields_left}

@@ -1,5 +1,5 @@
 use Rattle.std.proofs.Common.{◌≡◌, length, ◌∙◌, ap, arith}
-use Rattle.pl_cells.specs.BufferState.{empty_buffers}
+use Rattle.pl_cells.specs.InitBuffers.{empty_buffers}
 use Rattle.pl_rows.specs.Columns.{columns_of}
 use Rattle.pl_rows.specs.Plan.{states}
 use Rattle.pl_rows.specs.Ranges.{range_end}

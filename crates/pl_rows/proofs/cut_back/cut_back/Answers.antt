@@ -1,6 +1,6 @@
 use Rattle.std.proofs.Common.{◌≡◌, ◌<◌, length, set, get_or, sym, ◌∙◌, ap, arith}
 use Rattle.std.proofs.lemmas.List.{get_or-map, map-set, length-map}
-use Rattle.pl_cells.specs.BufferState.{state_of}
+use Rattle.pl_cells.specs.InitBuffers.{state_of}
 use Rattle.pl_rows.specs.Plan.{states}
 use Rattle.pl_rows.specs.Steps.{without_last}
 use Rattle.pl_rows.proofs.ColumnLaws.{cut_back-more}

@@ -1,6 +1,6 @@
 use Rattle.std.proofs.Common.{sym, ap, subst}
-use Rattle.pl_cells.specs.BufferState.{state_of}
-use Rattle.pl_cells.specs.Buffers.{Answers, reading_with}
+use Rattle.pl_cells.specs.InitBuffers.{state_of}
+use Rattle.pl_cells.specs.BufferValue.{Answers, reading_with}
 use Rattle.pl_cells.specs.Cells.{Cell}
 use Rattle.pl_cells.specs.Cells as cells
 use Rattle.pl_cells.specs.NullValues.{means_null}

@@ -2,8 +2,8 @@ use Rattle.std.proofs.Common.{◌≡◌, ◌<◌, ◌+◌, ◌^◌, ◌∷◌, F
 use Rattle.std.proofs.lemmas.List.{get_or-map, map-set, length-map, drop_more}
 use Rattle.std.proofs.Math.Seq.{map-set_same}
 use Rattle.pl_scan.specs.Dialect.{marks_of}
-use Rattle.pl_cells.specs.BufferState.{state_of}
-use Rattle.pl_cells.specs.Buffers.{with_value, IsCellFault}
+use Rattle.pl_cells.specs.InitBuffers.{state_of}
+use Rattle.pl_cells.specs.BufferValue.{with_value, IsCellFault}
 use Rattle.pl_rows.specs.Cells.{cell}
 use Rattle.pl_rows.specs.Plan.{states, rules_of}
 use Rattle.pl_rows.specs.RowRest.{fields_left}

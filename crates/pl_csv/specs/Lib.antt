@@ -1,11 +1,8 @@
 pub mod Came
-pub mod Cells
 pub mod Reading
-pub mod Rows
 pub mod SchemaText
 pub mod Settings
 pub mod Splitting
-pub mod Frames
 pub mod Words
 pub mod Run
 pub mod Counting

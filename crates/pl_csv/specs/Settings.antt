@@ -8,7 +8,7 @@ use Rattle.pl_scan.specs.Start.{Skips, skips}
 use Rattle.pl_cells.specs.NullValues.{compiled_for}
 use Rattle.pl_cells.specs.declared.utf8.CsvEncoding.TheVariants as encoding
 use Rattle.pl_write.specs.Options.{default_options}
-use Rattle.pl_csv.specs.Cells.{RowRules}
+use Rattle.pl_rows.specs.Cells.{RowRules}
 use Rattle.pl_csv.specs.declared.settings.Settings.{Settings}
 
 -- names with their types, in order

@@ -4,13 +4,12 @@
 pub mod adapters;
 mod compression;
 pub mod counting;
-mod frames;
 mod null_words;
 mod options;
 mod output;
 pub mod read_all;
+mod readable;
 mod reading;
-mod rows;
 pub mod run;
 #[cfg(test)]
 mod run_rows;

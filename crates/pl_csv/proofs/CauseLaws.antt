@@ -6,11 +6,14 @@ use Rattle.std.specs.Borrow.{Bor}
 use Rattle.pl_frame.specs.Frame.{ColumnValue}
 use Rattle.pl_scan.specs.declared.comment.CommentPrefix.{CommentPrefix}
 use Rattle.pl_scan.specs.Comment.{prefix_bytes, prefix_of}
+use Rattle.std.specs.List.{enumerate_from}
+use Rattle.pl_rows.specs.Columns.{frame_of_rows}
+use Rattle.pl_rows.specs.Rows.{first_faulty}
 use Rattle.pl_csv.specs.declared.reading.Cause.{Cause}
 use Rattle.pl_csv.specs.declared.reading.Cause.TheVariants as cause
 use Rattle.pl_words.specs.declared.settings.Settings.{Settings}
 use Rattle.pl_csv.specs.Settings.{rules_of}
-use Rattle.pl_csv.specs.Reading.{types_of, when, unknown_null, data_of, data_rows, first_faulty, faulty_record, frame_of_rows, first_some, read_causes, IsFirstCause, IsValidRead, MayBeRead}
+use Rattle.pl_csv.specs.Reading.{all_columns, when, unknown_null, data_of, data_rows, faulty_record, first_some, read_causes, IsFirstCause, IsValidRead, MayBeRead}
 
 -- the bytes of a comment prefix that was lent
 pub prefix_of-lent : (lent : Option (Bor CommentPrefix)) (prefix : Option CommentPrefix) → option_copied lent ≡ prefix → prefix_of lent ≡ option_map prefix_bytes prefix
@@ -27,10 +30,10 @@ later s input may is = record { is_dialect = true; tells = may.dialect; is = is 
 
 -- where no row has a fault, there is the frame of the rows
 pub IsValidRead-frame : (s : Settings) (input records : List ℕ) (frame : List ColumnValue) → MayBeRead s input → unknown_null s ≡ None → data_of s input ≡ Some records
-    → first_faulty (rules_of s) (types_of s.schema) 0 (data_rows s records) ≡ None → frame ≡ frame_of_rows (rules_of s) s.schema (data_rows s records) → IsValidRead s input frame
+    → first_faulty (rules_of s) (all_columns s.schema) 0 (data_rows s records) ≡ None → frame ≡ frame_of_rows (rules_of s) (enumerate_from 0 s.schema) (data_rows s records) → IsValidRead s input frame
 IsValidRead-frame s input records frame may known start whole is =
     let no_fault : faulty_record s records ≡ None = rw whole refl in
     let none : None ≡ first_later s (unknown_null s) (data_of s input) = rw (known, start, no_fault) refl in (
       may.quote,
-      (later s input may none, is ∙ ap (λ (o : Option (List ℕ)). frame_of_rows (rules_of s) s.schema (data_rows s (unwrap_or o []))) (sym start)),
+      (later s input may none, is ∙ ap (λ (o : Option (List ℕ)). frame_of_rows (rules_of s) (enumerate_from 0 s.schema) (data_rows s (unwrap_or o []))) (sym start)),
     )

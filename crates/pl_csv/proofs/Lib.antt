@@ -1,12 +1,5 @@
 pub mod CountingLaws
 pub mod DueLaws
-pub mod CellLaws
-pub mod RuleLaws
-pub mod RowLaws
-pub mod FaultLaws
-pub mod MissingLaws
-pub mod ReadLaws
-pub mod FrameLaws
 pub mod PlaceLaws
 pub mod CauseLaws
 pub mod RunLaws

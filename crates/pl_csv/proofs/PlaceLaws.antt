@@ -19,40 +19,6 @@ use Rattle.pl_cells.specs.InitBuffers as cells
 use Rattle.pl_cells.specs.declared.utf8.CsvEncoding.{CsvEncoding}
 use Rattle.pl_csv.specs.Reading.{types_of, first_unreadable}
 
--- one number more
-range-more : (a n : ℕ) → range_with_len a (suc n) ≡ range_with_len a n ++ (a + n) ∷ []
-range-more a zero = let same : a ≡ a + 0 = omega arith in ap (λ k. k ∷ []) same
-range-more a (suc n) =
-    let same : a + 1 + n ≡ a + suc n = omega arith in
-    ap (λ l. a ∷ l) (range-more (a + 1) n) ∙ ap (λ k. a ∷ (range_with_len (a + 1) n ++ k ∷ [])) same
-
-pub places-more : (n : ℕ) → range_with_len 0 (n + 1) ≡ range_with_len 0 n ++ n ∷ []
-places-more n = let same : 0 + n ≡ n = omega arith in rw add-one (range-more 0 n ∙ ap (λ k. range_with_len 0 n ++ k ∷ []) same)
-
--- each of the places is one of the list's
-pub places_below : (n : ℕ) (places : List ℕ) → places ≡ range_with_len 0 n → (k : ℕ) → k < length places → slice_index places k < n
-places_below n places is k l =
-    let many : k < n = omega (arith, ap length is, length-range_with_len 0 n) in
-    let there : slice_index places k ≡ 0 + k = ap (λ p. slice_index p k) is ∙ get_or-range_with_len 0 n k 0 many in
-    omega arith
-
--- where no type is at fault, memory was wanting
-pub only_memory : (wrong : PolarsError) → IsTypeFault None wrong → wrong ≡ error.OutOfMemory
-only_memory error.OutOfMemory is = refl
-only_memory (error.ComputeError (compute.Dtype column)) is = absurd (cc)
-only_memory wrong is = absurd is
-
--- what is made of the places of a list is made of its elements
-map-range : {X Y : Type 0} (g : ℕ → Y) (f : X → Y) (xs : List X) (a : ℕ) (d : X) → ((k : ℕ) → k < length xs → g (a + k) ≡ f (get_or xs k d)) → map g (range_with_len a (length xs)) ≡ map f xs
-map-range g f [] a d each = refl
-map-range g f (x ∷ xs) a d each =
-    let start : a ≡ a + 0 = omega arith in
-    ap (λ y. y ∷ map g (range_with_len (a + 1) (length xs))) (ap g start ∙ each 0 (omega arith))
-    ∙ ap (λ l. f x ∷ l) (map-range g f xs (a + 1) d (λ k l. next k l))
-  where
-    next : (k : ℕ) → k < length xs → g (a + 1 + k) ≡ f (get_or xs k d)
-    next k l = let same : a + 1 + k ≡ a + suc k = omega arith in ap g same ∙ each (suc k) (omega arith)
-
 -- none of the numbers passes
 find-range : (p : ℕ → Bool) (a n : ℕ) → ((k : ℕ) → k < n → p (a + k) ≡ false) → find p (range_with_len a n) ≡ None
 find-range p a zero each = refl
@@ -73,15 +39,6 @@ type_at-get_or : (schema : List Entry) (k : ℕ) → get_or (types_of schema) k 
 type_at-get_or [] k = refl
 type_at-get_or (entry ∷ schema) zero = refl
 type_at-get_or (entry ∷ schema) (suc k) = type_at-get_or schema k
-
--- the columns at all places of a schema are all of its columns
-pub empty_buffers-all : (quote : Option ℕ) (encoding : CsvEncoding) (schema : List Entry)
-    → empty_buffers quote encoding schema (range_with_len 0 (length schema)) ≡ map (empty_buffer quote encoding) schema
-empty_buffers-all quote encoding schema =
-    map-range (λ place. empty_buffer quote encoding (entry_at schema place)) (empty_buffer quote encoding) schema 0 ([], dtype.Null) (λ k l. each k l)
-  where
-    each : (k : ℕ) → k < length schema → empty_buffer quote encoding (entry_at schema (0 + k)) ≡ empty_buffer quote encoding (get_or schema k ([], dtype.Null))
-    each k l = let same : 0 + k ≡ k = omega arith in ap (λ j. empty_buffer quote encoding (entry_at schema j)) same ∙ ap (empty_buffer quote encoding) (entry_at-get_or schema k ([], dtype.Null) l)
 
 -- where all types can be read, that at any place can
 pub readable_at : (schema : List Entry) (k : ℕ) → first_unreadable schema ≡ None → k < length schema → not (is_readable (entry_at schema k).1) ≡ false

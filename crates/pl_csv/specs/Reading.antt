@@ -1,113 +1,36 @@
 -- The reference read: the frame that an input means (docs/grammar.md, docs/types.md).
-use Rattle.std.specs.Prelude.{◌≡◌, ℕ, zero, suc, ◌+◌, ◌<◌, Bool, true, false, not, ◌&&◌, ◌==◌, nat_eq, nat_lt, if◌then◌else◌, List, [], ◌∷◌, ◌++◌, length, drop, map, position, Option, None, Some, unwrap_or, is_none, slice_get}
-use Rattle.std.specs.List.{filter_map, list_any, enumerate_from}
+use Rattle.std.specs.Prelude.{◌≡◌, ℕ, ◌<◌, Bool, true, false, not, ◌&&◌, nat_lt, if◌then◌else◌, List, [], ◌∷◌, ◌++◌, length, map, position, Option, None, Some, unwrap_or, is_none}
+use Rattle.std.specs.List.{enumerate_from}
 use Rattle.std.specs.Option.{option_map, option_and_then}
 use Rattle.pl_frame.specs.declared.data_type.DataType.{DataType}
 use Rattle.pl_frame.specs.declared.error.FaultKind.{FaultKind}
-use Rattle.pl_frame.specs.declared.error.FaultKind.TheVariants as fault
 use Rattle.pl_frame.specs.Compression.{is_compressed}
-use Rattle.pl_frame.specs.Dialect.{Marks, IsDialect}
+use Rattle.pl_frame.specs.Dialect.{IsDialect}
 use Rattle.pl_frame.specs.Frame.{ColumnValue}
 use Rattle.pl_frame.specs.Types.{is_readable}
-use Rattle.pl_scan.specs.Fields.{fields, extent}
-use Rattle.pl_scan.specs.Items.{ItemText, CommentText, RecordText, text_of, item}
 use Rattle.pl_scan.specs.Start.{data_left}
 use Rattle.pl_cells.specs.NullValues.{unknown_name}
 use Rattle.pl_csv.specs.declared.reading.Cause.{Cause}
 use Rattle.pl_csv.specs.declared.reading.Cause.TheVariants as cause
 use Rattle.pl_csv.specs.declared.reading.ReadFault.{ReadFault}
 use Rattle.pl_csv.specs.declared.reading.ReadFault.TheVariants as read_fault
+use Rattle.pl_csv.specs.declared.reading.RecordFault.{RecordFault}
+use Rattle.pl_csv.specs.declared.reading.RecordFault.TheVariants as record_fault
 use Rattle.pl_words.specs.declared.settings.Settings.{Settings}
-use Rattle.pl_csv.specs.Settings.{marks_of, comment_of, skips_of, keeps_ends, rules_of}
 use Rattle.pl_words.specs.SchemaText.{SchemaValue}
-use Rattle.pl_cells.specs.Cells.{value_of, fault_of}
-use Rattle.pl_csv.specs.Cells.{RowRules, cell}
+use Rattle.pl_csv.specs.Settings.{marks_of, comment_of, skips_of, keeps_ends, rules_of}
+use Rattle.pl_rows.specs.Columns.{frame_of_rows}
+use Rattle.pl_rows.specs.Plan.{Columns}
+use Rattle.pl_rows.specs.Rows.{Row, rows, first_faulty}
 
+
+-- the types of the columns
 abbrev pub types_of : SchemaValue → List DataType
 types_of schema = map (λ column. column.1) schema
 
--- ---- the rows
-
--- the items of a text, each with what stands behind it, as long as n lasts
-abbrev pub items_behind_within : Marks → Option (List ℕ) → ℕ → List ℕ → List (ItemText × List ℕ)
-items_behind_within m comment zero b = []
-items_behind_within m comment (suc n) [] = []
-items_behind_within m comment (suc n) (x ∷ xs) =
-    let first = item m comment (x ∷ xs) in
-    let size = length (text_of first) in
-    (first, drop size (x ∷ xs)) ∷ items_behind_within m comment n (drop (size + 1) (x ∷ xs))
-
--- the items of a text, each with what stands behind it
-unfoldable pub items_behind : Marks → Option (List ℕ) → List ℕ → List (ItemText × List ℕ)
-items_behind m comment b = items_behind_within m comment (length b) b
-
--- a record as it is read: its fields, and whether nothing stands behind it in the input
-pub record Row : Type 0 where
-  pub fields : List (List ℕ)
-  pub is_end : Bool
-
--- the record at the front of a text
-abbrev pub row_at : Marks → List ℕ → Row
-row_at m b = record { fields = fields m b; is_end = length (drop (extent m b) b) == 0 }
-
--- comments give no row
-abbrev pub row_of : Marks → ItemText × List ℕ → Option Row
-row_of m (CommentText text, behind) = None
-row_of m (RecordText text, behind) = Some (record { fields = fields m text; is_end = length behind == 0 })
-
--- the rows of the data, numbered from 0
-abbrev pub rows : Marks → Option (List ℕ) → List ℕ → List Row
-rows m comment b = filter_map (row_of m) (items_behind m comment b)
-
--- ---- the first fault of a row
-
--- the field of a column, where a missing one counts as the empty one
-abbrev pub field_at : List (List ℕ) → ℕ → List ℕ
-field_at fs column = unwrap_or (slice_get fs column) []
-
--- the fault of a column's cell, if it has one
-abbrev pub column_fault : RowRules → List (List ℕ) → ℕ × DataType → Option (ℕ × FaultKind)
-column_fault rules fs (column, type) = elim (fault_of (cell rules column type (field_at fs column))) [ None ↦ None | Some kind ↦ Some (column, kind) ]
-
--- one field too many, empty, whose separator is the last byte of the input
-abbrev pub is_forgiven : ℕ → Row → Bool
-is_forgiven columns row = row.is_end && (length row.fields == columns + 1 && length (field_at row.fields columns) == 0)
-
--- more fields than columns, where they are not passed over
-abbrev pub excess_fault : Bool → ℕ → Row → Option (ℕ × FaultKind)
-excess_fault truncate columns row =
-    if not truncate && (nat_lt columns (length row.fields) && not (is_forgiven columns row)) then Some (columns, fault.Fields) else None
-
--- the first element, or else another
-abbrev pub first_or : {X : Type 0} → Option X → List X → Option X
-first_or other [] = other
-first_or other (x ∷ xs) = Some x
-
--- the least column whose cell has a fault, or else more fields than columns
-abbrev pub first_fault : RowRules → List DataType → Row → Option (ℕ × FaultKind)
-first_fault rules types row =
-    first_or (excess_fault rules.truncate_ragged_lines (length types) row) (filter_map (column_fault rules row.fields) (enumerate_from 0 types))
-
--- the least row with a fault, counted from a number on, and its first fault
-abbrev pub first_faulty : RowRules → List DataType → ℕ → List Row → Option (ℕ × (ℕ × FaultKind))
-first_faulty rules types number [] = None
-first_faulty rules types number (row ∷ others) = elim (first_fault rules types row) [
-  | Some found ↦ Some (number, found)
-  | None ↦ first_faulty rules types (number + 1) others
-]
-
--- ---- the frame
-
-abbrev pub read_column : RowRules → List Row → ℕ × (List ℕ × DataType) → ColumnValue
-read_column rules given (column, (name, type)) = record {
-  name = name;
-  dtype = type;
-  values = map (λ row. value_of (cell rules column type (field_at row.fields column))) given;
-}
-
--- the columns of a schema, each cell from its field
-abbrev pub frame_of_rows : RowRules → SchemaValue → List Row → List ColumnValue
-frame_of_rows rules schema given = map (read_column rules given) (enumerate_from 0 schema)
+-- all columns of a schema
+abbrev pub all_columns : SchemaValue → Columns
+all_columns schema = record { read = enumerate_from 0 (types_of schema); width = length schema }
 
 -- ---- the input
 
@@ -121,7 +44,7 @@ data_rows s records = rows (marks_of s) (comment_of s) records
 
 -- the frame of the rows from the starting point on
 abbrev pub frame_of : Settings → List ℕ → List ColumnValue
-frame_of s input = frame_of_rows (rules_of s) s.schema (data_rows s (unwrap_or (data_of s input) []))
+frame_of s input = frame_of_rows (rules_of s) (enumerate_from 0 s.schema) (data_rows s (unwrap_or (data_of s input) []))
 
 -- ---- why an input has no frame
 
@@ -148,7 +71,7 @@ unknown_null s = option_and_then (unknown_name s.schema) s.null_values
 -- the least row with a fault
 abbrev pub faulty_record : Settings → List ℕ → Option Cause
 faulty_record s records =
-    option_map (λ found. cause.Record found.0 found.1.0 found.1.1) (first_faulty (rules_of s) (types_of s.schema) 0 (data_rows s records))
+    option_map (λ found. cause.Record found.0 found.1.0 found.1.1) (first_faulty (rules_of s) (all_columns s.schema) 0 (data_rows s records))
 
 -- the causes that stand before the quote of the output, given whether the marks are a dialect
 abbrev pub early_causes : Bool → Settings → List (Option Cause)
@@ -223,3 +146,8 @@ abbrev pub IsNameRefusal : Option (List ℕ) → ReadFault → Type 0
 IsNameRefusal first (read_fault.Refused (cause.NotFound name)) = first ≡ Some name
 IsNameRefusal first (read_fault.Refused given) = ⊥
 IsNameRefusal first read_fault.OutOfMemory = Unit {0}
+
+-- the fault is this one, with the number of its row; want of memory says nothing
+abbrev pub IsRecordFault : RecordFault → Option (ℕ × (ℕ × FaultKind)) → Type 0
+IsRecordFault (record_fault.Record row column kind) first = first ≡ Some (row, (column, kind))
+IsRecordFault record_fault.OutOfMemory first = Unit {0}

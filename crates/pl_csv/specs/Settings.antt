@@ -5,7 +5,7 @@ use Rattle.pl_frame.specs.Dialect.{Marks, marks}
 use Rattle.pl_scan.specs.Comment.{prefix_bytes}
 use Rattle.pl_scan.specs.Start.{Skips, skips}
 use Rattle.pl_cells.specs.NullValues.{compiled_for}
-use Rattle.pl_csv.specs.Cells.{RowRules}
+use Rattle.pl_rows.specs.Cells.{RowRules}
 use Rattle.pl_words.specs.declared.settings.Settings.{Settings}
 
 -- the bytes that cut a record

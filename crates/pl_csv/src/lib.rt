@@ -3,11 +3,10 @@
 
 pub mod adapters;
 pub mod counting;
-mod frames;
 pub mod laws;
 pub mod read_all;
+mod readable;
 mod reading;
-mod rows;
 pub mod run;
 #[cfg(test)]
 mod run_devices;

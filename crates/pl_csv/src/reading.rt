@@ -2,24 +2,27 @@
 ghost use Rattle.std.specs.Prelude.{◌≡◌, None, IfOk, OnOk, IfErr, MatchOption, MatchResult, length};
 ghost use Rattle.std.specs.Option.{option_copied, option_map};
 ghost use Rattle.pl_frame.specs.Schema.{HaveDistinctNames};
-ghost use Rattle.pl_frame.specs.Dialect.{marks, AreDistinct, IsDialect};
-ghost use Rattle.pl_scan.specs.Comment.{prefix_of};
-ghost use Rattle.pl_cells.specs.NullValues.{compiled_for};
+ghost use Rattle.std.specs.List.{enumerate_from};
+ghost use Rattle.pl_frame.specs.Dialect.{AreDistinct, IsDialect};
+ghost use Rattle.pl_scan.specs.Dialect as scan;
+ghost use Rattle.pl_cells.specs.NullValues.{compiled_for, HaveTexts};
 ghost use Rattle.pl_csv.specs.Settings.{marks_of, comment_of, rules_of};
-ghost use Rattle.pl_csv.specs.Rows.{stated_rules, HaveTexts, IsRecordFault};
-ghost use Rattle.pl_csv.specs.Reading.{types_of, data_of, rows, first_faulty, frame_of_rows, first_unreadable, unknown_null, Tells, MayBeRead, IsNameRefusal, IsCause, IsValidRead, IsReadFault};
+ghost use Rattle.pl_rows.specs.Columns.{frame_of_rows};
+ghost use Rattle.pl_rows.specs.Plan.{stated_rules};
+ghost use Rattle.pl_rows.specs.Rows.{rows, first_faulty};
+ghost use Rattle.pl_csv.specs.Reading.{all_columns, IsRecordFault, data_of, first_unreadable, unknown_null, Tells, MayBeRead, IsNameRefusal, IsCause, IsValidRead, IsReadFault};
 
-use crate::frames::{empty_buffers, find_unreadable, into_columns};
-use crate::rows::{Cuts, RecordFault, RowOptions, add_rows};
+use crate::readable::find_unreadable;
 use pl_cells::null_values::NullValuesCompiled;
-use pl_frame::column::Column;
 use pl_frame::compression::is_compressed;
 use pl_frame::error::{FaultKind, PolarsError};
 use pl_frame::frame::DataFrame;
 use pl_frame::name::PlSmallStr;
 use pl_frame::schema::Schema;
-use pl_scan::comment::CommentPrefix;
-use pl_scan::dialect::dialect_ok;
+use pl_rows::columns::{all_places, read_columns};
+use pl_rows::plan::{Projection, RangePlan, RowOptions};
+use pl_rows::range::RangeEnd;
+use pl_scan::dialect::{Dialect, dialect_ok};
 use pl_scan::start::data_of;
 use pl_words::settings::Settings;
 use std::alloc::Global;
@@ -54,6 +57,18 @@ pub enum Cause {
 pub enum ReadFault {
     /// There is none.
     Refused(Cause),
+    OutOfMemory,
+}
+
+/// Why no records were read.
+#[derive(Clone, Copy, Debug, PartialEq, Eq)]
+enum RecordFault {
+    /// The first fault of the least row that has one, by its number from 0.
+    Record {
+        row: usize,
+        column: usize,
+        kind: FaultKind,
+    },
     OutOfMemory,
 }
 
@@ -148,15 +163,17 @@ pub fn read_frame(alloc: Global, input: &[u8], settings: &Settings) -> Result<Da
     }
 }
 
-// The bytes that cut the text.
-fn cuts_of(settings: &Settings) -> Cuts
-    ensures cut { marks result.separator result.quote_char result.eol_char ≡ marks_of settings.now }
+// The marks and the comment prefix.
+fn dialect_of(settings: &Settings) -> Dialect<'_>
+    ensures marks { scan.marks_of result ≡ marks_of settings.now }
+    ensures comment { scan.comment_of result ≡ comment_of settings.now }
     ensures quote { result.quote_char ≡ settings.now.quote_char }
 {
-    Cuts {
+    Dialect {
         separator: settings.separator,
         quote_char: settings.quote_char,
         eol_char: settings.eol_char,
+        comment_prefix: settings.comment_prefix.as_ref(),
     }
 }
 
@@ -195,9 +212,8 @@ fn read_data(
         alloc,
         records,
         &settings.schema,
-        cuts_of(settings),
+        dialect_of(settings),
         row_options(settings, null_values),
-        settings.comment_prefix.as_ref(),
     ) {
         Ok(frame) => Ok(frame),
         Err(RecordFault::OutOfMemory) => Err(ReadFault::OutOfMemory),
@@ -212,28 +228,37 @@ fn read_records(
     alloc: Global,
     records: &[u8],
     schema: &Schema,
-    cuts: Cuts,
+    dialect: Dialect<'_>,
     options: RowOptions<'_>,
-    comment_prefix: Option<&CommentPrefix>,
 ) -> Result<DataFrame, RecordFault>
     requires distinct { HaveDistinctNames schema.now }
     requires readable { first_unreadable schema.now ≡ None }
-    requires apart { AreDistinct (marks cuts.separator cuts.quote_char cuts.eol_char) }
+    requires apart { AreDistinct (scan.marks_of dialect) }
     requires texts { HaveTexts options.null_values (length schema.now) }
-    ensures read { IfOk result (λ frame. frame ≡ frame_of_rows (stated_rules cuts.quote_char options.entry) schema.now (rows (marks cuts.separator cuts.quote_char cuts.eol_char) (prefix_of comment_prefix.entry) records.now)) }
-    ensures whole { OnOk result (first_faulty (stated_rules cuts.quote_char options.entry) (types_of schema.now) 0 (rows (marks cuts.separator cuts.quote_char cuts.eol_char) (prefix_of comment_prefix.entry) records.now) ≡ None) }
-    ensures fault { IfErr result (λ fault. IsRecordFault fault (first_faulty (stated_rules cuts.quote_char options.entry) (types_of schema.now) 0 (rows (marks cuts.separator cuts.quote_char cuts.eol_char) (prefix_of comment_prefix.entry) records.now))) }
+    ensures read { IfOk result (λ frame. frame ≡ frame_of_rows (stated_rules dialect.entry.quote_char options.entry) (enumerate_from 0 schema.now) (rows (scan.marks_of dialect.entry) (scan.comment_of dialect.entry) records.now)) }
+    ensures whole { OnOk result (first_faulty (stated_rules dialect.entry.quote_char options.entry) (all_columns schema.now) 0 (rows (scan.marks_of dialect.entry) (scan.comment_of dialect.entry) records.now) ≡ None) }
+    ensures fault { IfErr result (λ fault. IsRecordFault fault (first_faulty (stated_rules dialect.entry.quote_char options.entry) (all_columns schema.now) 0 (rows (scan.marks_of dialect.entry) (scan.comment_of dialect.entry) records.now))) }
 {
-    let mut buffers = match empty_buffers(alloc, schema, cuts.quote_char, options.encoding) {
-        Ok(buffers) => buffers,
-        Err(_) => return Err(RecordFault::OutOfMemory),
+    let Ok(places) = all_places(alloc, schema.len()) else {
+        return Err(RecordFault::OutOfMemory);
     };
-    match add_rows(&mut buffers, records, cuts, options, comment_prefix) {
-        Ok(()) => {}
-        Err(fault) => return Err(fault),
-    }
-    match into_columns(alloc, buffers) {
-        Ok(columns) => Ok(DataFrame::of_distinct(columns)),
-        Err(_) => Err(RecordFault::OutOfMemory),
+    let plan = RangePlan {
+        dialect,
+        projection: Projection {
+            places: &places,
+            width: schema.len(),
+        },
+        options,
+        limit: None,
+        last: true,
+    };
+    let Ok(read) = read_columns(alloc, schema, records, &plan) else {
+        return Err(RecordFault::OutOfMemory);
+    };
+    match read.end {
+        RangeEnd::Fault { row, column, kind } => {
+            Err(RecordFault::Record { row, column, kind })
+        }
+        RangeEnd::Closed | RangeEnd::Open => Ok(DataFrame::of_distinct(read.columns)),
     }
 }

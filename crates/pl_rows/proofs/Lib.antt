@@ -7,3 +7,4 @@ pub mod RangeLaws
 pub mod OpenLaws
 pub mod FrameLaws
 pub mod PlanLaws
+pub mod WholeLaws

@@ -94,7 +94,7 @@ filter-kept p x xs e = ap (λ t. cond t (x ∷ filter p xs) (filter p xs)) e
 filter-left_out : {X : Type 0} (p : X → Bool) (x : X) (xs : List X) → p x ≡ false → filter p (x ∷ xs) ≡ filter p xs
 filter-left_out p x xs e = ap (λ t. cond t (x ∷ filter p xs) (filter p xs)) e
 
-sound_rows-more : (rules : RowRules) (columns : Columns) (row : Row) (others : List Row) → first_fault rules columns row ≡ None
+pub sound_rows-more : (rules : RowRules) (columns : Columns) (row : Row) (others : List Row) → first_fault rules columns row ≡ None
     → sound_rows rules columns (row ∷ others) ≡ row ∷ sound_rows rules columns others
 sound_rows-more rules columns row others e =
     take_while-cons (λ r. is_none (first_fault rules columns r)) row others

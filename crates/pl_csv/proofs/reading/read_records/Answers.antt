@@ -1,53 +1,52 @@
-use Rattle.std.proofs.Common.{◌≡◌, sym, ◌∙◌, ap, subst, arith}
-use Rattle.pl_frame.specs.Dialect.{marks}
-use Rattle.pl_frame.specs.Frame.{IsFrame}
-use Rattle.pl_scan.specs.Comment.{prefix_of}
-use Rattle.pl_csv.specs.Reading.{rows, first_faulty}
-use Rattle.pl_csv.specs.Rows.{FollowRules, IsRecordFault, stated_rules, states, state_types, with_rows}
-use Rattle.pl_csv.specs.Frames.{columns_of, empty_columns}
-use Rattle.pl_csv.proofs.FrameLaws.{IsFrame-rows, state_types-empty, columns_of-rows, written_back}
-use Rattle.pl_csv.proofs.RuleLaws.{FollowRules-empty}
+use Rattle.std.proofs.Common.{◌≡◌, Some, None, true, length, refl, sym, ◌∙◌, ap, subst}
+use Rattle.std.specs.List.{range_with_len}
+use Rattle.pl_cells.specs.InitBuffers as cells
+use Rattle.pl_scan.specs.Dialect as scan
+use Rattle.pl_rows.specs.declared.plan.RangePlan.{RangePlan}
+use Rattle.pl_rows.specs.Plan.{AreRising, stated_rules}
+use Rattle.pl_rows.specs.Rows.{rows, first_faulty}
+use Rattle.pl_rows.proofs.PlanLaws.{rising-all}
+use Rattle.pl_rows.proofs.WholeLaws.{whole_read, whole_frame, IsFrame-whole, fault-first, none-first}
+use Rattle.pl_csv.specs.Reading.{all_columns}
+use Rattle.pl_csv.proofs.PlaceLaws.{all_readable}
 use Rattle.pl_csv.proofs.reading.read_records.Goals as goal
 
-pub add_rows-requires-clause-rules : goal.add_rows-requires-clause-rules
-add_rows-requires-clause-rules c =
-    let rules = stated_rules c.args.cuts.quote_char c.args.options in
-    let fresh : states c.deref_mut.result.now ≡ empty_columns rules c.args.schema.now = ap states c.deref_mut.ensures.value ∙ c.in-Ok.ensures in
-    subst (FollowRules rules) (sym fresh) (FollowRules-empty rules c.args.schema.now)
+pub read_columns-requires-clause-rising : goal.read_columns-requires-clause-rising
+read_columns-requires-clause-rising c =
+    let places : c.deref.result.now ≡ range_with_len 0 (length c.args.schema.now) = c.deref.ensures.value ∙ c.in-Ok.ensures ∙ ap (range_with_len 0) c.len.ensures.len in
+    subst (AreRising 0 (length c.args.schema.now)) (sym places) (rising-all (length c.args.schema.now))
 
-pub returns-in-Err-add_rows-clause-fault : goal.returns-in-Err-add_rows-clause-fault
-returns-in-Err-add_rows-clause-fault c =
-    let rules = stated_rules c.args.cuts.quote_char c.args.options in
-    let given = rows (marks c.args.cuts.separator c.args.cuts.quote_char c.args.cuts.eol_char) (prefix_of c.args.comment_prefix) c.args.records.now in
-    let fresh : states c.deref_mut.result.now ≡ empty_columns rules c.args.schema.now = ap states c.deref_mut.ensures.value ∙ c.in-Ok.ensures in
-    let types = ap state_types fresh ∙ state_types-empty rules c.args.schema.now in
-    subst (λ ts. IsRecordFault c.in-Err-add_rows.fault (first_faulty rules ts 0 given)) types c.in-Err-add_rows.ensures.fault
+pub read_columns-requires-clause-readable : goal.read_columns-requires-clause-readable
+read_columns-requires-clause-readable c =
+    let places : c.deref.result.now ≡ range_with_len 0 (length c.args.schema.now) = c.deref.ensures.value ∙ c.in-Ok.ensures ∙ ap (range_with_len 0) c.len.ensures.len in
+    ap (cells.first_unreadable c.args.schema.now) places ∙ all_readable c.args.schema.now c.requires.readable
 
-pub returns-in-Ok-into_columns-clause-whole : goal.returns-in-Ok-into_columns-clause-whole
-returns-in-Ok-into_columns-clause-whole c =
-    let rules = stated_rules c.args.cuts.quote_char c.args.options in
-    let given = rows (marks c.args.cuts.separator c.args.cuts.quote_char c.args.cuts.eol_char) (prefix_of c.args.comment_prefix) c.args.records.now in
-    let fresh : states c.deref_mut.result.now ≡ empty_columns rules c.args.schema.now = ap states c.deref_mut.ensures.value ∙ c.in-Ok.ensures in
-    let types = ap state_types fresh ∙ state_types-empty rules c.args.schema.now in
-    sym (ap (λ ts. first_faulty rules ts 0 given) types) ∙ c.in-Ok-add_rows.ensures.whole
+pub returns-in-Fault-clause-fault : goal.returns-in-Fault-clause-fault
+returns-in-Fault-clause-fault c =
+    let schema = c.args.schema.now in
+    let places : c.deref.result.now ≡ range_with_len 0 (length schema) = c.deref.ensures.value ∙ c.in-Ok.ensures ∙ ap (range_with_len 0) c.len.ensures.len in
+    let plan : RangePlan = record { dialect = c.args.dialect; projection = record { places = c.deref.result; width = c.len-2.result }; options = c.args.options; limit = None; last = true } in
+    let given = rows (scan.marks_of c.args.dialect) (scan.comment_of c.args.dialect) c.args.records.now in
+    let whole = whole_read plan schema c.args.records.now c.in-Ok-read_columns.read c.in-Ok-read_columns.ensures places refl refl in
+    fault-first (first_faulty (stated_rules c.args.dialect.quote_char c.args.options) (all_columns schema) 0 given) whole.unjudged c.in-Fault.row c.in-Fault.column c.in-Fault.kind (sym c.in-Fault.is ∙ whole.end_is)
 
 pub of_distinct-requires : goal.of_distinct-requires
 of_distinct-requires c =
     let schema = c.args.schema.now in
-    let rules = stated_rules c.args.cuts.quote_char c.args.options in
-    let given = rows (marks c.args.cuts.separator c.args.cuts.quote_char c.args.cuts.eol_char) (prefix_of c.args.comment_prefix) c.args.records.now in
-    let fresh : states c.deref_mut.result.now ≡ empty_columns rules schema = ap states c.deref_mut.ensures.value ∙ c.in-Ok.ensures in
-    let back = written_back c.in-Ok.buffers.items c.add_rows.new.buffers c.in-Ok.buffers.len (omega (arith, c.in-Ok.buffers.ok, c.deref_mut.ensures.len)) (omega (arith, c.add_rows.auto.buffers, c.deref_mut.ensures.len, c.in-Ok.buffers.ok)) in
-    let added = ap states back ∙ c.in-Ok-add_rows.ensures.added ∙ ap (with_rows rules given) fresh in
-    let columns = c.in-Ok-into_columns.ensures ∙ ap columns_of added ∙ columns_of-rows rules given schema in
-    subst IsFrame (sym columns) (IsFrame-rows rules given schema c.requires.distinct)
+    let places : c.deref.result.now ≡ range_with_len 0 (length schema) = c.deref.ensures.value ∙ c.in-Ok.ensures ∙ ap (range_with_len 0) c.len.ensures.len in
+    let plan : RangePlan = record { dialect = c.args.dialect; projection = record { places = c.deref.result; width = c.len-2.result }; options = c.args.options; limit = None; last = true } in
+    let given = rows (scan.marks_of c.args.dialect) (scan.comment_of c.args.dialect) c.args.records.now in
+    let rules = stated_rules c.args.dialect.quote_char c.args.options in
+    let whole = whole_read plan schema c.args.records.now c.in-Ok-read_columns.read c.in-Ok-read_columns.ensures places refl refl in
+    IsFrame-whole rules schema given c.in-Ok-read_columns.read whole c.requires.distinct
 
-pub returns-in-Ok-into_columns-clause-read : goal.returns-in-Ok-into_columns-clause-read
-returns-in-Ok-into_columns-clause-read c =
+pub returns : goal.returns
+returns c =
     let schema = c.args.schema.now in
-    let rules = stated_rules c.args.cuts.quote_char c.args.options in
-    let given = rows (marks c.args.cuts.separator c.args.cuts.quote_char c.args.cuts.eol_char) (prefix_of c.args.comment_prefix) c.args.records.now in
-    let fresh : states c.deref_mut.result.now ≡ empty_columns rules schema = ap states c.deref_mut.ensures.value ∙ c.in-Ok.ensures in
-    let back = written_back c.in-Ok.buffers.items c.add_rows.new.buffers c.in-Ok.buffers.len (omega (arith, c.in-Ok.buffers.ok, c.deref_mut.ensures.len)) (omega (arith, c.add_rows.auto.buffers, c.deref_mut.ensures.len, c.in-Ok.buffers.ok)) in
-    let added = ap states back ∙ c.in-Ok-add_rows.ensures.added ∙ ap (with_rows rules given) fresh in
-    c.of_distinct.ensures ∙ c.in-Ok-into_columns.ensures ∙ ap columns_of added ∙ columns_of-rows rules given schema
+    let places : c.deref.result.now ≡ range_with_len 0 (length schema) = c.deref.ensures.value ∙ c.in-Ok.ensures ∙ ap (range_with_len 0) c.len.ensures.len in
+    let plan : RangePlan = record { dialect = c.args.dialect; projection = record { places = c.deref.result; width = c.len-2.result }; options = c.args.options; limit = None; last = true } in
+    let given = rows (scan.marks_of c.args.dialect) (scan.comment_of c.args.dialect) c.args.records.now in
+    let rules = stated_rules c.args.dialect.quote_char c.args.options in
+    let whole = whole_read plan schema c.args.records.now c.in-Ok-read_columns.read c.in-Ok-read_columns.ensures places refl refl in
+    let none : first_faulty rules (all_columns schema) 0 given ≡ None = none-first (first_faulty rules (all_columns schema) 0 given) whole.unjudged c.in-Ok-read_columns.read.end whole.end_is c.in-Closed.is in
+    record { read = c.of_distinct.ensures ∙ whole_frame rules schema given c.in-Ok-read_columns.read whole none; whole = none; fault = tt }

@@ -1,6 +1,6 @@
 use Rattle.std.proofs.Common.{not, sym, ◌∙◌, ap, ◌<◌, length, arith}
 use Rattle.pl_csv.proofs.PlaceLaws.{first_unreadable-here, first_unreadable-none}
-use Rattle.pl_csv.proofs.frames.find_unreadable.Goals as goal
+use Rattle.pl_csv.proofs.readable.find_unreadable.Goals as goal
 
 pub returns-then-not-is_readable_at : goal.returns-then-not-is_readable_at
 returns-then-not-is_readable_at c =

@@ -1,5 +1,0 @@
-use Rattle.pl_csv.proofs.PlaceLaws.{only_memory}
-use Rattle.pl_csv.proofs.frames.wanting.Goals as goal
-
-pub unreachable-requires : goal.unreachable-requires
-unreachable-requires c = c.in_default.not-OutOfMemory (only_memory c.args.fault c.requires)

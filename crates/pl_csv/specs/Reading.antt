@@ -23,7 +23,6 @@ use Rattle.pl_rows.specs.Columns.{frame_of_rows}
 use Rattle.pl_rows.specs.Plan.{Columns}
 use Rattle.pl_rows.specs.Rows.{Row, rows, first_faulty}
 
-
 -- the types of the columns
 abbrev pub types_of : SchemaValue → List DataType
 types_of schema = map (λ column. column.1) schema

@@ -8,8 +8,8 @@ ghost use Rattle.pl_scan.specs.RowCount.{row_count};
 ghost use Rattle.pl_frame.specs.Compression.{is_compressed};
 ghost use Rattle.pl_csv.specs.Counting.{CameWhole, HoldsSome, IsCountOf, no_dialect, compressed, counted, AnswersUnlessFailed, IsCountFault};
 
-use pl_frame::compression::is_compressed;
 use crate::read_all::{LIMIT, ReadAllFault, read_all};
+use pl_frame::compression::is_compressed;
 use pl_frame::error::{ComputeFault, OpFault, PolarsError, PolarsResult};
 use pl_frame::opener::Opener;
 use pl_frame::read_all::BLOCK_SIZE;

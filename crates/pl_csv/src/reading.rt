@@ -9,12 +9,12 @@ ghost use Rattle.pl_csv.specs.Settings.{marks_of, comment_of, rules_of};
 ghost use Rattle.pl_csv.specs.Rows.{stated_rules, HaveTexts, IsRecordFault};
 ghost use Rattle.pl_csv.specs.Reading.{types_of, data_of, rows, first_faulty, frame_of_rows, first_unreadable, unknown_null, Tells, MayBeRead, IsNameRefusal, IsCause, IsValidRead, IsReadFault};
 
-use pl_frame::compression::is_compressed;
 use crate::frames::{empty_buffers, find_unreadable, into_columns};
 use crate::rows::{Cuts, RecordFault, RowOptions, add_rows};
 use crate::settings::Settings;
 use pl_cells::null_values::NullValuesCompiled;
 use pl_frame::column::Column;
+use pl_frame::compression::is_compressed;
 use pl_frame::error::{FaultKind, PolarsError};
 use pl_frame::frame::DataFrame;
 use pl_frame::name::PlSmallStr;

@@ -7,7 +7,7 @@ use Rattle.jiff_core.proofs.MarchLemmas.{day_count-early}
 use Rattle.jiff_core.proofs.SignedLemmas.{signed_arith}
 use Rattle.pl_frame.specs.Types.{is_within, day_range}
 use Rattle.jiff_core.specs.Calendar.{IsCivilDate, day_count, days_in_month, days_from_civil}
-use Rattle.pl_cells.specs.Dates.{is_civil_date, day_number}
+use Rattle.pl_cells.specs.Dates.{is_civil_date, number_of_day}
 
 is_civil_date-is : (y m d : ℕ) → IsInRange 1 12 m → IsInRange 1 (days_in_month (pos y) m) d → is_civil_date y m d ≡ true
 is_civil_date-is y m d month day = by_days (days_in_month (pos y) m) day
@@ -15,16 +15,16 @@ is_civil_date-is y m d month day = by_days (days_in_month (pos y) m) day
     by_days : (last : ℕ) → IsInRange 1 last d → (nat_le 1 m && nat_le m 12) && (nat_le 1 d && nat_le d last) ≡ true
     by_days last h = grind (arith, nat_tests)
 
-pub day_number-is : (y m d : ℕ) (z : ℤ) → IsInRange 1 12 m → IsInRange 1 (days_in_month (pos y) m) d → z ≡ days_from_civil (pos y) m d → Some z ≡ day_number (Some y) (Some m) (Some d)
-day_number-is y m d z month day is = rw (is_civil_date-is y m d month day) (ap Some is)
+pub number_of_day-is : (y m d : ℕ) (z : ℤ) → IsInRange 1 12 m → IsInRange 1 (days_in_month (pos y) m) d → z ≡ days_from_civil (pos y) m d → Some z ≡ number_of_day (Some y) (Some m) (Some d)
+number_of_day-is y m d z month day is = rw (is_civil_date-is y m d month day) (ap Some is)
 
-pub day_number-at : (y m d : ℕ) (year : ℤ) (month day : ℕ) (z : ℤ) → year ≡ pos y → month ≡ m → day ≡ d
-    → IsInRange 1 12 month → IsInRange 1 (days_in_month year month) day → z ≡ days_from_civil year month day → Some z ≡ day_number (Some y) (Some m) (Some d)
-day_number-at y m d year month day z is_year is_month is_day in_year in_month is =
+pub number_of_day-at : (y m d : ℕ) (year : ℤ) (month day : ℕ) (z : ℤ) → year ≡ pos y → month ≡ m → day ≡ d
+    → IsInRange 1 12 month → IsInRange 1 (days_in_month year month) day → z ≡ days_from_civil year month day → Some z ≡ number_of_day (Some y) (Some m) (Some d)
+number_of_day-at y m d year month day z is_year is_month is_day in_year in_month is =
     let months : IsInRange 1 12 m = rw is_month at in_year in
     let days : IsInRange 1 (days_in_month (pos y) m) d = rw (is_year, is_month, is_day) at in_month in
     let number : z ≡ days_from_civil (pos y) m d = rw (is_year, is_month, is_day) at is in
-    day_number-is y m d z months days number
+    number_of_day-is y m d z months days number
 
 -- ---- the days of the years 0000 to 9999
 

@@ -1,14 +1,14 @@
 -- The truth value of a text (docs/types.md, "Booleans").
-use Rattle.std.specs.Prelude.{ℕ, Bool, true, false, if◌then◌else◌, List, [], ◌∷◌, Option, None, Some}
+use Rattle.std.specs.Prelude.{ℕ, Bool, true, false, if◌then◌else◌, List, Option, None, Some, codes}
 use Rattle.std.specs.Str.{str_eq_ignore_ascii_case}
 
 -- `true`
 abbrev pub true_word : List ℕ
-true_word = 116 ∷ 114 ∷ 117 ∷ 101 ∷ []
+true_word = codes "true"
 
 -- `false`
 abbrev pub false_word : List ℕ
-false_word = 102 ∷ 97 ∷ 108 ∷ 115 ∷ 101 ∷ []
+false_word = codes "false"
 
 -- `true` or `false`, in any case of the letters
 abbrev pub boolean_value : List ℕ → Option Bool

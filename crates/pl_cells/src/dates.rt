@@ -2,7 +2,7 @@
 ghost use Rattle.std.specs.Prelude.{◌≡◌, ◌+◌, ◌≤◌, ◌<◌, length, pos, IfSome, Some, true};
 ghost use Rattle.pl_frame.specs.Types.{is_within, day_range};
 ghost use Rattle.pl_cells.specs.Integers.{digits_value};
-ghost use Rattle.pl_cells.specs.Dates.{part, date_value, day_number};
+ghost use Rattle.pl_cells.specs.Dates.{part, date_value, number_of_day};
 
 use jiff_core::civil::Date;
 
@@ -39,7 +39,7 @@ fn day_of(year: u16, month: u8, day: u8) -> Option<i64>
     requires year_in { year < 10000 }
     requires month_in { month < 100 }
     requires day_in { day < 100 }
-    ensures value { result ≡ day_number (Some year) (Some month) (Some day) }
+    ensures value { result ≡ number_of_day (Some year) (Some month) (Some day) }
     ensures within { IfSome result (λ n. is_within day_range n ≡ true) }
 {
     match Date::new(year as i16, month as i8, day as i8) {

@@ -4,7 +4,7 @@ use Rattle.std.specs.Prelude.{Option}
 use Rattle.std.proofs.lemmas.List.{drop-drop}
 use Rattle.pl_frame.specs.Frame.{Scalar}
 use Rattle.pl_frame.specs.declared.data_type.DataType.{DataType}
-use Rattle.pl_write.specs.Left.{without_next}
+use Rattle.pl_write.specs.CellsLeft.{without_next}
 
 -- those from the next row on
 pub left-next : (type : DataType) (cells : List (Option Scalar)) (row : ℕ) → record { dtype = type; cells = drop (row + 1) cells } ≡ without_next (record { dtype = type; cells = drop row cells })

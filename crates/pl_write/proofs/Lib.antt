@@ -2,6 +2,7 @@ mod BlockLaws
 mod DateLaws
 mod DigitLaws
 mod DoubledLaws
+pub mod FormLaws
 mod HeldLaws
 pub mod KeptLaws
 mod LeftLaws
@@ -9,5 +10,4 @@ mod LineLaws
 mod PaddedLaws
 mod SpecialLaws
 mod TimeLaws
-pub mod WayLaws
 pub mod WriteLaws

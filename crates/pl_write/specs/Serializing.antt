@@ -1,12 +1,12 @@
 -- A serializer: in each of its arms, the cells that are left of a column.
 use Rattle.pl_frame.specs.declared.data_type.DataType.{DataType}
 use Rattle.pl_frame.specs.declared.data_type.DataType.TheVariants as dtype
-use Rattle.pl_write.specs.Left.{Left, without_next}
+use Rattle.pl_write.specs.CellsLeft.{CellsLeft, without_next}
 use Rattle.pl_write.specs.declared.serializer.Serializer.{Serializer}
 use Rattle.pl_write.specs.declared.serializer.Serializer.TheVariants as serializer
 
 -- the cells that are left
-abbrev pub left_of : Serializer → Left
+abbrev pub left_of : Serializer → CellsLeft
 left_of (serializer.Boolean left) = left
 left_of (serializer.Int8 left) = left
 left_of (serializer.Int16 left) = left

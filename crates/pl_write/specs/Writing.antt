@@ -1,4 +1,4 @@
--- What a row and a line are made of.
+-- How frames are written to a sink: by which writer, how far, and why not (docs/quoting.md).
 use Rattle.std.specs.Prelude.{◌≡◌, ℕ, ◌<◌, ◌≤◌, zero, suc, List, [], ◌∷◌, ◌++◌, length, take, Option}
 use Rattle.std.specs.Io.KnownBytes.{Appends}
 use Rattle.std.specs.List.{AllByRecursion}
@@ -28,7 +28,7 @@ HasRow row columns = AllByRecursion (λ column. row < length column.values) colu
 abbrev pub AppendsPrefix : Option (List ℕ) → Option (List ℕ) → List ℕ → Type 0
 AppendsPrefix old new text = (n : ℕ) × Appends old new (take n text)
 
--- a writer of frames: its sink, how it writes, and on how many threads
+-- a writer of frames: its sink, how it writes, and its number of threads
 pub record Writer (S : Type 0) : Type 0 where
   pub sink : S
   pub options : CsvWriterOptions

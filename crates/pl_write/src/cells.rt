@@ -1,12 +1,12 @@
 //! The cells of a column from one row on.
 ghost use Rattle.std.specs.Prelude.{◌≡◌, ◌++◌, ◌<◌, length, OnErr, OnOk};
 ghost use Rattle.pl_frame.specs.Text.{written_cell};
-ghost use Rattle.pl_write.specs.Left.{next_cell, without_next};
+ghost use Rattle.pl_write.specs.CellsLeft.{next_cell, without_next};
 ghost use Rattle.pl_write.specs.Options.{cell_options};
 ghost use Rattle.pl_write.specs.Writing.{StaysInFront};
 
+use crate::cell_form::CellForm;
 use crate::options::SerializeOptions;
-use crate::ways::Way;
 use crate::writer::push_cell;
 use pl_frame::column::Column;
 use std::alloc::AllocError;
@@ -21,9 +21,9 @@ pub struct Cells<'a> {
 
 impl<'a> Model for Cells<'a> {
     ghost use Rattle.std.specs.Prelude.{drop};
-    ghost use Rattle.pl_write.specs.Left.{Left};
+    ghost use Rattle.pl_write.specs.CellsLeft.{CellsLeft};
 
-    ghost Value = { Left };
+    ghost Value = { CellsLeft };
 
     ghost view = { λ c. record { dtype = c.column.now.dtype; cells = drop c.next c.column.now.values } };
 }
@@ -65,7 +65,7 @@ impl<'a> Cells<'a> {
             buf,
             &mut scratch,
             self.column,
-            Way::ByCell,
+            CellForm::ByCell,
             self.next,
             options,
         )?;

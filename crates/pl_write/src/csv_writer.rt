@@ -19,10 +19,10 @@ use std::marker::Model;
 
 /// What writes frames to a sink.
 pub trait SerWriter<S: Sink> {
-    /// The sink, how frames are written, and on how many threads.
+    /// The sink, how frames are written, and the number of threads.
     ghost writer: { Self → Writer S };
 
-    /// A writer to a sink, with default options, on four threads. Refuses only want of memory.
+    /// A writer to a sink, with default options and four threads. Refuses only want of memory.
     fn new(alloc: Global, sink: S) -> PolarsResult<Self>
         ensures made { IfOk result (λ made. writer made ≡ record { sink = sink; options = default_options; n_threads = 4 }) }
         ensures refused { IsOkUnless result error.OutOfMemory };
@@ -84,7 +84,7 @@ impl<S: Sink> CsvWriter<S> {
         self
     }
 
-    /// Sets how many rows are written at a time; the text does not depend on it.
+    /// Sets the batch size, which has no effect: a frame is written in blocks of bytes.
     pub fn with_batch_size(mut self, batch_size: usize) -> Self
         ensures { result ≡ with_change (with_batch_size batch_size) self }
     {
@@ -124,7 +124,8 @@ impl<S: Sink> CsvWriter<S> {
         self
     }
 
-    /// Sets on how many threads a frame is written; the text does not depend on it.
+    /// Sets the number of threads, which must not be 0 where a frame is written. It is written on the caller's thread,
+    /// whatever the number.
     pub fn n_threads(mut self, n_threads: usize) -> Self
         ensures { result ≡ with_threads n_threads self }
     {

@@ -24,7 +24,7 @@ fn civil_digits(year: u32, month: u32, day: u32) -> [u8; 10]
 
 /// The date of a day number as `YYYY-MM-DD`.
 #[inline]
-pub fn date_digits(day: i64) -> [u8; 10]
+pub(crate) fn date_digits(day: i64) -> [u8; 10]
     requires { is_within day_range day ≡ true }
     ensures { result ≡ date_text day }
 {
@@ -35,7 +35,7 @@ pub fn date_digits(day: i64) -> [u8; 10]
 /// Appends the date of a day number, as `YYYY-MM-DD`.
 #[tactic(auto, using(crate::proofs::KeptLaws::keeping))]
 #[inline]
-pub fn push_date(block: &mut Vec<u8>, day: i64) -> Result<(), AllocError>
+pub(crate) fn push_date(block: &mut Vec<u8>, day: i64) -> Result<(), AllocError>
     requires { is_within day_range day ≡ true }
     ensures text { OnOk result (block.new.items ≡ block.old.items ++ date_text day) }
     ensures kept { StaysInFront block.old.items block.new.items }

@@ -81,7 +81,7 @@ fn push_filled(block: &mut Vec<u8>, digits: &[u8], scale: usize) -> Result<(), A
 /// `scale` of them.
 #[tactic(auto, using(crate::proofs::KeptLaws::keeping))]
 #[inline]
-pub fn push_decimal(block: &mut Vec<u8>, number: i128, scale: u32) -> Result<(), AllocError>
+pub(crate) fn push_decimal(block: &mut Vec<u8>, number: i128, scale: u32) -> Result<(), AllocError>
     ensures text { OnOk result (block.new.items ≡ block.old.items ++ decimal_text scale number) }
     ensures kept { StaysInFront block.old.items block.new.items }
 {

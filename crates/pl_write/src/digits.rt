@@ -13,7 +13,7 @@ fn digit(n: u32) -> u8
 
 /// A number below 100 in two digits.
 #[inline]
-pub fn two_digits(n: u32) -> [u8; 2]
+pub(crate) fn two_digits(n: u32) -> [u8; 2]
     requires { n < 100 }
     ensures { result ≡ padded 2 n }
 {
@@ -22,7 +22,7 @@ pub fn two_digits(n: u32) -> [u8; 2]
 
 /// A number below 1000 in three digits.
 #[inline]
-pub fn three_digits(n: u32) -> [u8; 3]
+pub(crate) fn three_digits(n: u32) -> [u8; 3]
     requires { n < 1000 }
     ensures { result ≡ padded 3 n }
 {
@@ -31,7 +31,7 @@ pub fn three_digits(n: u32) -> [u8; 3]
 
 /// A number below 10000 in four digits.
 #[inline]
-pub fn four_digits(n: u32) -> [u8; 4]
+pub(crate) fn four_digits(n: u32) -> [u8; 4]
     requires { n < 10000 }
     ensures { result ≡ padded 4 n }
 {
@@ -45,7 +45,7 @@ pub fn four_digits(n: u32) -> [u8; 4]
 
 /// A number below a million in six digits.
 #[inline]
-pub fn six_digits(n: u32) -> [u8; 6]
+pub(crate) fn six_digits(n: u32) -> [u8; 6]
     requires { n < 1000000 }
     ensures { result ≡ padded 6 n }
 {
@@ -56,7 +56,7 @@ pub fn six_digits(n: u32) -> [u8; 6]
 
 /// A number below a thousand million in nine digits.
 #[inline]
-pub fn nine_digits(n: u32) -> [u8; 9]
+pub(crate) fn nine_digits(n: u32) -> [u8; 9]
     requires { n < 1000000000 }
     ensures { result ≡ padded 9 n }
 {

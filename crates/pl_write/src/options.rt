@@ -72,7 +72,7 @@ pub struct CsvWriterOptions {
     pub include_bom: bool,
     /// Whether the line of the names stands before the rows.
     pub include_header: bool,
-    /// So many rows are written at a time, 0 counting as 1; the text does not depend on it.
+    /// Has no effect: a frame is written in blocks of bytes.
     pub batch_size: usize,
     /// Has no effect.
     pub maintain_order: bool,

@@ -2,7 +2,7 @@
 ghost use Rattle.std.specs.Prelude.{◌≡◌, ◌++◌, ◌<◌, length, IsOkUnless, OnErr, OnOk};
 ghost use Rattle.pl_frame.specs.Text.{written_cell};
 ghost use Rattle.pl_frame.specs.declared.error.PolarsError.TheVariants as error;
-ghost use Rattle.pl_write.specs.Left.{next_cell, without_next};
+ghost use Rattle.pl_write.specs.CellsLeft.{next_cell, without_next};
 ghost use Rattle.pl_write.specs.Options.{cell_options};
 ghost use Rattle.pl_write.specs.Serializing.{left_of, after_one, IsArmOf};
 ghost use Rattle.pl_write.specs.Writing.{StaysInFront};

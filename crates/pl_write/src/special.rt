@@ -102,7 +102,7 @@ fn any_special(text: &[u8], separator: u8, quote: u8) -> bool
 
 /// Whether a text holds the separator, a line feed, a carriage return or the quote.
 #[inline]
-pub fn holds_special(text: &[u8], separator: u8, quote: u8) -> bool
+pub(crate) fn holds_special(text: &[u8], separator: u8, quote: u8) -> bool
     ensures { result ≡ list_any (is_special separator quote) text.now }
 {
     if text.len() >= 4 && is_clear(text, separator, quote) {

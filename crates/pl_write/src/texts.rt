@@ -36,7 +36,7 @@ fn push_doubled(block: &mut Vec<u8>, text: &[u8], quote: u8) -> Result<(), Alloc
 
 /// Appends a text between quotes, with each quote in it doubled.
 #[tactic(auto, using(crate::proofs::KeptLaws::keeping))]
-pub fn push_quoted(block: &mut Vec<u8>, text: &[u8], quote: u8) -> Result<(), AllocError>
+pub(crate) fn push_quoted(block: &mut Vec<u8>, text: &[u8], quote: u8) -> Result<(), AllocError>
     ensures text { OnOk result (block.new.items ≡ block.old.items ++ quoted quote text.now) }
     ensures kept { StaysInFront block.old.items block.new.items }
 {
@@ -68,7 +68,7 @@ pub(crate) fn push_as_needed(
 /// Appends a text, quoted as the style asks.
 #[tactic(auto, using(crate::proofs::KeptLaws::keeping))]
 #[inline]
-pub fn push_text(
+pub(crate) fn push_text(
     block: &mut Vec<u8>,
     text: &[u8],
     options: &SerializeOptions,
@@ -101,7 +101,7 @@ fn push_quoted_null(block: &mut Vec<u8>, null: &[u8], quote: u8) -> Result<(), A
 /// Appends what stands for a null.
 #[tactic(auto, using(crate::proofs::KeptLaws::keeping))]
 #[inline]
-pub fn push_null(block: &mut Vec<u8>, options: &SerializeOptions) -> Result<(), AllocError>
+pub(crate) fn push_null(block: &mut Vec<u8>, options: &SerializeOptions) -> Result<(), AllocError>
     ensures text { OnOk result (block.new.items ≡ block.old.items ++ written_null (cell_options options.now)) }
     ensures kept { StaysInFront block.old.items block.new.items }
 {

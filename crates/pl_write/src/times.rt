@@ -58,7 +58,7 @@ fn push_nanoseconds(block: &mut Vec<u8>, nanoseconds: u64) -> Result<(), AllocEr
 /// Appends a time of the day, given in nanoseconds, as `HH:MM:SS.` and nine digits.
 #[tactic(auto, using(crate::proofs::KeptLaws::keeping))]
 #[inline]
-pub fn push_time(block: &mut Vec<u8>, nanoseconds: i64) -> Result<(), AllocError>
+pub(crate) fn push_time(block: &mut Vec<u8>, nanoseconds: i64) -> Result<(), AllocError>
     requires { is_within time_range nanoseconds ≡ true }
     ensures text { OnOk result (block.new.items ≡ block.old.items ++ time_text (unsigned_abs nanoseconds)) }
     ensures kept { StaysInFront block.old.items block.new.items }
@@ -189,7 +189,11 @@ fn push_wide_datetime(block: &mut Vec<u8>, unit: TimeUnit, count: i128) -> Resul
 /// or nine digits.
 #[tactic(auto, using(crate::proofs::KeptLaws::keeping))]
 #[inline]
-pub fn push_datetime(block: &mut Vec<u8>, unit: TimeUnit, count: i128) -> Result<(), AllocError>
+pub(crate) fn push_datetime(
+    block: &mut Vec<u8>,
+    unit: TimeUnit,
+    count: i128,
+) -> Result<(), AllocError>
     requires { is_within (datetime_range (units_in_second unit)) count ≡ true }
     ensures text { OnOk result (block.new.items ≡ block.old.items ++ datetime_text unit count) }
     ensures kept { StaysInFront block.old.items block.new.items }

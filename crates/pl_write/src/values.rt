@@ -76,7 +76,7 @@ fn is_quoted(dtype: &DataType, style: QuoteStyle) -> bool
 /// nothing is expected.
 #[tactic(auto, using(crate::proofs::KeptLaws::keeping))]
 #[inline]
-pub fn push_number_cell(
+pub(crate) fn push_number_cell(
     block: &mut Vec<u8>,
     scratch: &mut Vec<u8>,
     dtype: &DataType,
@@ -100,7 +100,7 @@ pub fn push_number_cell(
 /// expected.
 #[tactic(auto, using(crate::proofs::KeptLaws::keeping))]
 #[inline]
-pub fn push_truth_cell(
+pub(crate) fn push_truth_cell(
     block: &mut Vec<u8>,
     scratch: &mut Vec<u8>,
     dtype: &DataType,

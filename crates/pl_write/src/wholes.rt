@@ -68,7 +68,7 @@ fn push_wide(block: &mut Vec<u8>, number: i128) -> Result<(), AllocError>
 /// Appends a whole number of any width, in decimal digits, with a minus below zero.
 #[tactic(auto, using(crate::proofs::KeptLaws::keeping))]
 #[inline]
-pub fn push_whole(block: &mut Vec<u8>, number: i128) -> Result<(), AllocError>
+pub(crate) fn push_whole(block: &mut Vec<u8>, number: i128) -> Result<(), AllocError>
     ensures text { OnOk result (block.new.items ≡ block.old.items ++ signed_decimal number) }
     ensures kept { StaysInFront block.old.items block.new.items }
 {

@@ -8,14 +8,14 @@ ghost use Rattle.pl_frame.specs.Frame.{cell_at, HaveHeight, height_of, names_of}
 ghost use Rattle.pl_frame.specs.Printed.{number_text};
 ghost use Rattle.pl_frame.specs.Text.{written_cell, written_value, written_text, row_line, header_line, head_text, byte_order_mark, text_of_frame};
 ghost use Rattle.pl_write.specs.Options.{cell_options, frame_options};
-ghost use Rattle.pl_write.specs.Ways.{FitsWay, HaveWays};
-ghost use Rattle.pl_write.specs.declared.ways.Way.TheVariants as Way;
+ghost use Rattle.pl_write.specs.CellForms.{FitsForm, HaveForms};
+ghost use Rattle.pl_write.specs.declared.cell_form.CellForm.TheVariants as CellForm;
 ghost use Rattle.pl_write.specs.Writing.{separator_before, HasRow, AppendsPrefix, StaysInFront};
 
+use crate::cell_form::{CellForm, forms_of};
 use crate::options::{CsvWriterOptions, SerializeOptions};
 use crate::texts::{push_as_needed, push_null, push_text};
 use crate::values::{push_number_cell, push_truth_cell};
-use crate::ways::{Way, ways_of};
 use crate::wholes::push_whole;
 use pl_frame::column::{Column, Value};
 use pl_frame::data_type::DataType;
@@ -30,16 +30,16 @@ const BLOCK: usize = 1 << 17;
 fn push_text_in(
     block: &mut Vec<u8>,
     text: &[u8],
-    way: Way,
+    form: CellForm,
     options: &SerializeOptions,
 ) -> Result<(), AllocError>
-    requires { way ≡ Way.AsNeeded → (cell_options options.now).style ≡ 0 }
+    requires { form ≡ CellForm.AsNeeded → (cell_options options.now).style ≡ 0 }
     ensures text { OnOk result (block.new.items ≡ block.old.items ++ written_text (cell_options options.now) text.now) }
     ensures kept { StaysInFront block.old.items block.new.items }
 {
-    match way {
-        Way::AsNeeded => push_as_needed(block, text, options.separator, options.quote_char),
-        Way::Digits | Way::ByCell => push_text(block, text, options),
+    match form {
+        CellForm::AsNeeded => push_as_needed(block, text, options.separator, options.quote_char),
+        CellForm::Digits | CellForm::ByCell => push_text(block, text, options),
     }
 }
 
@@ -50,43 +50,45 @@ fn push_number_in(
     block: &mut Vec<u8>,
     scratch: &mut Vec<u8>,
     dtype: &DataType,
-    way: Way,
+    form: CellForm,
     number: i128,
     options: &SerializeOptions,
 ) -> Result<(), AllocError>
     requires range { is_number_of dtype.now number ≡ true }
-    requires way { FitsWay way (cell_options options.now) dtype.now }
+    requires form { FitsForm form (cell_options options.now) dtype.now }
     ensures text { OnOk result (block.new.items ≡ block.old.items ++ written_value (cell_options options.now) (is_numeric dtype.now) (number_text dtype.now number)) }
     ensures kept { StaysInFront block.old.items block.new.items }
 {
-    match way {
-        Way::Digits => push_whole(block, number),
-        Way::AsNeeded | Way::ByCell => push_number_cell(block, scratch, dtype, number, options),
+    match form {
+        CellForm::Digits => push_whole(block, number),
+        CellForm::AsNeeded | CellForm::ByCell => push_number_cell(
+            block, scratch, dtype, number, options,
+        ),
     }
 }
 
-// Appends the text of a cell, in the way of its column.
+// Appends the text of a cell, in the form of its column.
 #[tactic(auto, using(crate::proofs::KeptLaws::keeping))]
 #[inline]
 pub(crate) fn push_cell(
     block: &mut Vec<u8>,
     scratch: &mut Vec<u8>,
     column: &Column,
-    way: Way,
+    form: CellForm,
     row: usize,
     options: &SerializeOptions,
 ) -> Result<(), AllocError>
     requires row { row < length column.now.values }
-    requires way { FitsWay way (cell_options options.now) column.now.dtype }
+    requires form { FitsForm form (cell_options options.now) column.now.dtype }
     ensures text { OnOk result (block.new.items ≡ block.old.items ++ written_cell (cell_options options.now) column.now.dtype (cell_at column.now row)) }
     ensures kept { StaysInFront block.old.items block.new.items }
 {
     match column.get(row) {
         Value::Null => push_null(block, options),
-        Value::Text(text) => push_text_in(block, text.as_bytes(), way, options),
+        Value::Text(text) => push_text_in(block, text.as_bytes(), form, options),
         Value::Boolean(truth) => push_truth_cell(block, scratch, column.dtype(), truth, options),
         Value::Whole(number) => {
-            push_number_in(block, scratch, column.dtype(), way, number, options)
+            push_number_in(block, scratch, column.dtype(), form, number, options)
         }
     }
 }
@@ -117,17 +119,17 @@ fn push_row(
     block: &mut Vec<u8>,
     scratch: &mut Vec<u8>,
     columns: &[Column],
-    ways: &[Way],
+    forms: &[CellForm],
     row: usize,
     options: &SerializeOptions,
 ) -> Result<(), AllocError>
     requires row { HasRow row columns.now }
-    requires ways { HaveWays (cell_options options.now) columns.now ways.now }
+    requires forms { HaveForms (cell_options options.now) columns.now forms.now }
     ensures { OnOk result (block.new.items ≡ block.old.items ++ row_line (cell_options options.now) columns.now row) }
 {
     for (place, column) in columns.iter().enumerate() {
         push_separator(block, options.separator, place)?;
-        push_cell(block, scratch, column, ways[place], row, options)?;
+        push_cell(block, scratch, column, forms[place], row, options)?;
     }
     push_terminator(block, options)
 }
@@ -209,7 +211,7 @@ pub fn write_frame<Si: Sink>(
     ensures later_wants { Si.wants sink.old ≤ Si.wants sink.new }
     ensures device { IsErrOf result SinkFault.Device → Rose (Si.faults sink.old) (Si.faults sink.new) }
 {
-    let Ok(ways) = ways_of(alloc, columns, &options.serialize_options) else {
+    let Ok(forms) = forms_of(alloc, columns, &options.serialize_options) else {
         return Err(SinkFault::OutOfMemory);
     };
     let mut block = Vec::new(alloc);
@@ -223,7 +225,7 @@ pub fn write_frame<Si: Sink>(
             &mut block,
             &mut scratch,
             columns,
-            &ways,
+            &forms,
             row,
             &options.serialize_options,
         ) {

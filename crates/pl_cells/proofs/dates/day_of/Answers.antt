@@ -1,7 +1,7 @@
 use Rattle.std.proofs.Common.{◌≡◌, pos, ◌∙◌, ap, arith, FitsSigned, w16, w8, w32, w64, unsigned_abs}
 use Rattle.std.proofs.lemmas.Int.{to_z-of_z, to_z_pos}
 use Rattle.jiff_core.proofs.SignedLemmas.{signed_arith}
-use Rattle.pl_cells.proofs.DateLaws.{day_number-at, day-within-at}
+use Rattle.pl_cells.proofs.DateLaws.{number_of_day-at, day-within-at}
 use Rattle.pl_cells.proofs.dates.day_of.Goals as goal
 
 pub returns-in-Ok-clause-value : goal.returns-in-Ok-clause-value
@@ -14,7 +14,7 @@ returns-in-Ok-clause-value c =
     let fits : FitsSigned w32 c.to_unix_epoch_day.result = omega (arith, signed_arith) in
     let wide : FitsSigned w64 c.from.result = omega (arith, signed_arith) in
     let number = to_z-of_z w64 c.from.result wide ∙ c.from.ensures ∙ to_z-of_z w32 c.to_unix_epoch_day.result fits ∙ c.to_unix_epoch_day.ensures.value in
-    day_number-at c.args.year c.args.month c.args.day date.year date.month date.day _ year month day date.month_in date.day_in number
+    number_of_day-at c.args.year c.args.month c.args.day date.year date.month date.day _ year month day date.month_in date.day_in number
 
 pub returns-in-Ok-clause-within : goal.returns-in-Ok-clause-within
 returns-in-Ok-clause-within c =

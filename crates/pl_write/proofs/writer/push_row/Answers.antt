@@ -2,11 +2,11 @@ use Rattle.std.proofs.Common.{◌++◌, ◌∙◌, ap, get_or, sym, subst, arith
 use Rattle.pl_frame.specs.Frame.{ColumnValue, cell_at}
 use Rattle.pl_frame.specs.Text.{written_cell}
 use Rattle.pl_write.specs.Options.{cell_options}
-use Rattle.pl_write.specs.Ways.{FitsWay}
-use Rattle.pl_write.specs.declared.ways.Way.TheVariants as way
+use Rattle.pl_write.specs.CellForms.{FitsForm}
+use Rattle.pl_write.specs.declared.cell_form.CellForm.TheVariants as form
 use Rattle.pl_write.specs.Writing.{separator_before}
 use Rattle.pl_write.proofs.LineLaws.{joined_more}
-use Rattle.pl_write.proofs.WayLaws.{HaveWays-length, HaveWays-at}
+use Rattle.pl_write.proofs.FormLaws.{HaveForms-length, HaveForms-at}
 use Rattle.pl_write.proofs.writer.push_row.Goals as goal
 
 pub loop-place-preserved : goal.loop-place-preserved
@@ -18,13 +18,13 @@ loop-place-preserved c =
     let next = c.in_ok-push_cell.ensures.text ∙ ap (λ l. l ++ f d) c.in_ok-push_separator.ensures ∙ ap (λ column. (now ++ separator_before c.args.options.now.separator i) ++ f column) c.index-columns-place.is in
     joined_more c.args.options.now.separator f c.args.columns.now i d c.args.block.now.items now c.push_cell.new.block.items c.loop-place-test.true c.loop-place.invariant next
 
-pub bounds-ways-place : goal.bounds-ways-place
-bounds-ways-place c = omega (arith, HaveWays-length (cell_options c.args.options.now) c.args.columns.now c.args.ways.now c.requires.ways, c.loop-place-test.true)
+pub bounds-forms-place : goal.bounds-forms-place
+bounds-forms-place c = omega (arith, HaveForms-length (cell_options c.args.options.now) c.args.columns.now c.args.forms.now c.requires.forms, c.loop-place-test.true)
 
-pub push_cell-requires-clause-way : goal.push_cell-requires-clause-way
-push_cell-requires-clause-way c =
+pub push_cell-requires-clause-form : goal.push_cell-requires-clause-form
+push_cell-requires-clause-form c =
     let o = cell_options c.args.options.now in
     let i = c.loop-place.place in
     let column = c.index-columns-place.result in
-    subst (λ (x : ColumnValue). FitsWay (get_or c.args.ways.now i way.Digits) o x.dtype) (sym c.index-columns-place.is)
-    (HaveWays-at o c.args.columns.now c.args.ways.now i column way.Digits c.requires.ways c.loop-place-test.true)
+    subst (λ (x : ColumnValue). FitsForm (get_or c.args.forms.now i form.Digits) o x.dtype) (sym c.index-columns-place.is)
+    (HaveForms-at o c.args.columns.now c.args.forms.now i column form.Digits c.requires.forms c.loop-place-test.true)

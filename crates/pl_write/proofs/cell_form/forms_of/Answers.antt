@@ -1,9 +1,9 @@
 use Rattle.std.proofs.Common.{◌≡◌, ◌+◌, [], ◌∷◌, ◌++◌, take, sym, ap, ◌∙◌, subst}
 use Rattle.std.proofs.lemmas.List.{take_more}
 use Rattle.pl_write.specs.Options.{cell_options}
-use Rattle.pl_write.specs.Ways.{FitsWay}
-use Rattle.pl_write.proofs.WayLaws.{HaveWays-push}
-use Rattle.pl_write.proofs.ways.ways_of.Goals as goal
+use Rattle.pl_write.specs.CellForms.{FitsForm}
+use Rattle.pl_write.proofs.FormLaws.{HaveForms-push}
+use Rattle.pl_write.proofs.cell_form.forms_of.Goals as goal
 
 pub loop-column-preserved : goal.loop-column-preserved
 loop-column-preserved c =
@@ -11,6 +11,6 @@ loop-column-preserved c =
     let columns = c.args.columns.now in
     let i = c.loop-column.column-index in
     let column = c.column-item.result in
-    let fits = subst (FitsWay c.way_of.result o) c.dtype.ensures.dtype c.way_of.ensures.fits in
+    let fits = subst (FitsForm c.form_of.result o) c.dtype.ensures.dtype c.form_of.ensures.fits in
     let more : take (i + 1) columns ≡ take i columns ++ column ∷ [] = take_more columns i column c.loop-column-test.true ∙ ap (λ x. take i columns ++ x ∷ []) (sym c.column-item.is) in
-    rw (c.in_ok-push.ensures.items, more) (HaveWays-push o (take i columns) c.loop-column.ways.items column c.way_of.result c.loop-column.invariant fits)
+    rw (c.in_ok-push.ensures.items, more) (HaveForms-push o (take i columns) c.loop-column.forms.items column c.form_of.result c.loop-column.invariant fits)

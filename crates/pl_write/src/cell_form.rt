@@ -3,8 +3,8 @@ ghost use Rattle.std.specs.Prelude.{◌≡◌, true, IfOk};
 ghost use Rattle.pl_frame.specs.Text.{is_bare};
 ghost use Rattle.pl_frame.specs.Types.{is_whole_number};
 ghost use Rattle.pl_write.specs.Options.{cell_options, style_number};
-ghost use Rattle.pl_write.specs.declared.ways.Way.TheVariants as Way;
-ghost use Rattle.pl_write.specs.Ways.{FitsWay, HaveWays};
+ghost use Rattle.pl_write.specs.declared.cell_form.CellForm.TheVariants as CellForm;
+ghost use Rattle.pl_write.specs.CellForms.{FitsForm, HaveForms};
 
 use crate::options::{QuoteStyle, SerializeOptions};
 use pl_frame::column::Column;
@@ -13,7 +13,7 @@ use std::alloc::{AllocError, Global};
 
 /// How the values of a column are written.
 #[derive(Clone, Copy, Debug, PartialEq, Eq)]
-pub enum Way {
+pub(crate) enum CellForm {
     /// Each number as its decimal digits, without quotes.
     Digits,
     /// Each text quoted only where it must be.
@@ -44,40 +44,40 @@ fn are_numbers_bare(style: QuoteStyle) -> bool
     }
 }
 
-// The way of a column that holds no whole numbers.
-fn way_of_others(dtype: &DataType, options: &SerializeOptions) -> Way
-    ensures { FitsWay result (cell_options options.now) dtype.now }
+// The form of a column that holds no whole numbers.
+fn form_of_others(dtype: &DataType, options: &SerializeOptions) -> CellForm
+    ensures { FitsForm result (cell_options options.now) dtype.now }
 {
     match options.quote_style {
-        QuoteStyle::Necessary => Way::AsNeeded,
-        QuoteStyle::Always | QuoteStyle::NonNumeric | QuoteStyle::Never => Way::ByCell,
+        QuoteStyle::Necessary => CellForm::AsNeeded,
+        QuoteStyle::Always | QuoteStyle::NonNumeric | QuoteStyle::Never => CellForm::ByCell,
     }
 }
 
-/// The way of a column of a type: by digits where it holds whole numbers that stand without quotes.
-#[tactic(auto, using(crate::proofs::WayLaws::digits_fit))]
-pub fn way_of(dtype: &DataType, options: &SerializeOptions) -> Way
-    ensures fits { FitsWay result (cell_options options.now) dtype.now }
-    ensures digits { is_whole_number dtype.now ≡ true → is_bare (style_number options.now.quote_style) true ≡ true → result ≡ Way.Digits }
+/// The form of a column of a type: by digits where it holds whole numbers that stand without quotes.
+#[tactic(auto, using(crate::proofs::FormLaws::digits_fit))]
+pub(crate) fn form_of(dtype: &DataType, options: &SerializeOptions) -> CellForm
+    ensures fits { FitsForm result (cell_options options.now) dtype.now }
+    ensures digits { is_whole_number dtype.now ≡ true → is_bare (style_number options.now.quote_style) true ≡ true → result ≡ CellForm.Digits }
 {
     if is_whole_number(dtype) && are_numbers_bare(options.quote_style) {
-        Way::Digits
+        CellForm::Digits
     } else {
-        way_of_others(dtype, options)
+        form_of_others(dtype, options)
     }
 }
 
-/// The way of each column. Refuses only want of memory.
-pub fn ways_of(
+/// The form of each column. Refuses only want of memory.
+pub(crate) fn forms_of(
     alloc: Global,
     columns: &[Column],
     options: &SerializeOptions,
-) -> Result<Vec<Way>, AllocError>
-    ensures { IfOk result (λ ways. HaveWays (cell_options options.now) columns.now ways.items) }
+) -> Result<Vec<CellForm>, AllocError>
+    ensures { IfOk result (λ forms. HaveForms (cell_options options.now) columns.now forms.items) }
 {
-    let mut ways = Vec::new(alloc);
+    let mut forms = Vec::new(alloc);
     for column in columns {
-        ways.push(way_of(column.dtype(), options))?;
+        forms.push(form_of(column.dtype(), options))?;
     }
-    Ok(ways)
+    Ok(forms)
 }

@@ -4,14 +4,14 @@ use Rattle.pl_frame.specs.Frame.{Scalar}
 use Rattle.pl_frame.specs.declared.data_type.DataType.{DataType}
 
 -- cells of one type, a null being `None`
-pub record Left : Type 0 where
+pub record CellsLeft : Type 0 where
   pub dtype : DataType
   pub cells : List (Option Scalar)
 
 -- the first of them
-abbrev pub next_cell : Left → Option Scalar
+abbrev pub next_cell : CellsLeft → Option Scalar
 next_cell left = unwrap_or (slice_get left.cells 0) None
 
 -- those behind the first
-abbrev pub without_next : Left → Left
+abbrev pub without_next : CellsLeft → CellsLeft
 without_next left = record { dtype = left.dtype; cells = drop 1 left.cells }

@@ -14,7 +14,7 @@ use Rattle.pl_scan.specs.declared.comment.CommentPrefix.{CommentPrefix}
 use Rattle.pl_scan.specs.Items.{items}
 use Rattle.pl_scan.specs.RowCount.{cut_line_ends, is_row, row_count}
 use Rattle.pl_scan.specs.RowStates.{Count, rows_with}
-use Rattle.pl_csv.specs.Reading.{is_compressed}
+use Rattle.pl_frame.specs.Compression.{is_compressed}
 use Rattle.pl_csv.specs.Counting.{CameWhole, IsHeld, HoldsSome, IsCountOf, no_dialect, compressed, counted, IsCountFault}
 
 pub counted-plain : (has_header : Bool) (m : Marks) (comment : Option (List ℕ)) (bytes : List ℕ) → is_compressed bytes ≡ false

@@ -8,7 +8,7 @@ use Rattle.pl_frame.specs.declared.error.PolarsError.TheVariants as error
 use Rattle.pl_frame.specs.declared.error.OpFault.TheVariants as op_fault
 use Rattle.pl_frame.specs.declared.error.ComputeFault.TheVariants as compute_fault
 use Rattle.pl_scan.specs.RowCount.{row_count}
-use Rattle.pl_csv.specs.Reading.{is_compressed}
+use Rattle.pl_frame.specs.Compression.{is_compressed}
 
 -- these are the bytes at a path, where they are told
 abbrev pub IsHeld : Option (List ℕ) → List ℕ → Type 0

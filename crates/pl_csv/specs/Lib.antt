@@ -1,4 +1,3 @@
-pub mod Came
 pub mod Cells
 pub mod Reading
 pub mod Rows

@@ -1,10 +1,11 @@
 -- The reference read: the frame that an input means (docs/grammar.md, docs/types.md).
 use Rattle.std.specs.Prelude.{◌≡◌, ℕ, zero, suc, ◌+◌, ◌<◌, Bool, true, false, not, ◌&&◌, ◌==◌, nat_eq, nat_lt, if◌then◌else◌, List, [], ◌∷◌, length, drop, map, position, Option, None, Some, unwrap_or, is_none, slice_get}
-use Rattle.std.specs.List.{filter_map, list_any, enumerate_from, starts_with}
+use Rattle.std.specs.List.{filter_map, list_any, enumerate_from}
 use Rattle.std.specs.Option.{option_map, option_and_then}
 use Rattle.pl_frame.specs.declared.data_type.DataType.{DataType}
 use Rattle.pl_frame.specs.declared.error.FaultKind.{FaultKind}
 use Rattle.pl_frame.specs.declared.error.FaultKind.TheVariants as fault
+use Rattle.pl_frame.specs.Compression.{is_compressed}
 use Rattle.pl_frame.specs.Dialect.{Marks, IsDialect}
 use Rattle.pl_frame.specs.Frame.{ColumnValue}
 use Rattle.pl_frame.specs.Types.{is_readable}
@@ -108,13 +109,6 @@ abbrev pub frame_of_rows : RowRules → SchemaValue → List Row → List Column
 frame_of_rows rules schema given = map (read_column rules given) (enumerate_from 0 schema)
 
 -- ---- the input
-
--- how the streams of gzip, zlib and zstd begin
-abbrev pub compression_marks : List (List ℕ)
-compression_marks = (31 ∷ 139 ∷ []) ∷ (120 ∷ 1 ∷ []) ∷ (120 ∷ 156 ∷ []) ∷ (120 ∷ 218 ∷ []) ∷ (40 ∷ 181 ∷ 47 ∷ 253 ∷ []) ∷ []
-
-abbrev pub is_compressed : List ℕ → Bool
-is_compressed input = list_any (starts_with nat_eq input) compression_marks
 
 -- what stands from the starting point on, where there are as many items as are to be skipped
 abbrev pub data_of : Settings → List ℕ → Option (List ℕ)

@@ -5,9 +5,9 @@
 ghost use Rattle.std.specs.Prelude.{◌≡◌, ℕ, ◌<◌, ◌≤◌, List, length, take, None, IfOk, OnOk, IsErrOf, IsOkUnless};
 ghost use Rattle.std.specs.Io.{ReadsAtMost};
 ghost use Rattle.std.specs.Io.KnownBytes.{Appends, ReadConsumes, WriteAppends};
-ghost use Rattle.pl_frame.specs.Causes.{Rose, HasCause, TakesSome};
+ghost use Rattle.pl_frame.specs.Causes.{Rose, HasCause, TakesSome, raised};
 ghost use Rattle.pl_frame.specs.Opening.{IsOpened, Closes};
-ghost use Rattle.pl_frame.specs.Outside.{raised, RisesAtErr};
+ghost use Rattle.pl_frame.specs.Outside.{RisesAtErr};
 
 use pl_frame::opener::Opener;
 use pl_frame::sink::{Sink, SinkFault};

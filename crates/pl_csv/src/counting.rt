@@ -5,13 +5,14 @@ ghost use Rattle.pl_frame.specs.Dialect.{marks, IsDialect};
 ghost use Rattle.pl_frame.specs.declared.error.PolarsError.TheVariants as error;
 ghost use Rattle.pl_scan.specs.Comment.{prefix_of};
 ghost use Rattle.pl_scan.specs.RowCount.{row_count};
-ghost use Rattle.pl_csv.specs.Reading.{is_compressed};
+ghost use Rattle.pl_frame.specs.Compression.{is_compressed};
 ghost use Rattle.pl_csv.specs.Counting.{CameWhole, HoldsSome, IsCountOf, no_dialect, compressed, counted, AnswersUnlessFailed, IsCountFault};
 
-use crate::compression::has_compression_mark;
-use crate::read_all::{BLOCK_SIZE, LIMIT, ReadAllFault, read_all};
+use pl_frame::compression::is_compressed;
+use crate::read_all::{LIMIT, ReadAllFault, read_all};
 use pl_frame::error::{ComputeFault, OpFault, PolarsError, PolarsResult};
 use pl_frame::opener::Opener;
+use pl_frame::read_all::BLOCK_SIZE;
 use pl_frame::source::Source;
 use pl_scan::comment::CommentPrefix;
 use pl_scan::dialect::dialect_ok;
@@ -59,7 +60,7 @@ fn count_by_blocks<So: Source>(
         };
         if count == 0 {
             let rows = counter.rows(has_header);
-            return Ok(unless_compressed(has_compression_mark(&front), rows));
+            return Ok(unless_compressed(is_compressed(&front), rows));
         }
         if count > LIMIT - length {
             return Err(ReadAllFault::TooLong);
@@ -87,7 +88,7 @@ fn count_rows_of_bytes(
     if !dialect_ok(separator, quote_char, eol_char, comment_prefix) {
         return Err(PolarsError::InvalidOperation(OpFault::Dialect));
     }
-    if has_compression_mark(bytes) {
+    if is_compressed(bytes) {
         return Err(PolarsError::ComputeError(ComputeFault::Compressed));
     }
     count_rows_from_slice(

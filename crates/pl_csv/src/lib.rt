@@ -2,7 +2,6 @@
 #![tactic(auto)]
 
 pub mod adapters;
-mod compression;
 pub mod counting;
 mod frames;
 mod null_words;

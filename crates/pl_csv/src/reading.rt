@@ -9,7 +9,7 @@ ghost use Rattle.pl_csv.specs.Settings.{marks_of, comment_of, rules_of};
 ghost use Rattle.pl_csv.specs.Rows.{stated_rules, HaveTexts, IsRecordFault};
 ghost use Rattle.pl_csv.specs.Reading.{types_of, data_of, rows, first_faulty, frame_of_rows, first_unreadable, unknown_null, Tells, MayBeRead, IsNameRefusal, IsCause, IsValidRead, IsReadFault};
 
-use crate::compression::has_compression_mark;
+use pl_frame::compression::is_compressed;
 use crate::frames::{empty_buffers, find_unreadable, into_columns};
 use crate::rows::{Cuts, RecordFault, RowOptions, add_rows};
 use crate::settings::Settings;
@@ -101,7 +101,7 @@ fn check_input(input: &[u8], settings: &Settings) -> Option<Cause>
     if !settings.write.serialize_options.quote_char.is_ascii() {
         return Some(Cause::Quote);
     }
-    if has_compression_mark(input) {
+    if is_compressed(input) {
         return Some(Cause::Compressed);
     }
     match find_unreadable(&settings.schema) {

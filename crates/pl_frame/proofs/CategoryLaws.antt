@@ -1,6 +1,6 @@
 -- Laws of codes beside a dictionary.
 use Rattle.std.proofs.Common.{◌≡◌, ℕ, suc, zero, ◌+◌, ◌<◌, Bool, true, false, if◌then◌else◌, List, [], ◌∷◌, ◌++◌, length, map, position, get_or, slice_get, Option, None, Some, is_some, is_none, is_err, Result, Ok, Err, OnOk, OnErr, option_to_list, IsUtf8, refl, sym, ◌∙◌, ap, subst, arith, unwrap_or}
-use Rattle.std.specs.List.{list_any}
+use Rattle.std.specs.List.{AllByRecursion, list_any}
 use Rattle.std.specs.Option.{option_map}
 use Rattle.std.specs.Str.{bytes_eq}
 use Rattle.indexmap.specs.IndexSet.{insert_key}
@@ -11,7 +11,7 @@ use Rattle.std.proofs.lemmas.List.Sums.{fold-append}
 use Rattle.std.proofs.lemmas.Option.{slice_get-map, slice_get-get_or}
 use Rattle.std.proofs.lemmas.Slice.Eq.{bytes_eq-Decides}
 use Rattle.pl_frame.specs.Categories.{with_text, dictionary_of, code_of, decoded, AreCodes, HaveDictionary}
-use Rattle.pl_frame.specs.Optional.{AllUtf8, AreAllUtf8}
+use Rattle.pl_frame.specs.Optional.{AreAllUtf8}
 use Rattle.pl_frame.proofs.ColumnLaws.{position-found}
 use Rattle.pl_frame.proofs.OptionalLaws.{AllUtf8-push, AllUtf8-at}
 use Rattle.pl_frame.proofs.SchemaLaws.{none_passes, position-map}
@@ -177,7 +177,7 @@ null_for d (Some k) = refl
 pub null-of_row : (d : List (List ℕ)) (cs : List (Option ℕ)) (i : ℕ) (c : Option ℕ) → slice_get cs i ≡ Some c → is_none c ≡ is_none (unwrap_or (slice_get (decoded d cs) i) None)
 null-of_row d cs i c at = sym (null_for d c) ∙ sym (ap (λ o. is_none (unwrap_or o None)) (decoded-at d cs i c at))
 
-pub decoded-utf8 : (d : List (List ℕ)) (cs : List (Option ℕ)) → AreCodes d cs → AllUtf8 d → AreAllUtf8 (decoded d cs)
+pub decoded-utf8 : (d : List (List ℕ)) (cs : List (Option ℕ)) → AreCodes d cs → AllByRecursion IsUtf8 d → AreAllUtf8 (decoded d cs)
 decoded-utf8 d [] are u = tt
 decoded-utf8 d (None ∷ cs) are u = (tt, decoded-utf8 d cs (head_same _ _ _ _ are).1 u)
 decoded-utf8 d (Some k ∷ cs) are u =

@@ -1,6 +1,6 @@
 -- Laws of cells: which are values of a type, and what stands in a row.
 use Rattle.std.proofs.Common.{◌≡◌, ℕ, ℤ, suc, zero, ◌<◌, Bool, true, false, not, ◌&&◌, List, [], ◌∷◌, length, map, replicate, position, get_or, slice_get, Option, None, Some, IfSome, is_none, if◌then◌else◌, IsUtf8, refl, sym, ◌∙◌, ap, arith, unwrap_or}
-use Rattle.std.specs.List.{list_any}
+use Rattle.std.specs.List.{AllByRecursion, list_any}
 use Rattle.std.specs.Option.{option_map, option_map_or}
 use Rattle.std.specs.Str.{bytes_eq, is_utf8}
 use Rattle.std.proofs.lemmas.List.Folds.{list_any_at}
@@ -10,7 +10,7 @@ use Rattle.pl_frame.specs.declared.data_type.DataType.TheVariants as dtype
 use Rattle.pl_frame.specs.Categories.{code_of, dictionary_of}
 use Rattle.pl_frame.specs.Columns.{dictionary, categories_of, truth_cells, number_cells, text_cells, text_in, is_number, is_coded, is_enum, is_text_of, misfits, first_misfit, HoldsType}
 use Rattle.pl_frame.specs.Frame.{Scalar, Truth, Number, Letters}
-use Rattle.pl_frame.specs.Optional.{AllUtf8, AreAllUtf8, flagged}
+use Rattle.pl_frame.specs.Optional.{AreAllUtf8, flagged}
 use Rattle.pl_frame.specs.Types.{Range, range_of, signed_range, is_within, is_outside, is_narrow}
 use Rattle.pl_frame.proofs.CategoryLaws.{known}
 use Rattle.pl_frame.proofs.ColumnLaws.{position-nowhere, true_from_not}
@@ -151,7 +151,7 @@ first_misfit-outside type range xs e = first_of Number type xs ∙ (λ j. positi
 -- ---- texts
 
 -- the texts among flagged parts are UTF-8
-pub utf8-flagged : (texts : List (List ℕ)) (flags : List Bool) → AllUtf8 texts → AreAllUtf8 (flagged texts flags)
+pub utf8-flagged : (texts : List (List ℕ)) (flags : List Bool) → AllByRecursion IsUtf8 texts → AreAllUtf8 (flagged texts flags)
 utf8-flagged [] flags u = tt
 utf8-flagged (t ∷ ts) [] u = tt
 utf8-flagged (t ∷ ts) (true ∷ fs) u = (u.0, utf8-flagged ts fs u.1)

@@ -1,13 +1,13 @@
 -- Laws of texts and of codes that are cut back to their first places.
-use Rattle.std.proofs.Common.{◌≡◌, ℕ, suc, zero, ◌+◌, ◌-◌, ◌<◌, ◌≤◌, Bool, true, false, if◌then◌else◌, List, [], ◌∷◌, ◌++◌, length, take, drop, map, position, get_or, slice_get, Option, None, Some, refl, sym, ◌∙◌, ap, subst, arith, append_assoc, append-nil}
-use Rattle.std.specs.List.{fold, list_any}
+use Rattle.std.proofs.Common.{IsUtf8, ◌≡◌, ℕ, suc, zero, ◌+◌, ◌-◌, ◌<◌, ◌≤◌, Bool, true, false, if◌then◌else◌, List, [], ◌∷◌, ◌++◌, length, take, drop, map, position, get_or, slice_get, Option, None, Some, refl, sym, ◌∙◌, ap, subst, arith, append_assoc, append-nil}
+use Rattle.std.specs.List.{AllByRecursion, fold, list_any}
 use Rattle.std.specs.Str.{bytes_eq}
 use Rattle.std.proofs.lemmas.List.{length-append, length-take-le, take-append-drop, take-map, take_at, take_all, take-take, drop-take, take_more}
 use Rattle.std.proofs.lemmas.List.Quantifiers.{position-Some}
 use Rattle.std.proofs.lemmas.List.Sums.{fold-append}
 use Rattle.std.proofs.lemmas.Option.{slice_get_within, get_or_from_slice_get}
 use Rattle.pl_frame.specs.Categories.{with_text, dictionary_of, code_of, decoded, HaveDictionary}
-use Rattle.pl_frame.specs.Optional.{flagged, parts_between, RiseTo, AllUtf8, AreTexts}
+use Rattle.pl_frame.specs.Optional.{flagged, parts_between, RiseTo, AreTexts}
 use Rattle.pl_frame.proofs.CategoryLaws.{text_for, known, text_at_place, place-more, place-new, dictionary-push, code-at, decoded-at, length-decoded, some_same}
 use Rattle.pl_frame.proofs.OptionalLaws.{RiseTo-at, length-flagged, length-parts_between, length-take-same, flagged-take}
 use Rattle.pl_frame.proofs.SchemaLaws.{none_passes}
@@ -39,7 +39,7 @@ parts_between-take from (suc n) [] bytes last h l = absurd (omega arith)
 parts_between-take from (suc n) (e ∷ es) bytes last h l =
     (λ j. part-take from e (get_or (e ∷ es) n 0) bytes h.0 (RiseTo-begin e es last n h.1 (omega arith)) j ∷ parts_between-take e n es bytes last h.1 (omega arith) j)
 
-pub AllUtf8-take : (n : ℕ) (texts : List (List ℕ)) → AllUtf8 texts → AllUtf8 (take n texts)
+pub AllUtf8-take : (n : ℕ) (texts : List (List ℕ)) → AllByRecursion IsUtf8 texts → AllByRecursion IsUtf8 (take n texts)
 AllUtf8-take zero texts h = tt
 AllUtf8-take (suc n) [] h = tt
 AllUtf8-take (suc n) (t ∷ ts) h = (h.0, AllUtf8-take n ts h.1)

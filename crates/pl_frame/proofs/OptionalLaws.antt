@@ -1,10 +1,11 @@
 -- Laws of values with flags beside them, and of texts in one buffer with their ends.
 use Rattle.std.proofs.Common.{◌≡◌, ℕ, suc, zero, ◌+◌, ◌-◌, ◌<◌, ◌≤◌, Bool, true, false, not, cond, if◌then◌else◌, List, [], ◌∷◌, ◌++◌, length, take, drop, get_or, slice_get, Option, None, Some, is_none, IsUtf8, count_by, refl, sym, ◌∙◌, ap, subst, arith}
+use Rattle.std.specs.List.{AllByRecursion}
 use Rattle.std.proofs.lemmas.List.{length-append, length-drop, append-nil, take-append-le, drop-append-le, drop_at, take_all, get_or_default}
 use Rattle.std.proofs.lemmas.List.Sums.{sum_by-cons}
 use Rattle.std.proofs.lemmas.Option.{get_or_from_slice_get}
 use Rattle.std.proofs.lemmas.Str.{IsUtf8-nil}
-use Rattle.pl_frame.specs.Optional.{flagged, parts_between, RiseTo, AllUtf8, AreTexts}
+use Rattle.pl_frame.specs.Optional.{flagged, parts_between, RiseTo, AreTexts}
 
 pub length-flagged : {X : Type 0} (xs : List X) (flags : List Bool) → length xs ≡ length flags → length (flagged xs flags) ≡ length flags
 length-flagged [] [] h = refl
@@ -99,11 +100,11 @@ RiseTo-at from [] last i h l = absurd (omega arith)
 RiseTo-at from (e ∷ es) last zero h l = (h.0, RiseTo-le e es last h.1)
 RiseTo-at from (e ∷ es) last (suc i) h l = RiseTo-at e es last i h.1 (omega arith)
 
-pub AllUtf8-push : (texts : List (List ℕ)) (text : List ℕ) → AllUtf8 texts → IsUtf8 text → AllUtf8 (texts ++ text ∷ [])
+pub AllUtf8-push : (texts : List (List ℕ)) (text : List ℕ) → AllByRecursion IsUtf8 texts → IsUtf8 text → AllByRecursion IsUtf8 (texts ++ text ∷ [])
 AllUtf8-push [] text h u = (u, tt)
 AllUtf8-push (t ∷ ts) text h u = (h.0, AllUtf8-push ts text h.1 u)
 
-pub AllUtf8-at : (texts : List (List ℕ)) (i : ℕ) (text : List ℕ) → AllUtf8 texts → slice_get texts i ≡ Some text → IsUtf8 text
+pub AllUtf8-at : (texts : List (List ℕ)) (i : ℕ) (text : List ℕ) → AllByRecursion IsUtf8 texts → slice_get texts i ≡ Some text → IsUtf8 text
 AllUtf8-at [] i text h e = absurd (cc)
 AllUtf8-at (t ∷ ts) zero text h e = let same : t ≡ text = cc in subst IsUtf8 same h.0
 AllUtf8-at (t ∷ ts) (suc i) text h e = AllUtf8-at ts i text h.1 e
@@ -117,7 +118,7 @@ parts_between-push_nothing from ends bytes h =
     subst (λ all. parts_between from (ends ++ length all ∷ []) all ≡ parts_between from ends bytes ++ [] ∷ []) (append-nil bytes)
     (parts_between-push from ends bytes [] h)
 
-pub AllUtf8-push_nothing : (texts : List (List ℕ)) → AllUtf8 texts → AllUtf8 (texts ++ [] ∷ [])
+pub AllUtf8-push_nothing : (texts : List (List ℕ)) → AllByRecursion IsUtf8 texts → AllByRecursion IsUtf8 (texts ++ [] ∷ [])
 AllUtf8-push_nothing texts h = AllUtf8-push texts [] h IsUtf8-nil
 
 -- the part at a place, by its begin and its end

@@ -1,9 +1,8 @@
 -- Texts as codes beside a dictionary (docs/types.md, "Columns and frames").
-use Rattle.std.specs.Prelude.{◌≡◌, ℕ, if◌then◌else◌, List, [], ◌∷◌, ◌++◌, map, position, slice_index_or, Option, None, Some}
-use Rattle.std.specs.List.{list_any, fold}
+use Rattle.std.specs.Prelude.{IsUtf8, ◌≡◌, ℕ, if◌then◌else◌, List, [], ◌∷◌, ◌++◌, map, position, slice_index_or, Option, None, Some}
+use Rattle.std.specs.List.{AllByRecursion, list_any, fold}
 use Rattle.std.specs.Option.{option_map, option_and_then}
 use Rattle.std.specs.Str.{bytes_eq}
-use Rattle.pl_frame.specs.Optional.{AllUtf8}
 
 -- the texts, and one more behind them if it is none of them; a null adds nothing
 abbrev pub with_text : List (List ℕ) → Option (List ℕ) → List (List ℕ)
@@ -30,4 +29,4 @@ AreCodes dictionary codes = map (code_of dictionary) (decoded dictionary codes) 
 pub record HaveDictionary (dictionary : List (List ℕ)) (codes : List (Option ℕ)) : Type 0 where
   pub codes_are : AreCodes dictionary codes
   pub whole : dictionary_of (decoded dictionary codes) ≡ dictionary
-  pub utf8 : AllUtf8 dictionary
+  pub utf8 : AllByRecursion IsUtf8 dictionary

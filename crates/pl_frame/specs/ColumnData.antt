@@ -7,6 +7,7 @@ use Rattle.pl_frame.specs.Categories.{AreCodes, decoded}
 use Rattle.pl_frame.specs.Columns.{truth_cells, number_cells, text_cells, is_coded, is_enum, categories_of, HoldsType}
 use Rattle.pl_frame.specs.Frame.{Scalar}
 
+-- the cells of a column of a type whose values are kept in this way
 abbrev pub cells : DataType → Data → List (Option Scalar)
 cells type (kept.Boolean truths) = truth_cells truths
 cells type (kept.Narrow numbers) = number_cells numbers

@@ -22,18 +22,21 @@ scalar_of (value.Boolean b) = Some (Truth b)
 scalar_of (value.Whole n) = Some (Number n)
 scalar_of (value.Text text) = Some (Letters text.now)
 
--- the cells of a column of truth values, of one of numbers, and of one of texts
+-- the cells of a column of truth values
 abbrev pub truth_cells : List (Option Bool) → List (Option Scalar)
 truth_cells truths = map (option_map Truth) truths
 
+-- the cells of a column of numbers
 abbrev pub number_cells : List (Option ℤ) → List (Option Scalar)
 number_cells numbers = map (option_map Number) numbers
 
+-- the cells of a column of texts
 abbrev pub text_cells : List (Option (List ℕ)) → List (Option Scalar)
 text_cells texts = map (option_map Letters) texts
 
 -- ---- which values a type holds
 
+-- truth values
 abbrev pub is_boolean : DataType → Bool
 is_boolean dtype.Boolean = true
 is_boolean _ = false
@@ -65,10 +68,14 @@ is_text_of dtype.Categorical text = true
 is_text_of (dtype.Enum (Some categories)) text = list_any (bytes_eq text) categories
 is_text_of _ text = false
 
--- a value of the type: a truth value, a number in its range, or a text of it, which is UTF-8
+-- a number of the type: one in its range, where it holds numbers
+abbrev pub is_number_of : DataType → ℤ → Bool
+is_number_of type n = option_map_or (λ range. is_within range n) (range_of type) false
+
+-- a value of the type: a truth value, a number of it, or a text of it, which is UTF-8
 abbrev pub is_value_of : DataType → Scalar → Bool
 is_value_of type (Truth b) = is_boolean type
-is_value_of type (Number n) = option_map_or (λ range. is_within range n) (range_of type) false
+is_value_of type (Number n) = is_number_of type n
 is_value_of type (Letters text) = is_utf8 text && is_text_of type text
 
 -- a value that is none of the type; a null is of each type

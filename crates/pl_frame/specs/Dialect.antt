@@ -8,6 +8,7 @@ pub record Marks : Type 0 where
   pub quote : Option ℕ
   pub line_end : ℕ
 
+-- the marks of these three
 abbrev pub marks : ℕ → Option ℕ → ℕ → Marks
 marks separator quote line_end = record { separator = separator; quote = quote; line_end = line_end }
 
@@ -19,10 +20,6 @@ AreDistinct m = (m.separator ≢ m.line_end) × IfSome m.quote (λ q. (q ≢ m.s
 abbrev pub IsMark : ℕ → Type 0
 IsMark x = (x < 128) × (x ≢ 13)
 
--- a quote is a mark, and differs from the separator and the line end
-abbrev pub IsQuote : ℕ → ℕ → Option ℕ → Type 0
-IsQuote separator line_end quote = IfSome quote (λ q. IsMark q × (q ≢ separator) × (q ≢ line_end))
-
 -- a comment prefix has bytes, but not the line end
 abbrev pub IsCommentPrefix : ℕ → Option (List ℕ) → Type 0
 IsCommentPrefix e comment = IfSome comment (λ prefix. (0 < length prefix) × (list_all (λ x. not (x == e)) prefix ≡ true))
@@ -32,6 +29,6 @@ IsCommentPrefix e comment = IfSome comment (λ prefix. (0 < length prefix) × (l
 pub record IsDialect (m : Marks) (comment : Option (List ℕ)) : Type 0 where
   pub separator : IsMark m.separator
   pub line_end : m.line_end < 128
-  pub apart : m.separator ≢ m.line_end
-  pub quote : IsQuote m.separator m.line_end m.quote
+  pub quote : IfSome m.quote IsMark
+  pub distinct : AreDistinct m
   pub prefix : IsCommentPrefix m.line_end comment

@@ -1,6 +1,6 @@
 -- When schemas, columns and frames are equal (docs/types.md, "Columns and frames").
-use Rattle.std.specs.Prelude.{Bool, false, ◌&&◌, Option}
-use Rattle.std.specs.Bool.{beq}
+use Rattle.std.specs.Prelude.{◌≡◌, Bool, false, ◌&&◌, Option}
+use Rattle.std.specs.Bool.{beq, Decides}
 use Rattle.std.specs.Cmp.Lexicographic.{pointwise}
 use Rattle.std.specs.Option.{option_eq}
 use Rattle.std.specs.Ordering.{int_eq}
@@ -13,6 +13,10 @@ use Rattle.pl_frame.specs.Schema.{Entry}
 -- the same type, with the same categories, unit, precision and scale: what `==` of types answers
 abbrev pub types_equal : DataType → DataType → Bool
 types_equal = types.ghosts.eq
+
+-- it tells whether two types are one
+abbrev pub TypesAreTold : Type 0
+TypesAreTold = (a b : DataType) → Decides (types_equal a b) (a ≡ b)
 
 -- the same name and the same type
 abbrev pub entries_equal : Entry → Entry → Bool

@@ -28,6 +28,7 @@ height_of (column ∷ columns) = length column.values
 abbrev pub HaveHeight : ℕ → List ColumnValue → Type 0
 HaveHeight n columns = AllByRecursion (λ column. length column.values ≡ n) columns
 
+-- the names of columns in order
 abbrev pub names_of : List ColumnValue → List (List ℕ)
 names_of columns = map (λ column. column.name) columns
 

@@ -1,8 +1,10 @@
+pub mod Came
 pub mod Casts
 pub mod Categories
 pub mod Causes
 pub mod ColumnData
 pub mod Columns
+pub mod Compression
 pub mod Dialect
 pub mod Equal
 pub mod EqualLaws

@@ -18,16 +18,11 @@ abbrev pub RiseTo : ℕ → List ℕ → ℕ → Type 0
 RiseTo from [] last = from ≡ last
 RiseTo from (end ∷ ends) last = (from ≤ end) × RiseTo end ends last
 
--- every text is UTF-8
-abbrev pub AllUtf8 : List (List ℕ) → Type 0
-AllUtf8 [] = Unit {0}
-AllUtf8 (text ∷ texts) = IsUtf8 text × AllUtf8 texts
-
 -- a buffer of texts with their ends, and a flag for each text
 pub record AreTexts (bytes ends : List ℕ) (flags : List Bool) : Type 0 where
   pub one_length : length ends ≡ length flags
   pub rising : RiseTo 0 ends (length bytes)
-  pub utf8 : AllUtf8 (parts_between 0 ends bytes)
+  pub utf8 : AllByRecursion IsUtf8 (parts_between 0 ends bytes)
 
 -- every text among values of which some are missing is UTF-8
 abbrev pub AreAllUtf8 : List (Option (List ℕ)) → Type 0

@@ -1,9 +1,6 @@
 -- What contracts see of the sources and sinks in memory.
-use Rattle.std.specs.Prelude.{◌≡◌, ℕ, ◌+◌, ◌-◌, ◌^◌, min, List, drop, Option, Some, Result, OnOk, OnErr, IsErrOf}
-
--- a count after one more, which stays at the end of its type
-abbrev pub raised : ℕ → ℕ
-raised count = min (count + 1) (2 ^ 64 - 1)
+use Rattle.std.specs.Prelude.{◌≡◌, ℕ, List, drop, Option, Some, Result, OnOk, OnErr, IsErrOf}
+use Rattle.pl_frame.specs.Causes.{raised}
 
 -- all bytes of a source, and how many of them were read
 pub record Reading : Type 0 where

@@ -18,11 +18,13 @@ padded width n = replicate (width - length (decimal n)) 48 ++ decimal n
 
 -- ---- dates
 
+-- a year, a month from 1 and a day from 1
 pub record CivilDate : Type 0 where
   pub year : ℕ
   pub month : ℕ
   pub day : ℕ
 
+-- the date of these three
 abbrev pub civil : ℕ → ℕ → ℕ → CivilDate
 civil year month day = record { year = year; month = month; day = day }
 
@@ -30,9 +32,11 @@ civil year month day = record { year = year; month = month; day = day }
 abbrev pub day_number : CivilDate → ℤ
 day_number date = days_from_civil (pos date.year) date.month date.day
 
+-- the dates of a month in order
 abbrev pub dates_of_month : ℕ → ℕ → List CivilDate
 dates_of_month year month = map (civil year month) (range_with_len 1 (days_in_month (pos year) month))
 
+-- the dates of a year in order
 abbrev pub dates_of_year : ℕ → List CivilDate
 dates_of_year year = flat_map (dates_of_month year) (range_with_len 1 12)
 
@@ -48,6 +52,7 @@ date_of day = find (λ date. int_eq (day_number date) day) civil_dates
 abbrev pub civil_text : CivilDate → List ℕ
 civil_text date = padded 4 date.year ++ 45 ∷ (padded 2 date.month ++ 45 ∷ padded 2 date.day)
 
+-- the date with this day number; of no date the empty text
 abbrev pub date_text : ℤ → List ℕ
 date_text day = elim (date_of day) [ None ↦ [] | Some date ↦ civil_text date ]
 
@@ -75,6 +80,7 @@ second_text second = date_text (int_div_euclid second (pos 86400)) ++ 84 ∷ clo
 abbrev pub count_text : ℕ → ℕ → ℤ → List ℕ
 count_text units places n = second_text (int_div_euclid n (pos units)) ++ 46 ∷ padded places (unsigned_abs (int_rem_euclid n (pos units)))
 
+-- a datetime of so many of its unit
 abbrev pub datetime_text : TimeUnit → ℤ → List ℕ
 datetime_text unit n = count_text (units_in_second unit) (places_of unit) n
 
@@ -90,6 +96,7 @@ decimal_text scale n = (if is_negative n then 45 ∷ [] else []) ++ point_text s
 
 -- ---- values
 
+-- a number of a type
 abbrev pub number_text : DataType → ℤ → List ℕ
 number_text dtype.Date n = date_text n
 number_text dtype.Time n = time_text (unsigned_abs n)

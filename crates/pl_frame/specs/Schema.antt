@@ -8,6 +8,7 @@ use Rattle.pl_frame.specs.declared.data_type.DataType.{DataType}
 abbrev pub Entry : Type 0
 Entry = List ℕ × DataType
 
+-- the names in order
 abbrev pub names_in : List Entry → List (List ℕ)
 names_in entries = map (λ entry. entry.0) entries
 

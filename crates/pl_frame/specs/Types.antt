@@ -45,6 +45,11 @@ is_whole_number dtype.UInt32 = true
 is_whole_number dtype.UInt64 = true
 is_whole_number _ = false
 
+-- whole numbers and decimals
+abbrev pub is_numeric : DataType → Bool
+is_numeric (dtype.Decimal precision scale) = true
+is_numeric type = is_whole_number type
+
 -- texts
 abbrev pub is_text : DataType → Bool
 is_text dtype.String = true
@@ -59,13 +64,15 @@ pub record Range : Type 0 where
   pub low : ℤ
   pub high : ℤ
 
+-- the numbers from one to another, both included
 abbrev pub from_to : ℤ → ℤ → Range
 from_to low high = record { low = low; high = high }
 
--- the numbers of so many bits with a sign, and without one
+-- the numbers of so many bits with a sign
 abbrev pub signed_range : ℕ → Range
 signed_range bits = from_to (neg_ℤ (pos (2 ^ (bits - 1)))) (pos (2 ^ (bits - 1) - 1))
 
+-- the numbers of so many bits without a sign
 abbrev pub unsigned_range : ℕ → Range
 unsigned_range bits = from_to (pos 0) (pos (2 ^ bits - 1))
 

@@ -11,9 +11,9 @@ ghost use Rattle.pl_frame.specs.Types.{from_to, is_narrow, is_whole_number};
 
 use crate::codes::{Codes, CodesBuilder};
 use crate::column::{Column, Value};
+use crate::constructors::push_narrow;
 use crate::data_type::{Categories, DataType};
 use crate::error::{PolarsError, PolarsResult};
-use crate::made::push_narrow;
 use crate::name::PlSmallStr;
 use crate::numbers::Numbers;
 use crate::places::Places;
@@ -38,9 +38,9 @@ fn is_other_cast(from: &DataType, to: &DataType) -> bool
     if is_whole_number(from) {
         is_whole_number(to)
     } else if is_string(from) {
-        is_coded(to)
+        to.is_coded()
     } else {
-        is_coded(from) && is_string(to)
+        from.is_coded() && is_string(to)
     }
 }
 
@@ -65,12 +65,6 @@ fn is_string(dtype: &DataType) -> bool
     ensures { result ≡ is_string dtype.now }
 {
     matches!(dtype, DataType::String)
-}
-
-fn is_coded(dtype: &DataType) -> bool
-    ensures { result ≡ is_coded dtype.now }
-{
-    matches!(dtype, DataType::Categorical | DataType::Enum(_))
 }
 
 impl Column {
@@ -138,9 +132,7 @@ fn cast_to_whole(alloc: Global, column: &Column, to: &DataType) -> PolarsResult<
 {
     let name = PlSmallStr::from_str(alloc, column.name())?;
     let dtype = to.try_clone()?;
-    let Some(range) = to.range() else {
-        return Err(PolarsError::OutOfMemory);
-    };
+    let range = to.number_range();
     if range.is_narrow() {
         let Ok(numbers) = narrow_within(alloc, column, &range) else {
             return Err(PolarsError::OutOfMemory);

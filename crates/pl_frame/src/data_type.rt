@@ -4,7 +4,8 @@ ghost use Rattle.pl_frame.specs.declared.error.PolarsError.TheVariants as error;
 ghost use Rattle.std.specs.Cmp.{partial_equiv_from_equiv};
 ghost use Rattle.std.specs.Cmp.Lexicographic.{lists_equiv, lists_per, nat_list_eq_equiv, pointwise};
 ghost use Rattle.std.specs.Str.{bytes_eq};
-ghost use Rattle.pl_frame.specs.Types.{is_readable, is_readable_decimal, is_readable_enum};
+ghost use Rattle.pl_frame.specs.Columns.{is_coded};
+ghost use Rattle.pl_frame.specs.Types.{is_readable, is_readable_decimal, is_readable_enum, is_text};
 
 use crate::error::{PolarsError, PolarsResult};
 use crate::name::{PlSmallStr, find_repeat};
@@ -73,6 +74,13 @@ impl Categories {
     {
         let texts = copy_texts(*self.texts.allocator(), &self.texts)?;
         Ok(Categories { texts })
+    }
+
+    /// The texts in order, which it gives back without taking memory.
+    pub fn into_texts(self) -> Vec<PlSmallStr>
+        ensures { result.items ≡ self }
+    {
+        self.texts
     }
 
     /// The texts in order, without taking memory.
@@ -153,6 +161,23 @@ impl DataType {
             DataType::Enum(categories) => is_readable_enum(categories),
             _ => true,
         }
+    }
+
+    /// Whether its values are texts, without taking memory.
+    pub fn is_text(&self) -> bool
+        ensures { result ≡ is_text self.now }
+    {
+        matches!(
+            self,
+            DataType::String | DataType::Categorical | DataType::Enum(_)
+        )
+    }
+
+    /// Whether its values are texts that are kept as codes, without taking memory.
+    pub fn is_coded(&self) -> bool
+        ensures { result ≡ is_coded self.now }
+    {
+        matches!(self, DataType::Categorical | DataType::Enum(_))
     }
 }
 

@@ -92,3 +92,70 @@ pub enum PolarsError {
 
 /// What a call answers that may be refused.
 pub type PolarsResult<T> = Result<T, PolarsError>;
+
+#[cfg(test)]
+mod tests {
+    use super::*;
+    use std::alloc::Global;
+    use std::process::Abort;
+    use std::test::Fail;
+
+    // What an error prints.
+    fn shows(rt: &impl Abort, alloc: Global, error: PolarsError, text: &str) -> Result<(), Fail> {
+        let shown = format!(in alloc; "{error}")?;
+        assert_eq!(rt; shown.as_str(), text);
+        Ok(())
+    }
+
+    #[test]
+    fn tells_each_error(rt: HostRuntime) -> Result<(), Fail> {
+        let alloc = rt.alloc();
+        let overrides = OpFault::Overrides {
+            given: 3,
+            columns: 2,
+        };
+        let record = ComputeFault::Record {
+            row: 4,
+            column: 1,
+            kind: FaultKind::Escape,
+        };
+        let twice = PolarsError::Duplicate {
+            name: PlSmallStr::from_str(alloc, "c")?,
+            at: NamePlace::Schema,
+        };
+        let absent = PolarsError::ColumnNotFound(PlSmallStr::from_str(alloc, "é")?);
+        let outside = PolarsError::OutOfBounds {
+            index: 7,
+            length: 2,
+        };
+        shows(
+            &rt,
+            alloc,
+            PolarsError::InvalidOperation(overrides),
+            "invalid operation: Overrides { given: 3, columns: 2 }",
+        )?;
+        shows(
+            &rt,
+            alloc,
+            PolarsError::ComputeError(record),
+            "cannot compute: Record { row: 4, column: 1, kind: Escape }",
+        )?;
+        shows(
+            &rt,
+            alloc,
+            PolarsError::NoData(NoDataFault::Skip),
+            "no data: Skip",
+        )?;
+        shows(&rt, alloc, absent, "column not found: é")?;
+        shows(&rt, alloc, outside, "index 7 is out of bounds for length 2")?;
+        shows(&rt, alloc, twice, "the name c stands twice: Schema")?;
+        shows(
+            &rt,
+            alloc,
+            PolarsError::EmptyProjection,
+            "the projection is empty",
+        )?;
+        shows(&rt, alloc, PolarsError::IO, "input or output failed")?;
+        shows(&rt, alloc, PolarsError::OutOfMemory, "out of memory")
+    }
+}

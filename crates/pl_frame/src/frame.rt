@@ -1,5 +1,5 @@
 //! Frames: columns of one height with distinct names.
-ghost use Rattle.std.specs.Prelude.{◌≡◌, ◌<◌, length, IfSome, IfOk, OnOk, OnErr, IfErr, true, IsOkUnless, None, Some, slice_get, slice_set, slice_index_or, []};
+ghost use Rattle.std.specs.Prelude.{◌≡◌, ◌<◌, ◌↔◌, IsTrue, length, IfSome, IfOk, OnOk, OnErr, IfErr, true, IsOkUnless, None, Some, slice_get, slice_set, slice_index_or, []};
 ghost use Rattle.std.specs.Bool.{Decides};
 ghost use Rattle.std.specs.Cmp.{partial_equiv_from_equiv};
 ghost use Rattle.std.specs.Cmp.Lexicographic.{lists_equiv, lists_per, pointwise};
@@ -54,6 +54,16 @@ impl DataFrame {
         match find_repeat(&columns) {
             None => Ok(DataFrame { columns }),
             Some(place) => Err(duplicate(alloc, columns[place].name())),
+        }
+    }
+
+    /// Whether columns have one height, without taking memory.
+    pub fn have_one_height(columns: &[Column]) -> bool
+        ensures { IsTrue result ↔ HaveHeight (height_of columns.now) columns.now }
+    {
+        match columns {
+            [] => true,
+            [first, ..] => have_height(first.len(), columns),
         }
     }
 
@@ -151,6 +161,20 @@ impl Eq for DataFrame {
     ghost use Rattle.pl_frame.specs.EqualLaws.{columns_equiv};
 
     ghost laws = { lists_equiv columns_equiv };
+}
+
+// Whether each column has this many rows.
+fn have_height(height: usize, columns: &[Column]) -> bool
+    ensures { IsTrue result ↔ HaveHeight height columns.now }
+{
+    let mut rest = columns;
+    while let [first, behind @ ..] = rest {
+        if first.len() != height {
+            return false;
+        }
+        rest = behind;
+    }
+    true
 }
 
 // Equal columns.

@@ -5,16 +5,21 @@
 pub mod cast;
 pub mod codes;
 pub mod column;
+#[cfg(test)]
+mod column_kinds;
+pub mod compression;
+pub mod constructors;
 pub mod data_type;
 pub mod equal;
 pub mod error;
 pub mod frame;
-pub mod made;
+pub mod laws;
 pub mod name;
 pub mod numbers;
 pub mod opener;
 pub mod places;
 pub mod range;
+pub mod read_all;
 pub mod schema;
 pub mod sink;
 pub mod source;

@@ -1,5 +1,5 @@
 //! Names of columns.
-ghost use Rattle.std.specs.Prelude.{◌≡◌, ◌<◌, ℕ, List, length, map, IfOk, IfSome, IsOkUnless};
+ghost use Rattle.std.specs.Prelude.{◌≡◌, ◌<◌, ℕ, List, length, map, Some, IfOk, IfSome, IsOkUnless};
 ghost use Rattle.std.specs.Cmp.{partial_equiv_from_equiv};
 ghost use Rattle.std.specs.Cmp.Lexicographic.{nat_list_eq_equiv};
 ghost use Rattle.std.specs.List.{list_any};
@@ -108,7 +108,10 @@ fn has_name<T: Named>(items: &[T], name: &str) -> bool
     items.iter().any(|item| item.name_text() == name)
 }
 
+// The text itself.
 impl fmt::Display for PlSmallStr {
+    ghost output = { λ name. Some name };
+
     fn fmt<W: fmt::Write>(&self, f: &mut fmt::Formatter<W>) -> fmt::Result {
         let text = self.text.as_str();
         write!(f, "{text}")

@@ -1,7 +1,7 @@
 //! What opens paths as sources.
 ghost use Rattle.std.specs.Prelude.{◌≡◌, ℕ, ◌<◌, ◌↔◌, List, Option, Some, None, IsErr, IfOk, MatchOption};
-ghost use Rattle.pl_frame.specs.Causes.{HasCause};
-ghost use Rattle.pl_frame.specs.Outside.{left_of, raised, RisesAtErr};
+ghost use Rattle.pl_frame.specs.Causes.{HasCause, raised};
+ghost use Rattle.pl_frame.specs.Outside.{left_of, RisesAtErr};
 ghost use Rattle.pl_frame.specs.Opening.{IsOpened, Closes, entries_of, held};
 
 use crate::source::{Failed, MemSource, PipeSource, Source};

@@ -1,5 +1,6 @@
 //! The numbers that a type holds.
 ghost use Rattle.std.specs.Prelude.{◌≡◌, true, Some, option_map, position, pos, ◌≤◌, ◌≤ℤ◌, ◌^◌};
+ghost use Rattle.pl_frame.specs.Columns.{is_number};
 ghost use Rattle.pl_frame.specs.Types.{from_to, is_readable, is_within, is_narrow, is_outside, range_of, datetime_range, units_in_second, decimal_range, HasFewDigits};
 
 use crate::data_type::{DataType, TimeUnit};
@@ -32,6 +33,18 @@ impl DataType {
             DataType::Datetime(unit) => Some(datetime_range(*unit)),
             DataType::Decimal(digits, _) => Some(decimal_range(*digits)),
             _ => None,
+        }
+    }
+
+    // The same of a type of numbers.
+    pub(crate) fn number_range(&self) -> NumberRange
+        requires kind { is_number self.now ≡ true }
+        requires readable { is_readable self.now ≡ true }
+        ensures { Some (from_to result.low result.high) ≡ range_of self.now }
+    {
+        match self.range() {
+            Some(range) => range,
+            None => unreachable!(),
         }
     }
 }

@@ -1,8 +1,8 @@
 //! Where bytes go.
 ghost use Rattle.std.specs.Prelude.{◌≡◌, ℕ, ◌<◌, ◌≤◌, ◌↔◌, min, List, [], length, take, Option, Some, Err, IfOk, OnOk, OnErr, IsErrOf, IsOkUnless, Contains};
 ghost use Rattle.std.specs.Io.KnownBytes.{Appends, WriteAppends};
-ghost use Rattle.pl_frame.specs.Causes.{Rose, TakesSome};
-ghost use Rattle.pl_frame.specs.Outside.{raised, RisesAt, RisesAtErr};
+ghost use Rattle.pl_frame.specs.Causes.{Rose, TakesSome, raised};
+ghost use Rattle.pl_frame.specs.Outside.{RisesAt, RisesAtErr};
 
 use std::alloc::Global;
 use std::marker::Model;

@@ -2,8 +2,8 @@
 ghost use Rattle.std.specs.Prelude.{◌≡◌, ℕ, ◌+◌, ◌<◌, ◌↔◌, min, List, [], length, Option, Some, drop, IsErr, IsTrue, IfOk, Ok, Contains};
 ghost use Rattle.std.specs.Io.{ReadsAtMost};
 ghost use Rattle.std.specs.Io.KnownBytes.{ReadConsumes};
-ghost use Rattle.pl_frame.specs.Causes.{HasCause};
-ghost use Rattle.pl_frame.specs.Outside.{left_of, raised, RisesAtErr};
+ghost use Rattle.pl_frame.specs.Causes.{HasCause, raised};
+ghost use Rattle.pl_frame.specs.Outside.{left_of, RisesAtErr};
 
 use std::marker::Model;
 

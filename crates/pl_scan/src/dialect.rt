@@ -1,6 +1,6 @@
 //! Dialects: separator, quote or none, line end, comment prefix or none.
-ghost use Rattle.std.specs.Prelude.{◌↔◌, IsTrue};
-ghost use Rattle.pl_frame.specs.Dialect.{marks, IsMark, IsQuote, IsCommentPrefix, IsDialect};
+ghost use Rattle.std.specs.Prelude.{◌↔◌, IsTrue, IfSome};
+ghost use Rattle.pl_frame.specs.Dialect.{marks, IsMark, AreDistinct, IsCommentPrefix, IsDialect};
 ghost use Rattle.pl_scan.specs.Comment.{prefix_of};
 
 use crate::comment::CommentPrefix;
@@ -12,13 +12,23 @@ fn is_mark(byte: u8) -> bool
     byte.is_ascii() && byte != b'\r'
 }
 
-// Whether the quote, if there is one, is a mark of its own.
-fn is_quote_ok(separator: u8, quote_char: Option<u8>, eol_char: u8) -> bool
-    ensures { IsTrue result ↔ IsQuote separator eol_char quote_char }
+// Whether the quote, if there is one, is ASCII and no carriage return.
+fn is_quote_ok(quote_char: Option<u8>) -> bool
+    ensures { IsTrue result ↔ IfSome quote_char IsMark }
 {
     match quote_char {
-        Some(quote) => is_mark(quote) && quote != separator && quote != eol_char,
+        Some(quote) => is_mark(quote),
         None => true,
+    }
+}
+
+// Whether the marks differ from one another.
+fn are_distinct(separator: u8, quote_char: Option<u8>, eol_char: u8) -> bool
+    ensures { IsTrue result ↔ AreDistinct (marks separator quote_char eol_char) }
+{
+    match quote_char {
+        Some(quote) => separator != eol_char && quote != separator && quote != eol_char,
+        None => separator != eol_char,
     }
 }
 
@@ -44,8 +54,8 @@ pub fn dialect_ok(
 {
     is_mark(separator)
         && eol_char.is_ascii()
-        && separator != eol_char
-        && is_quote_ok(separator, quote_char, eol_char)
+        && is_quote_ok(quote_char)
+        && are_distinct(separator, quote_char, eol_char)
         && is_prefix_ok(eol_char, comment_prefix)
 }
 

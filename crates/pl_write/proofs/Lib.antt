@@ -6,8 +6,8 @@ mod HeldLaws
 pub mod KeptLaws
 mod LeftLaws
 mod LineLaws
-mod MarkLaws
 mod PaddedLaws
+mod SpecialLaws
 mod TimeLaws
 pub mod WayLaws
 pub mod WriteLaws

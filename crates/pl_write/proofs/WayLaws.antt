@@ -3,23 +3,18 @@ use Rattle.std.proofs.Common.{◌≡◌, ℕ, zero, suc, ◌<◌, Bool, true, fa
 use Rattle.pl_frame.specs.declared.data_type.DataType.{DataType}
 use Rattle.pl_frame.specs.declared.data_type.DataType.TheVariants as dtype
 use Rattle.pl_frame.specs.Frame.{ColumnValue}
-use Rattle.pl_frame.specs.Text.{WriteOptions, NumberKind, quoted, written_value}
+use Rattle.pl_frame.specs.Text.{WriteOptions, is_bare, quoted, written_value}
+use Rattle.pl_frame.specs.Types.{is_whole_number}
 use Rattle.pl_write.specs.declared.ways.Way.{Way}
 use Rattle.pl_write.specs.declared.ways.Way.TheVariants as way
-use Rattle.pl_write.specs.Options.{is_bare}
-use Rattle.pl_write.specs.Ways.{FitsWay, HaveWays, is_whole}
+use Rattle.pl_write.specs.Ways.{FitsWay, HaveWays}
 
 -- a number that stands without quotes
-bare_number : (o : WriteOptions) (text : List ℕ) → is_bare o.style NumberKind ≡ true → written_value o NumberKind text ≡ text
-bare_number o text bare = by (o.style == 1) (o.style == 2) bare
-  where
-    by : (a b : Bool) → (if a then false else (if b then true else true)) ≡ true → (if a then quoted o.quote text else if b then text else text) ≡ text
-    by true b e = absurd (true≢false (sym e))
-    by false true e = refl
-    by false false e = refl
+bare_number : (o : WriteOptions) (text : List ℕ) → is_bare o.style true ≡ true → written_value o true text ≡ text
+bare_number o text bare = ap (λ (b : Bool). if b then text else quoted o.quote text) bare
 
 -- whole numbers that stand without quotes are their digits
-pub digits_fit : (o : WriteOptions) (type : DataType) → is_whole type ≡ true → is_bare o.style NumberKind ≡ true → FitsWay way.Digits o type
+pub digits_fit : (o : WriteOptions) (type : DataType) → is_whole_number type ≡ true → is_bare o.style true ≡ true → FitsWay way.Digits o type
 digits_fit o dtype.Boolean whole bare = absurd (true≢false (sym whole))
 digits_fit o dtype.Int8 whole bare = λ n. bare_number o _ bare
 digits_fit o dtype.Int16 whole bare = λ n. bare_number o _ bare

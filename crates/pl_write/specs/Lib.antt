@@ -1,6 +1,6 @@
 pub mod Left
-pub mod Marks
 pub mod Options
 pub mod Serializing
+pub mod Special
 pub mod Ways
 pub mod Writing

@@ -1,9 +1,6 @@
 -- How a frame is written (docs/quoting.md).
-use Rattle.std.specs.Prelude.{ℕ, ℤ, Bool, true, false, if◌then◌else◌, ◌==◌, List, [], ◌∷◌}
-use Rattle.std.specs.Option.{option_map_or}
-use Rattle.pl_frame.specs.declared.data_type.DataType.{DataType}
-use Rattle.pl_frame.specs.Types.{range_of, is_within}
-use Rattle.pl_frame.specs.Text.{WriteOptions, TypeKind, TextKind, NumberKind, OtherKind}
+use Rattle.std.specs.Prelude.{ℕ, Bool, true, false, List, [], ◌∷◌}
+use Rattle.pl_frame.specs.Text.{WriteOptions}
 use Rattle.pl_write.specs.declared.options.CsvWriterOptions.{CsvWriterOptions}
 use Rattle.pl_write.specs.declared.options.QuoteStyle.{QuoteStyle}
 use Rattle.pl_write.specs.declared.options.QuoteStyle.TheVariants as style
@@ -35,20 +32,6 @@ cell_options o = with_head o false false
 -- how a frame is written
 abbrev pub frame_options : CsvWriterOptions → WriteOptions
 frame_options o = with_head o.serialize_options o.include_bom o.include_header
-
--- the type holds numbers, and this one is in its range
-abbrev pub in_range : DataType → ℤ → Bool
-in_range type n = option_map_or (λ range. is_within range n) (range_of type) false
-
--- whole numbers and decimals
-abbrev pub is_number_kind : TypeKind → Bool
-is_number_kind TextKind = false
-is_number_kind NumberKind = true
-is_number_kind OtherKind = false
-
--- a value that is no text stands without quotes
-abbrev pub is_bare : ℕ → TypeKind → Bool
-is_bare style kind = if style == 1 then false else (if style == 2 then is_number_kind kind else true)
 
 -- ---- the defaults
 

@@ -1,6 +1,6 @@
 -- What a row and a line are made of.
 use Rattle.std.specs.Prelude.{◌≡◌, ℕ, ◌<◌, ◌≤◌, zero, suc, List, [], ◌∷◌, ◌++◌, length, take, Option}
-use Rattle.std.specs.Io.KnownBytes.{Appends, Keeps}
+use Rattle.std.specs.Io.KnownBytes.{Appends}
 use Rattle.std.specs.List.{AllByRecursion}
 use Rattle.pl_frame.specs.Causes.{Rose}
 use Rattle.pl_frame.specs.Frame.{ColumnValue}
@@ -39,14 +39,18 @@ pub record CanWrite (n_threads quote : ℕ) : Type 0 where
   pub threads : 0 < n_threads
   pub ascii : quote < 128
 
--- why a frame was not written: no threads, or else a quote that is not ASCII, before any byte; else a fault of the sink, whose
--- count rose, or want of memory
-abbrev pub IsWriteFault : ℕ → ℕ → Option (List ℕ) → Option (List ℕ) → ℕ → ℕ → PolarsError → Type 0
-IsWriteFault n_threads quote received received_now faults faults_now (error.InvalidOperation op) = (op ≡ op_fault.Option) × (n_threads ≡ 0) × Keeps received received_now
-IsWriteFault n_threads quote received received_now faults faults_now (error.ComputeError fault) = (fault ≡ compute_fault.Quote) × (0 < n_threads) × (128 ≤ quote) × Keeps received received_now
-IsWriteFault n_threads quote received received_now faults faults_now error.IO = CanWrite n_threads quote × Rose faults faults_now
-IsWriteFault n_threads quote received received_now faults faults_now error.OutOfMemory = CanWrite n_threads quote
-IsWriteFault n_threads quote received received_now faults faults_now _ = ⊥
+-- no threads, or else a quote that is not ASCII
+abbrev pub IsEarlyFault : ℕ → ℕ → PolarsError → Type 0
+IsEarlyFault n_threads quote (error.InvalidOperation op) = (op ≡ op_fault.Option) × (n_threads ≡ 0)
+IsEarlyFault n_threads quote (error.ComputeError fault) = (fault ≡ compute_fault.Quote) × (0 < n_threads) × (128 ≤ quote)
+IsEarlyFault n_threads quote _ = ⊥
+
+-- why a frame was not written: no threads, or else a quote that is not ASCII, and then the writer is as it was; else a
+-- fault of the sink, whose count rose, or want of memory
+abbrev pub IsWriteFault : {S : Type 0} → (S → ℕ) → Writer S → Writer S → PolarsError → Type 0
+IsWriteFault faults before now error.IO = CanWrite before.n_threads before.options.serialize_options.quote_char × Rose (faults before.sink) (faults now.sink)
+IsWriteFault faults before now error.OutOfMemory = CanWrite before.n_threads before.options.serialize_options.quote_char
+IsWriteFault faults before now fault = IsEarlyFault before.n_threads before.options.serialize_options.quote_char fault × (now ≡ before)
 
 -- a writer whose options are changed
 abbrev pub with_change : {S : Type 0} → (CsvWriterOptions → CsvWriterOptions) → Writer S → Writer S
@@ -54,9 +58,3 @@ with_change change w = record { sink = w.sink; options = change w.options; n_thr
 
 abbrev pub with_threads : {S : Type 0} → ℕ → Writer S → Writer S
 with_threads n_threads w = record { sink = w.sink; options = w.options; n_threads = n_threads }
-
--- no threads, or else a quote that is not ASCII
-abbrev pub IsEarlyFault : ℕ → ℕ → PolarsError → Type 0
-IsEarlyFault n_threads quote (error.InvalidOperation op) = (op ≡ op_fault.Option) × (n_threads ≡ 0)
-IsEarlyFault n_threads quote (error.ComputeError fault) = (fault ≡ compute_fault.Quote) × (0 < n_threads) × (128 ≤ quote)
-IsEarlyFault n_threads quote _ = ⊥

@@ -29,15 +29,15 @@ pub trait SerWriter<S: Sink> {
 
     /// Appends the text of a frame to the sink.
     ///
-    /// Refuses `Option` where no thread is to write, and then a quote that is not ASCII, both before any byte; a fault of
-    /// the sink; and want of memory. A prefix of the text was then appended.
+    /// Refuses `Option` where no thread is to write, and then a quote that is not ASCII, and the writer is then as it was; a
+    /// fault of the sink; and want of memory. A prefix of the text was then appended.
     fn finish(&mut self, df: &DataFrame) -> PolarsResult<()>
         ensures written { OnOk result (Appends (S.received (writer self.old).sink) (S.received (writer self.new).sink) (text_of_frame (frame_options (writer self.old).options) df.now)) }
         ensures can { OnOk result (CanWrite (writer self.old).n_threads (writer self.old).options.serialize_options.quote_char) }
         ensures prefix { AppendsPrefix (S.received (writer self.old).sink) (S.received (writer self.new).sink) (text_of_frame (frame_options (writer self.old).options) df.now) }
-        ensures refused { IfErr result (IsWriteFault (writer self.old).n_threads (writer self.old).options.serialize_options.quote_char
-            (S.received (writer self.old).sink) (S.received (writer self.new).sink) (S.faults (writer self.old).sink) (S.faults (writer self.new).sink)) }
+        ensures refused { IfErr result (IsWriteFault S.faults (writer self.old) (writer self.new)) }
         ensures later { S.faults (writer self.old).sink ≤ S.faults (writer self.new).sink }
+        ensures later_wants { S.wants (writer self.old).sink ≤ S.wants (writer self.new).sink }
         ensures options { (writer self.new).options ≡ (writer self.old).options }
         ensures threads { (writer self.new).n_threads ≡ (writer self.old).n_threads };
 }

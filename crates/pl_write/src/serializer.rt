@@ -150,6 +150,8 @@ mod tests {
     use super::*;
     use crate::options::QuoteStyle;
     use pl_frame::name::PlSmallStr;
+    use std::alloc::Global;
+    use std::process::Abort;
     use std::test::Fail;
 
     #[test]
@@ -168,5 +170,45 @@ mod tests {
         assert_eq!(rt; text.as_slice(), b"x-1\"NA\"".as_slice());
         assert_eq!(rt; cells.len(), 0);
         Ok(())
+    }
+
+    // A null and texts, each behind a bar, in a style.
+    fn shows(
+        rt: &impl Abort,
+        alloc: Global,
+        style: QuoteStyle,
+        expected: &str,
+    ) -> Result<(), Fail> {
+        let mut values = vec![in alloc; None]?;
+        for text in ["", "a", "\"", "a\"\"b", "a b", "a,b", "a\nb", "a\rb"] {
+            values.push(Some(PlSmallStr::from_str(alloc, text)?))?;
+        }
+        let name = PlSmallStr::from_str(alloc, "t")?;
+        let column = Column::text(alloc, name, DataType::String, values)?;
+        let mut options = SerializeOptions::new(alloc)?;
+        options.quote_style = style;
+        let mut cells = Serializer::new(&column);
+        let mut written = Vec::new(alloc);
+        for _ in 0..column.len() {
+            if cells.len() > 0 {
+                written.push(b'|')?;
+                cells.serialize(&mut written, &options)?;
+            }
+        }
+        assert_eq!(rt; written.as_slice(), expected.as_bytes());
+        Ok(())
+    }
+
+    #[test]
+    fn texts_are_quoted_by_style(rt: HostRuntime) -> Result<(), Fail> {
+        let alloc = rt.alloc();
+        let always = "|\"\"|\"\"|\"a\"|\"\"\"\"|\"a\"\"\"\"b\"|\"a b\"|\"a,b\"|\"a\nb\"|\"a\rb\"";
+        let necessary = "||\"\"|a|\"\"\"\"|\"a\"\"\"\"b\"|a b|\"a,b\"|\"a\nb\"|\"a\rb\"";
+        let numeric = "||\"\"|\"a\"|\"\"\"\"|\"a\"\"\"\"b\"|\"a b\"|\"a,b\"|\"a\nb\"|\"a\rb\"";
+        let never = "|||a|\"|a\"\"b|a b|a,b|a\nb|a\rb";
+        shows(&rt, alloc, QuoteStyle::Always, always)?;
+        shows(&rt, alloc, QuoteStyle::Necessary, necessary)?;
+        shows(&rt, alloc, QuoteStyle::NonNumeric, numeric)?;
+        shows(&rt, alloc, QuoteStyle::Never, never)
     }
 }

@@ -4,8 +4,8 @@ ghost use Rattle.pl_frame.specs.Text.{needs_quotes, doubled, quoted, quoted_null
 ghost use Rattle.pl_write.specs.Options.{cell_options};
 ghost use Rattle.pl_write.specs.Writing.{StaysInFront};
 
-use crate::marks::holds_mark;
 use crate::options::{QuoteStyle, SerializeOptions};
+use crate::special::holds_special;
 use memchr::memchr;
 use std::alloc::AllocError;
 
@@ -14,7 +14,7 @@ use std::alloc::AllocError;
 fn is_quoting_needed(text: &[u8], separator: u8, quote: u8) -> bool
     ensures { result ≡ needs_quotes separator quote text.now }
 {
-    text.is_empty() || holds_mark(text, separator, quote)
+    text.is_empty() || holds_special(text, separator, quote)
 }
 
 // Appends the text with each quote doubled.

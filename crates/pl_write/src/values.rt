@@ -1,10 +1,11 @@
 //! Values that are no texts, as they are written.
 ghost use Rattle.std.specs.Prelude.{◌≡◌, ◌++◌, true, not, unwrap_or, unsigned_abs, OnOk, if◌then◌else◌};
+ghost use Rattle.pl_frame.specs.Columns.{is_number_of};
 ghost use Rattle.pl_frame.specs.Frame.{Truth};
-ghost use Rattle.pl_frame.specs.Types.{is_within, datetime_range, range_of, units_in_second};
+ghost use Rattle.pl_frame.specs.Types.{is_numeric, is_within, datetime_range, range_of, units_in_second};
 ghost use Rattle.pl_frame.specs.Printed.{datetime_text, number_text, printed};
-ghost use Rattle.pl_frame.specs.Text.{kind_of, written_value};
-ghost use Rattle.pl_write.specs.Options.{cell_options, in_range, style_number, is_number_kind, is_bare};
+ghost use Rattle.pl_frame.specs.Text.{is_bare, written_value};
+ghost use Rattle.pl_write.specs.Options.{cell_options, style_number};
 ghost use Rattle.pl_write.specs.Writing.{StaysInFront};
 
 use crate::dates::push_date;
@@ -20,7 +21,7 @@ use std::alloc::AllocError;
 #[tactic(auto, using(crate::proofs::KeptLaws::keeping))]
 #[inline]
 fn push_number(block: &mut Vec<u8>, dtype: &DataType, number: i128) -> Result<(), AllocError>
-    requires { in_range dtype.now number ≡ true }
+    requires { is_number_of dtype.now number ≡ true }
     ensures text { OnOk result (block.new.items ≡ block.old.items ++ number_text dtype.now number) }
     ensures kept { StaysInFront block.old.items block.new.items }
 {
@@ -50,7 +51,7 @@ fn push_truth(block: &mut Vec<u8>, dtype: &DataType, truth: bool) -> Result<(), 
 // Whether values of a type are numbers, dates and times not among them.
 #[inline]
 fn is_numeric(dtype: &DataType) -> bool
-    ensures { result ≡ is_number_kind (kind_of dtype.now) }
+    ensures { result ≡ is_numeric dtype.now }
 {
     match dtype {
         DataType::Boolean | DataType::String | DataType::Categorical | DataType::Enum(_) => false,
@@ -62,7 +63,7 @@ fn is_numeric(dtype: &DataType) -> bool
 // Whether a value that is no text is quoted.
 #[inline]
 fn is_quoted(dtype: &DataType, style: QuoteStyle) -> bool
-    ensures { result ≡ not (is_bare (style_number style) (kind_of dtype.now)) }
+    ensures { result ≡ not (is_bare (style_number style) (is_numeric dtype.now)) }
 {
     match style {
         QuoteStyle::Always => true,
@@ -82,8 +83,8 @@ pub fn push_number_cell(
     number: i128,
     options: &SerializeOptions,
 ) -> Result<(), AllocError>
-    requires { in_range dtype.now number ≡ true }
-    ensures text { OnOk result (block.new.items ≡ block.old.items ++ written_value (cell_options options.now) (kind_of dtype.now) (number_text dtype.now number)) }
+    requires { is_number_of dtype.now number ≡ true }
+    ensures text { OnOk result (block.new.items ≡ block.old.items ++ written_value (cell_options options.now) (is_numeric dtype.now) (number_text dtype.now number)) }
     ensures kept { StaysInFront block.old.items block.new.items }
 {
     if is_quoted(dtype, options.quote_style) {
@@ -106,7 +107,7 @@ pub fn push_truth_cell(
     truth: bool,
     options: &SerializeOptions,
 ) -> Result<(), AllocError>
-    ensures text { OnOk result (block.new.items ≡ block.old.items ++ written_value (cell_options options.now) (kind_of dtype.now) (printed dtype.now (Truth truth))) }
+    ensures text { OnOk result (block.new.items ≡ block.old.items ++ written_value (cell_options options.now) (is_numeric dtype.now) (printed dtype.now (Truth truth))) }
     ensures kept { StaysInFront block.old.items block.new.items }
 {
     if is_quoted(dtype, options.quote_style) {

@@ -1,9 +1,10 @@
 //! How the cells of a column are written: settled once for the column, by its type and the style.
 ghost use Rattle.std.specs.Prelude.{◌≡◌, true, IfOk};
-ghost use Rattle.pl_frame.specs.Text.{NumberKind};
-ghost use Rattle.pl_write.specs.Options.{cell_options, is_bare, style_number};
+ghost use Rattle.pl_frame.specs.Text.{is_bare};
+ghost use Rattle.pl_frame.specs.Types.{is_whole_number};
+ghost use Rattle.pl_write.specs.Options.{cell_options, style_number};
 ghost use Rattle.pl_write.specs.declared.ways.Way.TheVariants as Way;
-ghost use Rattle.pl_write.specs.Ways.{FitsWay, HaveWays, is_whole};
+ghost use Rattle.pl_write.specs.Ways.{FitsWay, HaveWays};
 
 use crate::options::{QuoteStyle, SerializeOptions};
 use pl_frame::column::Column;
@@ -22,8 +23,8 @@ pub enum Way {
 }
 
 // Whether a type is one of whole numbers.
-fn is_whole(dtype: &DataType) -> bool
-    ensures { result ≡ is_whole dtype.now }
+fn is_whole_number(dtype: &DataType) -> bool
+    ensures { result ≡ is_whole_number dtype.now }
 {
     match dtype {
         DataType::Int8 | DataType::Int16 | DataType::Int32 | DataType::Int64 => true,
@@ -35,7 +36,7 @@ fn is_whole(dtype: &DataType) -> bool
 
 // Whether numbers stand without quotes.
 fn are_numbers_bare(style: QuoteStyle) -> bool
-    ensures { result ≡ is_bare (style_number style) NumberKind }
+    ensures { result ≡ is_bare (style_number style) true }
 {
     match style {
         QuoteStyle::Always => false,
@@ -57,9 +58,9 @@ fn way_of_others(dtype: &DataType, options: &SerializeOptions) -> Way
 #[tactic(auto, using(crate::proofs::WayLaws::digits_fit))]
 pub fn way_of(dtype: &DataType, options: &SerializeOptions) -> Way
     ensures fits { FitsWay result (cell_options options.now) dtype.now }
-    ensures digits { is_whole dtype.now ≡ true → is_bare (style_number options.now.quote_style) NumberKind ≡ true → result ≡ Way.Digits }
+    ensures digits { is_whole_number dtype.now ≡ true → is_bare (style_number options.now.quote_style) true ≡ true → result ≡ Way.Digits }
 {
-    if is_whole(dtype) && are_numbers_bare(options.quote_style) {
+    if is_whole_number(dtype) && are_numbers_bare(options.quote_style) {
         Way::Digits
     } else {
         way_of_others(dtype, options)

@@ -2,10 +2,12 @@
 ghost use Rattle.std.specs.Prelude.{◌≡◌, true, ◌<◌, ◌++◌, ◌≤◌, [], length, OnOk, IsErrOf, if◌then◌else◌};
 ghost use Rattle.std.specs.Io.KnownBytes.{Appends};
 ghost use Rattle.pl_frame.specs.Causes.{Rose};
+ghost use Rattle.pl_frame.specs.Columns.{is_number_of};
+ghost use Rattle.pl_frame.specs.Types.{is_numeric};
 ghost use Rattle.pl_frame.specs.Frame.{cell_at, HaveHeight, height_of, names_of};
 ghost use Rattle.pl_frame.specs.Printed.{number_text};
-ghost use Rattle.pl_frame.specs.Text.{kind_of, written_cell, written_value, written_text, row_line, header_line, head_text, byte_order_mark, text_of_frame};
-ghost use Rattle.pl_write.specs.Options.{cell_options, frame_options, in_range};
+ghost use Rattle.pl_frame.specs.Text.{written_cell, written_value, written_text, row_line, header_line, head_text, byte_order_mark, text_of_frame};
+ghost use Rattle.pl_write.specs.Options.{cell_options, frame_options};
 ghost use Rattle.pl_write.specs.Ways.{FitsWay, HaveWays};
 ghost use Rattle.pl_write.specs.declared.ways.Way.TheVariants as Way;
 ghost use Rattle.pl_write.specs.Writing.{separator_before, HasRow, AppendsPrefix, StaysInFront};
@@ -52,9 +54,9 @@ fn push_number_in(
     number: i128,
     options: &SerializeOptions,
 ) -> Result<(), AllocError>
-    requires range { in_range dtype.now number ≡ true }
+    requires range { is_number_of dtype.now number ≡ true }
     requires way { FitsWay way (cell_options options.now) dtype.now }
-    ensures text { OnOk result (block.new.items ≡ block.old.items ++ written_value (cell_options options.now) (kind_of dtype.now) (number_text dtype.now number)) }
+    ensures text { OnOk result (block.new.items ≡ block.old.items ++ written_value (cell_options options.now) (is_numeric dtype.now) (number_text dtype.now number)) }
     ensures kept { StaysInFront block.old.items block.new.items }
 {
     match way {
@@ -204,6 +206,7 @@ pub fn write_frame<Si: Sink>(
     ensures text { OnOk result (Appends (Si.received sink.old) (Si.received sink.new) (text_of_frame (frame_options options.now) columns.now)) }
     ensures prefix { AppendsPrefix (Si.received sink.old) (Si.received sink.new) (text_of_frame (frame_options options.now) columns.now) }
     ensures later { Si.faults sink.old ≤ Si.faults sink.new }
+    ensures later_wants { Si.wants sink.old ≤ Si.wants sink.new }
     ensures device { IsErrOf result SinkFault.Device → Rose (Si.faults sink.old) (Si.faults sink.new) }
 {
     let Ok(ways) = ways_of(alloc, columns, &options.serialize_options) else {

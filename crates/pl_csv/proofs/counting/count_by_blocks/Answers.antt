@@ -2,7 +2,7 @@ use Rattle.std.proofs.Common.{◌∙◌, ap, arith, rules, ◌≡◌, ◌-◌, �
 use Rattle.std.proofs.lemmas.List.{length-take-le}
 use Rattle.std.specs.Prelude.{min}
 use Rattle.pl_frame.specs.Dialect.{marks}
-use Rattle.pl_csv.specs.Reading.{is_compressed}
+use Rattle.pl_frame.specs.Compression.{is_compressed}
 use Rattle.pl_csv.proofs.CountingLaws.{HasCounted-all, HasCounted-more}
 use Rattle.pl_csv.proofs.counting.count_by_blocks.Goals as goal
 
@@ -11,8 +11,8 @@ returns-then-count-eq0-clause-read g c =
     let m = marks c.args.separator c.args.quote_char c.args.eol_char in
     let room : 0 < length c.read.new.buf = search rules in
     let ended = c.in-Ok.ensures.bytes.1 c.if-count-eq0.true room in
-    let answer = HasCounted-all m c.args.has_header _ _ _ _ c.read.new.buf _ c.in-Ok.count c.rows-rows.result c.loop-count.counter c.has_compression_mark.result
-    c.loop-count.invariant.counted c.if-count-eq0.true c.in-Ok.ensures.bytes.0 ended (c.has_compression_mark.ensures ∙ ap is_compressed c.deref.ensures.value) c.rows-rows.ensures in
+    let answer = HasCounted-all m c.args.has_header _ _ _ _ c.read.new.buf _ c.in-Ok.count c.rows-rows.result c.loop-count.counter c.is_compressed.result
+    c.loop-count.invariant.counted c.if-count-eq0.true c.in-Ok.ensures.bytes.0 ended (c.is_compressed.ensures ∙ ap is_compressed c.deref.ensures.value) c.rows-rows.ensures in
     (answer.0, answer.1, answer.2, c.unless_compressed.ensures ∙ answer.3)
 
 pub loop-count-preserved : goal.loop-count-preserved

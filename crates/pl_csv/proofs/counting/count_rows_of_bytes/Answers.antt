@@ -8,5 +8,5 @@ returns c =
     inr (
       d,
       (c.count_rows_from_slice.ensures.rows _).1 (d, refl)
-          ∙ sym (counted-plain c.args.has_header _ _ c.args.bytes.now (sym c.has_compression_mark.ensures ∙ c.if-has_compression_mark.false)),
+          ∙ sym (counted-plain c.args.has_header _ _ c.args.bytes.now (sym c.is_compressed.ensures ∙ c.if-is_compressed.false)),
     )

@@ -48,10 +48,12 @@ loop-row-preserved g c =
           record {
             writing = rw (w.sink-is, w.block-is, w.clear.ensures.items) (IsWriting-flushed old now next block left text more came);
             later = rw w.sink-is (omega (arith, w.in-Ok-write_all.ensures.later, c.loop-row.invariant.later));
+            later_wants = rw w.sink-is (omega (arith, w.in-Ok-write_all.ensures.later_wants, c.loop-row.invariant.later_wants));
           }
       | else-len-ge-BLOCK w ↦ record {
         writing = rw (w.sink-is, w.block-is, c.in-Ok-push_row.ensures) more;
         later = rw w.sink-is c.loop-row.invariant.later;
+        later_wants = rw w.sink-is c.loop-row.invariant.later_wants;
       }
     ]
 

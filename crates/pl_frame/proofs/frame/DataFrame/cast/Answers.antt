@@ -4,7 +4,7 @@ use Rattle.pl_frame.specs.Equal.{types_equal}
 use Rattle.pl_frame.specs.Frame.{IsFrame}
 use Rattle.pl_frame.proofs.CastLaws.{cast_same}
 use Rattle.pl_frame.proofs.FrameLaws.{frame_cast, cast_at, cast_within, with_cast-at, with_cast-same, read_at}
-use Rattle.pl_frame.proofs.TypeLaws.{types_told}
+use Rattle.pl_frame.specs.EqualLaws.{types_same}
 use Rattle.pl_frame.proofs.frame.DataFrame.cast.Goals as goal
 
 pub index-requires : goal.index-requires
@@ -17,7 +17,7 @@ returns-then-eq-clause-cast c =
     let columns = c.self.inside.columns.items in
     let within = cast_within columns c.args.column c.args.to.now (ap (λ f. can_cast f c.args.column c.args.to.now) c.self.view_is ∙ c.requires) in
     let at = read_at columns c.args.column c.index.result.now within c.index.ensures in
-    let same = types_told c.index.result.now.dtype c.args.to.now (ap (λ t. types_equal t c.args.to.now) (sym c.dtype.ensures.dtype) ∙ sym c.eq.ensures ∙ c.if-eq.true) in
+    let same = types_same c.index.result.now.dtype c.args.to.now (ap (λ t. types_equal t c.args.to.now) (sym c.dtype.ensures.dtype) ∙ sym c.eq.ensures ∙ c.if-eq.true) in
     ap (λ f. f) (sym c.self.view_is) ∙ sym (with_cast-same columns c.args.column c.args.to.now c.index.result.now at (cast_same c.index.result.now c.args.to.now c.dtype.ensures.held same))
     ∙ ap (λ f. with_cast f c.args.column c.args.to.now) c.self.view_is
 

@@ -1,0 +1,379 @@
+//! Columns that are made of given values.
+ghost use Rattle.std.specs.Prelude.{◌≡◌, ◌<◌, [], ◌∷◌, ◌++◌, true, false, not, length, IfOk, OnOk, IfErr, position, None, Some, IsOkUnless};
+ghost use Rattle.std.specs.Option.{option_map};
+ghost use Rattle.pl_frame.specs.Categories.{AreCodes, decoded};
+ghost use Rattle.pl_frame.specs.Columns.{truth_cells, number_cells, text_cells, is_number, is_enum, categories_of, misfits, first_misfit, IsFirstFault};
+ghost use Rattle.pl_frame.specs.Frame.{Letters};
+ghost use Rattle.pl_frame.specs.Names.{first_repeat};
+ghost use Rattle.pl_frame.specs.Types.{is_readable, is_text, is_outside, signed_range};
+
+use crate::codes::{Codes, CodesBuilder};
+use crate::column::{Column, ColumnFault};
+use crate::data_type::{Categories, DataType};
+use crate::name::PlSmallStr;
+use crate::numbers::Numbers;
+use crate::places::Places;
+use crate::texts::Texts;
+use std::alloc::{AllocError, Global};
+
+impl Column {
+    /// A column of type `Boolean`. Refuses only want of memory.
+    pub fn boolean(
+        alloc: Global,
+        name: PlSmallStr,
+        values: Vec<Option<bool>>,
+    ) -> Result<Column, ColumnFault>
+        ensures column { IfOk result (λ c. c ≡ record { name = name; dtype = DataType.Boolean; values = truth_cells values.items }) }
+        ensures refused { IsOkUnless result ColumnFault.OutOfMemory }
+    {
+        let truths = collect(alloc, &values)?;
+        Ok(Column::from_booleans(name, truths))
+    }
+
+    /// A column of whole numbers, dates, times, datetimes or decimals. Refuses a number outside the range of the type,
+    /// with its row, and want of memory.
+    pub fn whole(
+        alloc: Global,
+        name: PlSmallStr,
+        dtype: DataType,
+        values: Vec<Option<i128>>,
+    ) -> Result<Column, ColumnFault>
+        requires kind { is_number dtype ≡ true }
+        requires readable { is_readable dtype ≡ true }
+        ensures column { IfOk result (λ c. c ≡ record { name = name; dtype = dtype; values = number_cells values.items }) }
+        ensures in_range { OnOk result (first_misfit dtype (number_cells values.items) ≡ None) }
+        ensures refused { IfErr result (IsFirstFault (first_misfit dtype (number_cells values.items))) }
+    {
+        let range = dtype.number_range();
+        if let Some(row) = range.first_outside(&values) {
+            return Err(ColumnFault::OutOfRange { row });
+        }
+        if range.is_narrow() {
+            let numbers = collect_narrow(alloc, &values)?;
+            return Ok(Column::from_narrow(name, dtype, numbers));
+        }
+        let numbers = collect(alloc, &values)?;
+        Ok(Column::from_wide(name, dtype, numbers))
+    }
+
+    /// A column of texts. Refuses a text that is none of the categories of an enum, with its row, and want of memory.
+    pub fn text(
+        alloc: Global,
+        name: PlSmallStr,
+        dtype: DataType,
+        values: Vec<Option<PlSmallStr>>,
+    ) -> Result<Column, ColumnFault>
+        requires kind { is_text dtype ≡ true }
+        requires readable { is_readable dtype ≡ true }
+        ensures column { IfOk result (λ c. c ≡ record { name = name; dtype = dtype; values = text_cells values.items }) }
+        ensures in_range { OnOk result (first_misfit dtype (text_cells values.items) ≡ None) }
+        ensures refused { IfErr result (IsFirstFault (first_misfit dtype (text_cells values.items))) }
+    {
+        match &dtype {
+            DataType::Enum(Some(categories)) => {
+                match places_of(alloc, categories, &values) {
+                    Ok(places) => Ok(Column::from_enum(name, dtype, places)),
+                    Err(fault) => Err(fault),
+                }
+            }
+            DataType::Categorical => {
+                let texts = collect_codes(alloc, &values)?;
+                Ok(Column::from_categories(name, texts))
+            }
+            _ => {
+                let texts = collect_texts(alloc, &values)?;
+                Ok(Column::from_string(name, texts))
+            }
+        }
+    }
+}
+
+// Values and nulls in a vector with flags.
+fn collect<T: Copy + Default>(alloc: Global, values: &[Option<T>]) -> Result<Numbers<T>, AllocError>
+    ensures { IfOk result (λ numbers. numbers ≡ values.now) }
+{
+    let mut numbers = Numbers::new(alloc);
+    numbers.reserve(values.len())?;
+    for value in values {
+        match value {
+            None => numbers.push_null()?,
+            Some(value) => numbers.push(*value)?,
+        }
+    }
+    Ok(numbers)
+}
+
+// The same of numbers that fit 64 bits.
+fn collect_narrow(alloc: Global, values: &[Option<i128>]) -> Result<Numbers<i64>, AllocError>
+    requires { position (is_outside (signed_range 64)) values.now ≡ None }
+    ensures { IfOk result (λ numbers. numbers ≡ values.now) }
+{
+    let mut numbers = Numbers::new(alloc);
+    numbers.reserve(values.len())?;
+    for value in values {
+        push_narrow(&mut numbers, *value)?;
+    }
+    Ok(numbers)
+}
+
+// Puts a number that fits 64 bits at the end.
+#[inline]
+pub(crate) fn push_narrow(numbers: &mut Numbers<i64>, value: Option<i128>) -> Result<(), AllocError>
+    requires { is_outside (signed_range 64) value ≡ false }
+    ensures { OnOk result (numbers.new ≡ numbers.old ++ value ∷ []) }
+{
+    match value {
+        None => numbers.push_null(),
+        Some(number) => numbers.push(narrowed(number)),
+    }
+}
+
+#[inline]
+fn narrowed(number: i128) -> i64
+    requires { is_outside (signed_range 64) (Some number) ≡ false }
+    ensures { result ≡ number }
+{
+    number as i64
+}
+
+// Texts and nulls in one buffer.
+fn collect_texts(alloc: Global, values: &[Option<PlSmallStr>]) -> Result<Texts, AllocError>
+    ensures { IfOk result (λ texts. texts ≡ values.now) }
+{
+    let mut texts = Texts::new(alloc);
+    texts.reserve(values.len(), 0)?;
+    for value in values {
+        match value {
+            None => texts.push_null()?,
+            Some(text) => texts.push(text.as_str())?,
+        }
+    }
+    Ok(texts)
+}
+
+// Texts and nulls as codes.
+fn collect_codes(alloc: Global, values: &[Option<PlSmallStr>]) -> Result<Codes, AllocError>
+    ensures { IfOk result (λ texts. texts ≡ values.now) }
+{
+    let mut texts = CodesBuilder::new(alloc);
+    for value in values {
+        match value {
+            None => texts.push_null()?,
+            Some(text) => texts.push(text.as_str())?,
+        }
+    }
+    Ok(texts.into_codes())
+}
+
+// The places of texts among categories of which none stands twice, up to the first text that is none of them.
+fn places_of(
+    alloc: Global,
+    categories: &Categories,
+    values: &[Option<PlSmallStr>],
+) -> Result<Numbers<u64>, ColumnFault>
+    requires { first_repeat categories.now ≡ None }
+    ensures decoded { IfOk result (λ places. decoded categories.now places ≡ values.now) }
+    ensures places { IfOk result (λ places. AreCodes categories.now places) }
+    ensures in_range { OnOk result (first_misfit (DataType.Enum (Some categories.now)) (text_cells values.now) ≡ None) }
+    ensures refused { IfErr result (IsFirstFault (first_misfit (DataType.Enum (Some categories.now)) (text_cells values.now))) }
+{
+    let categories = Places::new(alloc, categories.texts())?;
+    collect_places(alloc, &categories, values)
+}
+
+// The same, where the places of the categories are known.
+fn collect_places(
+    alloc: Global,
+    categories: &Places,
+    values: &[Option<PlSmallStr>],
+) -> Result<Numbers<u64>, ColumnFault>
+    ensures decoded { IfOk result (λ places. decoded categories.now places ≡ values.now) }
+    ensures places { IfOk result (λ places. AreCodes categories.now places) }
+    ensures in_range { OnOk result (first_misfit (DataType.Enum (Some categories.now)) (text_cells values.now) ≡ None) }
+    ensures refused { IfErr result (IsFirstFault (first_misfit (DataType.Enum (Some categories.now)) (text_cells values.now))) }
+{
+    let mut places = Numbers::new(alloc);
+    places.reserve(values.len())?;
+    for (row, value) in values.iter().enumerate() {
+        if !push_place(&mut places, categories, value)? {
+            return Err(ColumnFault::OutOfRange { row });
+        }
+    }
+    Ok(places)
+}
+
+// Puts the place of a text at the end, and says whether it has one.
+fn push_place(
+    places: &mut Numbers<u64>,
+    categories: &Places,
+    value: &Option<PlSmallStr>,
+) -> Result<bool, AllocError>
+    requires { AreCodes categories.now places.old }
+    ensures tested { IfOk result (λ fits. fits ≡ not (misfits (DataType.Enum (Some categories.now)) (option_map Letters value.now))) }
+    ensures pushed { IfOk result (λ fits. fits ≡ true → decoded categories.now places.new ≡ decoded categories.now places.old ++ value.now ∷ []) }
+    ensures places { IfOk result (λ fits. fits ≡ true → AreCodes categories.now places.new) }
+{
+    match value {
+        None => places.push_null()?,
+        Some(text) => match categories.find(text.as_str()) {
+            Some(place) => places.push(place as u64)?,
+            None => return Ok(false),
+        },
+    }
+    Ok(true)
+}
+
+#[cfg(test)]
+mod tests {
+    use super::*;
+    use crate::column::Value;
+    use crate::data_type::TimeUnit;
+    use std::test::Fail;
+
+    // The row that is refused of three numbers.
+    fn refused_row(
+        alloc: Global,
+        dtype: &DataType,
+        numbers: [i128; 3],
+    ) -> Result<Option<usize>, Fail> {
+        if !dtype.readable() || dtype.range().is_none() {
+            return Ok(None);
+        }
+        let name = PlSmallStr::from_str(alloc, "n")?;
+        let given = vec![in alloc; Some(numbers[0]), Some(numbers[1]), Some(numbers[2])]?;
+        match Column::whole(alloc, name, dtype.try_clone()?, given) {
+            Err(ColumnFault::OutOfRange { row }) => Ok(Some(row)),
+            _ => Ok(None),
+        }
+    }
+
+    // Whether a type takes these two numbers, and none past them.
+    fn is_range(alloc: Global, dtype: DataType, low: i128, high: i128) -> Result<bool, Fail> {
+        let below = refused_row(alloc, &dtype, [low, high, low.wrapping_sub(1)])?;
+        let above = refused_row(alloc, &dtype, [low, high, high.wrapping_add(1)])?;
+        Ok(below == Some(2) && above == Some(2))
+    }
+
+    #[test]
+    fn whole_numbers_lie_in_their_ranges(rt: HostRuntime) -> Result<(), Fail> {
+        let alloc = rt.alloc();
+        let (low, high) = (i128::from(i64::MIN), i128::from(i64::MAX));
+        assert!(rt; is_range(alloc, DataType::Int8, -128, 127)?);
+        assert!(rt; is_range(alloc, DataType::Int16, -32_768, 32_767)?);
+        assert!(rt; is_range(alloc, DataType::Int32, -2_147_483_648, 2_147_483_647)?);
+        assert!(rt; is_range(alloc, DataType::Int64, low, high)?);
+        assert!(rt; is_range(alloc, DataType::UInt8, 0, 255)?);
+        assert!(rt; is_range(alloc, DataType::UInt16, 0, 65_535)?);
+        assert!(rt; is_range(alloc, DataType::UInt32, 0, 4_294_967_295)?);
+        assert!(rt; is_range(alloc, DataType::UInt64, 0, 18_446_744_073_709_551_615)?);
+        let most = refused_row(alloc, &DataType::Int128, [i128::MIN, 0, i128::MAX])?;
+        assert_eq!(rt; most, None);
+        Ok(())
+    }
+
+    #[test]
+    fn times_and_decimals_lie_in_their_ranges(rt: HostRuntime) -> Result<(), Fail> {
+        let alloc = rt.alloc();
+        let digits = 99_999_999_999_999_999_999_999_999_999_999_999_999;
+        assert!(rt; is_range(alloc, DataType::Date, -719_528, 2_932_896)?);
+        assert!(rt; is_range(alloc, DataType::Time, 0, 86_399_999_999_999)?);
+        let unit = DataType::Datetime(TimeUnit::Milliseconds);
+        assert!(rt; is_range(alloc, unit, -62_167_219_200_000, 253_402_300_799_999)?);
+        let unit = DataType::Datetime(TimeUnit::Microseconds);
+        assert!(rt;
+            is_range(
+                alloc,
+                unit,
+                -62_167_219_200_000_000,
+                253_402_300_799_999_999
+            )?
+        );
+        let unit = DataType::Datetime(TimeUnit::Nanoseconds);
+        let (low, high) = (-62_167_219_200_000_000_000, 253_402_300_799_999_999_999);
+        assert!(rt; is_range(alloc, unit, low, high)?);
+        assert!(rt; is_range(alloc, DataType::Decimal(Some(1), Some(0)), -9, 9)?);
+        assert!(rt;
+            is_range(
+                alloc,
+                DataType::Decimal(Some(38), Some(38)),
+                -digits,
+                digits
+            )?
+        );
+        assert!(rt; is_range(alloc, DataType::Decimal(None, Some(1)), -digits, digits)?);
+        Ok(())
+    }
+
+    fn some(alloc: Global, text: &str) -> Result<Option<PlSmallStr>, Fail> {
+        Ok(Some(PlSmallStr::from_str(alloc, text)?))
+    }
+
+    #[test]
+    fn categories_are_coded_by_first_appearance(rt: HostRuntime) -> Result<(), Fail> {
+        let alloc = rt.alloc();
+        let name = PlSmallStr::from_str(alloc, "c")?;
+        let given = vec![in alloc;
+            some(alloc, "q")?,
+            some(alloc, "p")?,
+            some(alloc, "q")?,
+            None,
+            some(alloc, "r")?,
+        ]?;
+        let column = Column::text(alloc, name, DataType::Categorical, given)?;
+        for (row, code) in [Some(0), Some(1), Some(0), None, Some(2)]
+            .iter()
+            .enumerate()
+        {
+            assert_eq!(rt; column.code(row), *code);
+        }
+        for (place, text) in ["q", "p", "r"].iter().enumerate() {
+            match column.categories().get(place) {
+                Some(found) => assert_eq!(rt; found.as_str(), *text),
+                None => panic!(rt; "no category at {place}"),
+            }
+        }
+        assert_eq!(rt;
+            (column.len(), column.null_count(), column.categories().len()),
+            (5, 1, 3)
+        );
+        assert!(rt; matches!(column.get(2), Value::Text("q")));
+        Ok(())
+    }
+
+    #[test]
+    fn texts_of_an_enum_are_its_categories(rt: HostRuntime) -> Result<(), Fail> {
+        let alloc = rt.alloc();
+        let name = PlSmallStr::from_str(alloc, "e")?;
+        let texts = vec![in alloc;
+            PlSmallStr::from_str(alloc, "x")?,
+            PlSmallStr::from_str(alloc, "y")?,
+        ]?;
+        let dtype = DataType::Enum(Some(Categories::new(texts)));
+        let given = vec![in alloc; some(alloc, "y")?, None, some(alloc, "z")?]?;
+        if dtype.readable() {
+            let refused = Column::text(alloc, name, dtype, given).err();
+            assert_eq!(rt; refused, Some(ColumnFault::OutOfRange { row: 2 }));
+        }
+        Ok(())
+    }
+
+    #[test]
+    fn keeps_truth_values_texts_and_nulls(rt: HostRuntime) -> Result<(), Fail> {
+        let alloc = rt.alloc();
+        let given = vec![in alloc; Some(true), None]?;
+        let truths = Column::boolean(alloc, PlSmallStr::from_str(alloc, "b")?, given)?;
+        assert!(rt; matches!(truths.get(0), Value::Boolean(true)));
+        assert!(rt; matches!(truths.get(1), Value::Null));
+        let given = vec![in alloc; some(alloc, "é")?]?;
+        let name = PlSmallStr::from_str(alloc, "t")?;
+        let texts = Column::text(alloc, name, DataType::String, given)?;
+        assert!(rt; matches!(texts.get(0), Value::Text("é")));
+        assert!(rt; matches!(texts.dtype(), DataType::String));
+        let nulls = Column::nulls(PlSmallStr::from_str(alloc, "n")?, 3)?;
+        assert_eq!(rt;
+            (nulls.name(), nulls.len(), nulls.null_count()),
+            ("n", 3, 3)
+        );
+        Ok(())
+    }
+}

@@ -1,0 +1,81 @@
+-- From a vector's mask to bytes that are not special.
+use Rattle.std.proofs.Common.{◌≡◌, ℕ, suc, ◌+◌, ◌-◌, ◌%◌, ◌^◌, ◌<◌, ◌≤◌, Bool, true, false, not, ◌||◌, cond, ◌==◌, eqb, List, [], ◌∷◌, length, get_or, map, replicate, bit_or, refl, sym, ap, ap₂, ◌∙◌, arith}
+use Rattle.std.proofs.lemmas.Bool.{not-true, eqb-true}
+use Rattle.std.proofs.lemmas.Simd.{length-chunk, leading_from_mask_l, get_or-chunk, zip2_splat, mask_l-mod}
+use Rattle.std.proofs.lemmas.List.{length-map}
+use Rattle.std.proofs.lemmas.List.Sums.{prefix_len_passes}
+use Rattle.std.specs.Bool.{OnTrue}
+use Rattle.std.specs.List.{list_any}
+use lib.Lanes.{chunk, mask_l, zip2, top}
+use Rattle.pl_frame.specs.Text.{is_special}
+use Rattle.pl_write.specs.Special.{HasNoSpecial}
+
+abbrev hit : ℕ → ℕ → ℕ
+hit a b = cond (eqb a b) 255 0
+
+-- a lane in which one of four tests held, by the top bit
+four_tests : (a b c d : Bool) → top 7 (bit_or (bit_or (bit_or (cond a 255 0) (cond b 255 0)) (cond c 255 0)) (cond d 255 0)) ≡ (a || b || c || d)
+four_tests false false false false = refl
+four_tests false false false true = refl
+four_tests false false true false = refl
+four_tests false false true true = refl
+four_tests false true false false = refl
+four_tests false true false true = refl
+four_tests false true true false = refl
+four_tests false true true true = refl
+four_tests true false false false = refl
+four_tests true false false true = refl
+four_tests true false true false = refl
+four_tests true false true true = refl
+four_tests true true false false = refl
+four_tests true true false true = refl
+four_tests true true true false = refl
+four_tests true true true true = refl
+
+zip2-map : (f g : ℕ → ℕ) (xs : List ℕ) → zip2 bit_or (map f xs) (map g xs) ≡ map (λ x. bit_or (f x) (g x)) xs
+zip2-map f g [] = refl
+zip2-map f g (x ∷ xs) = ap (λ r. bit_or (f x) (g x) ∷ r) (zip2-map f g xs)
+
+either : (f g : ℕ → ℕ) (v : List ℕ) {a b : List ℕ} → a ≡ map f v → b ≡ map g v → zip2 bit_or a b ≡ map (λ x. bit_or (f x) (g x)) v
+either f g v p q = ap₂ (zip2 bit_or) p q ∙ zip2-map f g v
+
+abbrev lanes : ℕ → ℕ → ℕ → ℕ
+lanes s q x = bit_or (bit_or (bit_or (hit x s) (hit x 10)) (hit x 13)) (hit x q)
+
+tops : (s q : ℕ) (v : List ℕ) → map (top 7) (map (lanes s q) v) ≡ map (is_special s q) v
+tops s q [] = refl
+tops s q (x ∷ v) = ap₂ (λ a b. a ∷ b) (four_tests (eqb x s) (eqb x 10) (eqb x 13) (eqb x q)) (tops s q v)
+
+-- an empty mask: no byte passes the test
+none_from_mask : (p : ℕ → Bool) (d : List ℕ) (i n : ℕ) → i + n ≤ length d → mask_l (map p (chunk i n d)) ≡ 0 → (k : ℕ) → i ≤ k → k < i + n → p (get_or d k 0) ≡ false
+none_from_mask p d i n room none k low high =
+    let long = length-chunk i n d room in
+    let whole = leading_from_mask_l p (chunk i n d) none in
+    let back : i + (k - i) ≡ k = omega arith in
+    let clear = not-true _ (prefix_len_passes (λ x. not (p x)) (chunk i n d) (k - i) 0 (omega (arith, long, whole))) in
+    ap p (sym (get_or-chunk i n d (k - i) 0 (omega arith) ∙ ap (λ m. get_or d m 0) back)) ∙ clear
+
+on_true : (b : Bool) (P : Type 0) → (b ≡ true → P) → OnTrue b P
+on_true true P f = f refl
+on_true false P f = tt
+
+-- the four tests of a vector of n lanes, as the code makes them
+pub clear_from_lanes : (s q : ℕ) (d : List ℕ) (i n : ℕ) → i + n ≤ length d → n ≤ 64
+    → OnTrue (mask_l (map (top 7) (zip2 bit_or (zip2 bit_or (zip2 bit_or (zip2 hit (chunk i n d) (replicate n s)) (zip2 hit (chunk i n d) (replicate n 10))) (zip2 hit (chunk i n d) (replicate n 13))) (zip2 hit (chunk i n d) (replicate n q)))) % 2 ^ 64 == 0)
+    (HasNoSpecial s q d i (i + n))
+clear_from_lanes s q d i n room few =
+    let v = chunk i n d in
+    let long = length-chunk i n d room in
+    let all = either _ _ v (either _ _ v (either _ _ v (zip2_splat hit v n s long) (zip2_splat hit v n 10 long)) (zip2_splat hit v n 13 long)) (zip2_splat hit v n q long) in
+    let mask = ap (λ l. mask_l (map (top 7) l) % 2 ^ 64) all ∙ ap (λ l. mask_l l % 2 ^ 64) (tops s q v) ∙ mask_l-mod (map (is_special s q) v) 64 (omega (arith, length-map v (is_special s q), long)) in
+    on_true _ _ (λ e. none_from_mask (is_special s q) d i n room (sym mask ∙ eqb-true _ 0 e))
+
+-- no byte at any place is none in the list
+none_in : (p : ℕ → Bool) (xs : List ℕ) → ((k : ℕ) → 0 ≤ k → k < length xs → p (get_or xs k 0) ≡ false) → list_any p xs ≡ false
+none_in p [] none = refl
+none_in p (x ∷ xs) none = rw (none 0 (omega arith) (omega arith)) (none_in p xs (λ k low high. none (suc k) (omega arith) (omega arith)))
+
+-- what a test of the whole text tells
+pub clear_text : (b : Bool) (s q : ℕ) (text : List ℕ) → b ≡ true → OnTrue b (HasNoSpecial s q text 0 (length text)) → list_any (is_special s q) text ≡ false
+clear_text true s q text is clear = none_in (is_special s q) text clear
+clear_text false s q text is clear = absurd (cc)

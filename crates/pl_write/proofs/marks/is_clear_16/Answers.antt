@@ -1,6 +1,0 @@
-use Rattle.std.proofs.Common.{arith}
-use Rattle.pl_write.proofs.MarkLaws.{clear_from_lanes}
-use Rattle.pl_write.proofs.marks.is_clear_16.Goals as goal
-
-pub returns : goal.returns
-returns c = clear_from_lanes c.args.separator c.args.quote c.args.text.now c.args.at 16 c.requires (omega arith)

@@ -6,3 +6,4 @@ pub mod StartLaws
 pub mod LineLaws
 pub mod LineEndLaws
 pub mod RowStateLaws
+pub mod CommentEqualLaws

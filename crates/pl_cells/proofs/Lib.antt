@@ -5,6 +5,7 @@ pub mod DateLaws
 pub mod DecimalLaws
 pub mod EnumLaws
 pub mod IntegerLaws
+pub mod NullEqualLaws
 pub mod NullLaws
 pub mod PlaceLaws
 pub mod QuotingLaws

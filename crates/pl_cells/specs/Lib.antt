@@ -11,6 +11,7 @@ pub mod Faults
 pub mod InitBuffers
 pub mod Integers
 pub mod Laws
+pub mod NullEqual
 pub mod NullTest
 pub mod NullValues
 pub mod Quoting

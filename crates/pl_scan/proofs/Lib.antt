@@ -7,3 +7,4 @@ pub mod StartLaws
 pub mod LineLaws
 pub mod LineEndLaws
 pub mod RowStateLaws
+pub mod CommentEqualLaws

@@ -1,4 +1,5 @@
 pub mod Comment
+pub mod CommentEqual
 pub mod Dialect
 pub mod Fields
 pub mod Items

@@ -134,10 +134,10 @@ open_is_unclosed plan columns range apart all =
     let some : has_unjudged plan range ≡ list_any (unjudged plan.last m) given = ap (list_any (unjudged plan.last m)) whole in
     let ends = open_rows m (comment_of plan.dialect) range apart in (
       λ is.
-      let parts = open_end (first_faulty (rules_of plan) columns 0 (judged_rows plan range)) (has_unjudged plan range) is in
-      let found = unjudged-is plan.last m given (sym some ∙ parts.1) in
-      (found.0, ends ∙ found.1, parts.0),
+          let parts = open_end (first_faulty (rules_of plan) columns 0 (judged_rows plan range)) (has_unjudged plan range) is in
+          let found = unjudged-is plan.last m given (sym some ∙ parts.1) in
+          (found.0, ends ∙ found.1, parts.0),
       λ is.
-      let found : has_unjudged plan range ≡ true = some ∙ ap (λ t. list_any (unjudged t m) given) is.0 ∙ unjudged-open m given ∙ sym ends ∙ is.1 in
-      ap (λ f. end_of f (has_unjudged plan range)) is.2 ∙ ap (end_of None) found,
+          let found : has_unjudged plan range ≡ true = some ∙ ap (λ t. list_any (unjudged t m) given) is.0 ∙ unjudged-open m given ∙ sym ends ∙ is.1 in
+          ap (λ f. end_of f (has_unjudged plan range)) is.2 ∙ ap (end_of None) found,
     )

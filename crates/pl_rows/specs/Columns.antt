@@ -1,4 +1,4 @@
--- Columns of the cells of rows (docs/types.md, "Ranges").
+-- Columns of the cells of rows (docs/types.md, "Records and columns").
 use Rattle.std.specs.Prelude.{ℕ, List, [], ◌∷◌, length, map, Option}
 use Rattle.pl_frame.specs.declared.data_type.DataType.{DataType}
 use Rattle.pl_frame.specs.Frame.{Scalar, ColumnValue}

@@ -1,4 +1,4 @@
--- What a plan of a reading says: which columns are read, by which rules, and into which buffers (docs/types.md, "Ranges").
+-- What a plan of a reading says: which columns are read, by which rules, and into which buffers (docs/types.md, "Reading a range").
 use Rattle.std.specs.Prelude.{◌≡◌, ℕ, ◌+◌, ◌<◌, ◌≤◌, List, [], ◌∷◌, length, map, Option}
 use Rattle.std.specs.List.{AllByRecursion, zip}
 use Rattle.std.specs.Option.{option_map}

@@ -1,4 +1,4 @@
--- What reading a range gives: which rows it judges, where it ends, and what the buffers gain (docs/types.md, "Ranges").
+-- What reading a range gives: which rows it judges, where it ends, and what the buffers gain (docs/types.md, "Reading a range").
 use Rattle.std.specs.Prelude.{◌≡◌, ℕ, Bool, true, false, not, ◌||◌, List, take, Option, None, Some, filter, is_none, take_while}
 use Rattle.std.specs.List.{list_any}
 use Rattle.pl_frame.specs.declared.error.FaultKind.{FaultKind}

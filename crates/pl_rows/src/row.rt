@@ -4,7 +4,7 @@ ghost use Rattle.pl_frame.specs.Dialect.{AreDistinct};
 ghost use Rattle.pl_scan.specs.Dialect.{marks_of};
 ghost use Rattle.pl_scan.specs.Fields.{extent};
 ghost use Rattle.pl_rows.specs.Plan.{states, rules_of, plan_columns, CanRead};
-ghost use Rattle.pl_rows.specs.Rows.{row_at, first_fault, };
+ghost use Rattle.pl_rows.specs.Rows.{row_at, first_fault};
 ghost use Rattle.pl_rows.specs.Columns.{with_columns};
 ghost use Rattle.pl_rows.specs.Ranges.{is_judged};
 ghost use Rattle.pl_rows.specs.Steps.{row_fault_of, HasAddedCells, IsCellsFault, IsRowFault, IsRowRead, IsRowEnd};
@@ -129,7 +129,13 @@ fn is_passed(bytes: &[u8], plan: &RangePlan<'_>) -> bool
     ensures { result ≡ not (is_judged plan.now (row_at (marks_of plan.now.dialect) bytes.now)) }
 {
     let dialect = plan.dialect;
-    !plan.last && is_open_record(bytes, dialect.separator, dialect.quote_char, dialect.eol_char)
+    !plan.last
+        && is_open_record(
+            bytes,
+            dialect.separator,
+            dialect.quote_char,
+            dialect.eol_char,
+        )
 }
 
 /// Reads the row at the front of `bytes` into the buffers, a cell each, where it is judged and has no fault; else the buffers

@@ -59,7 +59,7 @@ returns-in-OutOfMemory-clause-kept c =
     let all : length after ≤ length c.read_row.new.buffers = simp length-map (omega arith) in
     c.cut_back.ensures
     ∙ HasReadRows-back c.args.plan.now c.args.range.now (states c.args.buffers.now) (states c.loop-rest.buffers) after c.loop-rest.rest.now c.loop-rest.row (length c.read_row.new.buffers) c.requires c.loop-rest.invariant
-      c.in-OutOfMemory.ensures all
+    c.in-OutOfMemory.ensures all
 
 pub loop-rest-preserved : goal.loop-rest-preserved
 loop-rest-preserved c =

@@ -256,9 +256,7 @@ fn read_records(
         return Err(RecordFault::OutOfMemory);
     };
     match read.end {
-        RangeEnd::Fault { row, column, kind } => {
-            Err(RecordFault::Record { row, column, kind })
-        }
+        RangeEnd::Fault { row, column, kind } => { Err(RecordFault::Record { row, column, kind }) }
         RangeEnd::Closed | RangeEnd::Open => Ok(DataFrame::of_distinct(read.columns)),
     }
 }

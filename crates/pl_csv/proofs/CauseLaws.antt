@@ -1,11 +1,8 @@
 -- The read behind the causes that speak of the settings and the first bytes alone.
 use Rattle.std.proofs.Common.{◌≡◌, ℕ, true, List, [], ◌∷◌, refl, sym, ◌∙◌, ap}
 use Rattle.std.specs.Prelude.{Option, None, Some, unwrap_or, is_none}
-use Rattle.std.specs.Option.{option_map, option_and_then, option_copied}
-use Rattle.std.specs.Borrow.{Bor}
+use Rattle.std.specs.Option.{option_map, option_and_then}
 use Rattle.pl_frame.specs.Frame.{ColumnValue}
-use Rattle.pl_scan.specs.declared.comment.CommentPrefix.{CommentPrefix}
-use Rattle.pl_scan.specs.Comment.{prefix_bytes, prefix_of}
 use Rattle.std.specs.List.{enumerate_from}
 use Rattle.pl_rows.specs.Columns.{frame_of_rows}
 use Rattle.pl_rows.specs.Rows.{first_faulty}
@@ -14,11 +11,6 @@ use Rattle.pl_csv.specs.declared.reading.Cause.TheVariants as cause
 use Rattle.pl_words.specs.declared.settings.Settings.{Settings}
 use Rattle.pl_csv.specs.Settings.{rules_of}
 use Rattle.pl_csv.specs.Reading.{all_columns, when, unknown_null, data_of, data_rows, faulty_record, first_some, read_causes, IsFirstCause, IsValidRead, MayBeRead}
-
--- the bytes of a comment prefix that was lent
-pub prefix_of-lent : (lent : Option (Bor CommentPrefix)) (prefix : Option CommentPrefix) → option_copied lent ≡ prefix → prefix_of lent ≡ option_map prefix_bytes prefix
-prefix_of-lent None prefix is = ap (option_map prefix_bytes) is
-prefix_of-lent (Some lent) prefix is = ap (option_map prefix_bytes) is
 
 -- the first of the causes behind those
 abbrev first_later : Settings → Option (List ℕ) → Option (List ℕ) → Option Cause

@@ -1,11 +1,7 @@
 -- The columns of a schema by their places.
-use Rattle.std.proofs.Common.{◌≡◌, ℕ, zero, suc, ◌+◌, ◌<◌, Bool, true, false, not, List, [], ◌∷◌, ◌++◌, map, length, get_or, refl, ◌∙◌, ap, add-one, arith}
-use Rattle.std.specs.Prelude.{Option, None, Some, find}
-use Rattle.std.specs.List.{range_with_len, slice_index}
-use Rattle.std.proofs.lemmas.List.FromFn.{length-range_with_len, get_or-range_with_len}
-use Rattle.pl_frame.specs.declared.error.ComputeFault.TheVariants as compute
-use Rattle.pl_frame.specs.declared.error.PolarsError.{PolarsError}
-use Rattle.pl_frame.specs.declared.error.PolarsError.TheVariants as error
+use Rattle.std.proofs.Common.{◌≡◌, ℕ, zero, suc, ◌+◌, ◌<◌, Bool, true, false, not, List, [], ◌∷◌, length, get_or, refl, ◌∙◌, ap, arith}
+use Rattle.std.specs.Prelude.{None, Some, find}
+use Rattle.std.specs.List.{range_with_len}
 use Rattle.std.proofs.lemmas.List.{length-map}
 use Rattle.std.proofs.lemmas.List.Folds.{list_any_at}
 use Rattle.pl_frame.specs.declared.data_type.DataType.{DataType}
@@ -16,7 +12,6 @@ use Rattle.pl_frame.proofs.ColumnLaws.{position-found, position-nowhere}
 use Rattle.pl_frame.proofs.SchemaLaws.{none_passes}
 use Rattle.pl_cells.specs.InitBuffers.{entry_at, empty_buffer, empty_buffers, IsTypeFault}
 use Rattle.pl_cells.specs.InitBuffers as cells
-use Rattle.pl_cells.specs.declared.utf8.CsvEncoding.{CsvEncoding}
 use Rattle.pl_csv.specs.Reading.{types_of, first_unreadable}
 
 -- none of the numbers passes
@@ -29,11 +24,6 @@ find-range p a (suc n) each =
   where
     next : (k : ℕ) → k < n → p (a + 1 + k) ≡ false
     next k l = let same : a + 1 + k ≡ a + suc k = omega arith in ap p same ∙ each (suc k) (omega arith)
-
-entry_at-get_or : (schema : List Entry) (k : ℕ) (d : Entry) → k < length schema → entry_at schema k ≡ get_or schema k d
-entry_at-get_or [] k d l = absurd (omega arith)
-entry_at-get_or (entry ∷ schema) zero d l = refl
-entry_at-get_or (entry ∷ schema) (suc k) d l = entry_at-get_or schema k d (omega arith)
 
 type_at-get_or : (schema : List Entry) (k : ℕ) → get_or (types_of schema) k dtype.Null ≡ (entry_at schema k).1
 type_at-get_or [] k = refl

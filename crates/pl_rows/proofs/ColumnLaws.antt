@@ -1,7 +1,7 @@
 -- Columns of cells: row by row, and taken back.
-use Rattle.std.proofs.Common.{◌≡◌, ℕ, zero, suc, ◌+◌, ◌-◌, ◌<◌, List, [], ◌∷◌, ◌++◌, map, length, take, drop, set, get_or, refl, sym, ◌∙◌, ap, arith, append-nil, append_assoc, length-append}
+use Rattle.std.proofs.Common.{◌≡◌, ℕ, zero, suc, ◌+◌, ◌-◌, ◌<◌, List, [], ◌∷◌, ◌++◌, map, length, take, set, get_or, refl, sym, ◌∙◌, ap, arith, append-nil, append_assoc, length-append}
 use Rattle.std.specs.Prelude.{Option}
-use Rattle.std.proofs.lemmas.List.{length-map, map-append, take_at, take-append-drop}
+use Rattle.std.proofs.lemmas.List.{length-map, map-append, take_at}
 use Rattle.pl_frame.specs.declared.data_type.DataType.{DataType}
 use Rattle.pl_frame.specs.Frame.{Scalar}
 use Rattle.pl_cells.specs.BufferValue.{BufferValue, holding, with_values}
@@ -10,7 +10,7 @@ use Rattle.pl_rows.specs.Cells.{RowRules, cell}
 use Rattle.pl_rows.specs.Columns.{column_cells, with_columns}
 use Rattle.pl_rows.specs.Plan.{state_types}
 use Rattle.pl_rows.specs.Rows.{Row, field_at}
-use Rattle.pl_rows.specs.Steps.{without_last, cut_back, HaveCells}
+use Rattle.pl_rows.specs.Steps.{without_last, cut_back}
 
 pub with_columns-none : (rules : RowRules) (places : List ℕ) (buffers : List BufferValue) → length places ≡ length buffers → with_columns rules [] places buffers ≡ buffers
 with_columns-none rules [] [] e = refl

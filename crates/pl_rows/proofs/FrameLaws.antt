@@ -1,17 +1,16 @@
 -- Columns of a schema, as they are read.
-use Rattle.std.proofs.Common.{◌≡◌, ℕ, zero, suc, ◌+◌, ◌<◌, List, [], ◌∷◌, ◌++◌, map, length, take, drop, get_or, arith, refl, sym, ◌∙◌, ap, subst}
+use Rattle.std.proofs.Common.{◌≡◌, ℕ, List, [], ◌∷◌, ◌++◌, map, length, take, drop, arith, refl, sym, ◌∙◌, ap, subst}
 use Rattle.std.specs.Prelude.{AllPairs, ◌≢◌}
 use Rattle.std.specs.List.{zip, AllByRecursion}
 use Rattle.std.proofs.lemmas.List.{length-map}
 use Rattle.std.proofs.Math.Seq.{take-append_seam}
-use Rattle.pl_frame.specs.declared.data_type.DataType.{DataType}
 use Rattle.pl_frame.specs.Frame.{HaveHeight, IsFrame, names_of}
 use Rattle.pl_frame.specs.Schema.{Entry, names_in, HaveDistinctNames}
 use Rattle.pl_cells.specs.Cells.{value_of}
-use Rattle.pl_cells.specs.InitBuffers.{empty_buffer, empty_buffers, entry_at}
+use Rattle.pl_cells.specs.InitBuffers.{empty_buffers, entry_at}
 use Rattle.pl_cells.specs.BufferValue.{BufferValue}
 use Rattle.pl_rows.specs.Cells.{RowRules, cell}
-use Rattle.pl_rows.specs.Columns.{column_cells, with_columns, read_column, frame_of_rows, columns_of, entries_in, columns_in}
+use Rattle.pl_rows.specs.Columns.{column_cells, with_columns, frame_of_rows, columns_of, entries_in, columns_in}
 use Rattle.pl_frame.specs.Dialect.{AreDistinct}
 use Rattle.pl_scan.specs.Dialect.{marks_of}
 use Rattle.pl_cells.specs.NullValues.{HaveTexts}

@@ -1,6 +1,6 @@
 -- A range is open where it ends within a quoted field.
 use Rattle.std.proofs.Common.{◌≡◌, ℕ, zero, suc, ◌+◌, ◌<◌, Bool, true, false, cond, not, ◌||◌, ◌==◌, List, [], ◌∷◌, length, take, drop, refl, sym, ◌∙◌, ap, arith, length-drop}
-use Rattle.std.specs.Prelude.{Option, None, Some, take_while, ◌↔◌}
+use Rattle.std.specs.Prelude.{Option, None, Some, take_while}
 use Rattle.std.specs.List.{last_or, list_any, prefix_len}
 use Rattle.std.proofs.lemmas.List.{length-take-le, drop-drop}
 use Rattle.std.proofs.lemmas.List.Folds.{length-prefix_len}
@@ -10,16 +10,14 @@ use Rattle.pl_scan.specs.Closing.{have_open_end, is_open_item, ends_open}
 use Rattle.pl_scan.specs.Comment.{is_comment}
 use Rattle.pl_scan.specs.Dialect.{marks_of, comment_of}
 use Rattle.pl_scan.specs.Fields.{fields, extent}
-use Rattle.pl_scan.specs.Items.{ItemText, CommentText, RecordText, text_of, item, items}
+use Rattle.pl_scan.specs.Items.{ItemText, CommentText, RecordText, text_of, items}
 use Rattle.pl_scan.proofs.ItemLaws.{IsRecordAt-extent, items-nil, items-step}
 use Rattle.pl_scan.proofs.RecordLaws.{fields-text, have_open_end-closed}
-use Rattle.pl_rows.specs.declared.plan.RangePlan.{RangePlan}
-use Rattle.pl_rows.specs.declared.range.RangeEnd.{RangeEnd}
 use Rattle.pl_rows.specs.declared.range.RangeEnd.TheVariants as end
 use Rattle.pl_rows.specs.Laws.{OpenEndsWithin}
-use Rattle.pl_rows.specs.Plan.{Columns, rules_of}
-use Rattle.pl_rows.specs.Ranges.{limited, rows_of, is_judged, judged_rows, has_unjudged, end_of, range_end}
-use Rattle.pl_rows.specs.Rows.{Row, row_at, rows, first_faulty}
+use Rattle.pl_rows.specs.Plan.{rules_of}
+use Rattle.pl_rows.specs.Ranges.{limited, rows_of, judged_rows, has_unjudged, end_of}
+use Rattle.pl_rows.specs.Rows.{Row, rows, first_faulty}
 use Rattle.pl_rows.proofs.RangeLaws.{rows-nil, rows-step, rows-comment}
 
 -- a row's last field is open

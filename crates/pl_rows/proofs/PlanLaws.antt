@@ -1,6 +1,6 @@
 -- Places of columns, and when a plan can read.
-use Rattle.std.proofs.Common.{◌≡◌, ℕ, zero, suc, ◌+◌, ◌<◌, ◌≤◌, List, [], ◌∷◌, ◌++◌, map, length, drop, get_or, refl, sym, ◌∙◌, ap, subst, add-one, arith}
-use Rattle.std.specs.Prelude.{Option, None, Some, ◌↔◌}
+use Rattle.std.proofs.Common.{◌≡◌, ℕ, zero, suc, ◌+◌, ◌<◌, ◌≤◌, List, [], ◌∷◌, ◌++◌, length, drop, get_or, refl, sym, ◌∙◌, ap, subst, add-one, arith}
+use Rattle.std.specs.Prelude.{None, ◌↔◌}
 use Rattle.std.specs.List.{range_with_len, slice_index, zip, AllByRecursion}
 use Rattle.std.proofs.lemmas.List.{drop_more}
 use Rattle.std.proofs.lemmas.List.FromFn.{length-range_with_len, get_or-range_with_len}
@@ -11,7 +11,7 @@ use Rattle.pl_cells.specs.InitBuffers.{IsTypeFault}
 use Rattle.pl_cells.specs.BufferValue.{BufferValue}
 use Rattle.pl_rows.specs.declared.plan.RangePlan.{RangePlan}
 use Rattle.pl_rows.specs.Columns.{with_columns}
-use Rattle.pl_rows.specs.Plan.{AreRising, CanRead, rules_of, plan_columns, state_types, Columns, FollowsRules}
+use Rattle.pl_rows.specs.Plan.{AreRising, CanRead, rules_of, plan_columns, state_types, FollowsRules}
 use Rattle.pl_rows.specs.Rows.{Row}
 use Rattle.pl_rows.proofs.ColumnLaws.{length-with_columns, state_types-with_columns}
 use Rattle.pl_rows.proofs.RuleLaws.{FollowRules-with_columns}

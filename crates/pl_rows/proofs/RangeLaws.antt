@@ -1,5 +1,5 @@
 -- The rows of a range, one after another.
-use Rattle.std.proofs.Common.{◌≡◌, ℕ, zero, suc, ◌+◌, ◌-◌, ◌<◌, ◌≤◌, Bool, true, false, cond, not, ◌||◌, ◌==◌, ltb, List, [], ◌∷◌, ◌++◌, length, take, drop, refl, sym, ◌∙◌, ap, append_assoc, append-nil, arith, length-drop, length-append}
+use Rattle.std.proofs.Common.{◌≡◌, ℕ, zero, suc, ◌+◌, ◌-◌, ◌<◌, ◌≤◌, Bool, true, false, cond, not, ◌||◌, ◌==◌, List, [], ◌∷◌, ◌++◌, length, take, drop, refl, sym, ◌∙◌, ap, append_assoc, append-nil, arith, length-drop, length-append}
 use Rattle.std.specs.Prelude.{Option, None, Some, filter, take_while, is_none}
 use Rattle.std.specs.List.{filter_map, cons_option, prefix_len, list_any}
 use Rattle.std.proofs.lemmas.Bool.Decides.{nat_tests}
@@ -12,7 +12,7 @@ use Rattle.pl_scan.specs.Closing.{have_open_end}
 use Rattle.pl_scan.specs.Comment.{is_comment}
 use Rattle.pl_scan.specs.Dialect.{marks_of, comment_of}
 use Rattle.pl_scan.specs.Fields.{fields, extent}
-use Rattle.pl_scan.specs.Items.{ItemText, CommentText, RecordText, text_of, item}
+use Rattle.pl_scan.specs.Items.{ItemText, CommentText, RecordText, text_of}
 use Rattle.pl_scan.proofs.ItemLaws.{IsRecordAt-extent, items_behind-nil, items_behind-step}
 use Rattle.pl_scan.proofs.RecordLaws.{fields-text, have_open_end-closed}
 use Rattle.pl_cells.specs.BufferValue.{BufferValue}
@@ -25,8 +25,8 @@ use Rattle.pl_rows.specs.Plan.{Columns, CanRead, plan_columns, rules_of}
 use Rattle.pl_rows.specs.Ranges.{limited, rows_of, is_judged, judged_rows, has_unjudged, end_of, range_end, sound_rows, with_range}
 use Rattle.pl_rows.specs.Rows.{Row, row_at, row_of, rows, first_fault, first_faulty}
 use Rattle.pl_rows.specs.Steps.{is_below, HasReadRow, cut_back}
-use Rattle.pl_rows.proofs.ColumnLaws.{with_columns-none, with_columns-append, length-with_columns}
-use Rattle.pl_rows.proofs.PlanLaws.{CanRead-more, plan_columns-more}
+use Rattle.pl_rows.proofs.ColumnLaws.{with_columns-none, with_columns-append}
+use Rattle.pl_rows.proofs.PlanLaws.{plan_columns-more}
 use Rattle.pl_rows.proofs.RowLaws.{rows-back}
 
 -- the item at the front, by whether a comment begins there

@@ -1,5 +1,5 @@
 -- Buffers that read by the rules, and columns that have their null texts.
-use Rattle.std.proofs.Common.{◌≡◌, ℕ, zero, suc, ◌+◌, ◌≤◌, List, [], ◌∷◌, drop, refl, subst, arith}
+use Rattle.std.proofs.Common.{◌≡◌, ℕ, zero, suc, List, [], ◌∷◌, drop, refl, subst}
 use Rattle.pl_frame.specs.Schema.{Entry}
 use Rattle.pl_cells.specs.BufferValue.{BufferValue}
 use Rattle.pl_cells.specs.InitBuffers.{empty_buffers}

@@ -1,5 +1,5 @@
 -- How far a row was read.
-use Rattle.std.specs.Prelude.{◌≡◌, ◌≢◌, ℕ, List, [], drop, Option, None, Some}
+use Rattle.std.specs.Prelude.{◌≡◌, ◌≢◌, ℕ, List, [], drop, None, Some}
 use Rattle.pl_frame.specs.Dialect.{Marks}
 use Rattle.pl_scan.specs.Fields.{fields, extent, behind}
 use Rattle.pl_rows.specs.declared.row_rest.RowRest.{RowRest}

@@ -12,7 +12,7 @@ use pl_cells::cell_fault::CellFault;
 
 /// Puts the cell of a field of a column at the end of its buffer. Refuses the cell's fault, and want of memory; the buffer is
 /// then as it was.
-#[inline]
+#[inline(always)]
 pub fn add_field(
     buffer: &mut Buffer,
     column: usize,

@@ -62,6 +62,7 @@ fn add_cells<'a>(
     requires { CanRead plan.now (states buffers.old) }
     ensures { MatchResult result (HasAddedCells plan.now bytes.now (states buffers.old) (states buffers.new)) (λ wrong. IsCellsFault plan.now bytes.now (states buffers.old) (states buffers.new) wrong.0 wrong.1) }
 {
+    let dialect = plan.dialect;
     let places = plan.projection.places;
     // Each place is below it, so one more fits.
     let _width = plan.projection.width;
@@ -69,8 +70,8 @@ fn add_cells<'a>(
     let mut next = 0;
     for (index, buffer) in buffers.iter_mut().enumerate() {
         let place = places[index];
-        let begin = pass_fields(rest, place - next, &plan.dialect);
-        let (field, behind) = next_field(begin, &plan.dialect);
+        let begin = pass_fields(rest, place - next, &dialect);
+        let (field, behind) = next_field(begin, &dialect);
         match add_field(buffer, place, field, plan) {
             Ok(()) => rest = behind,
             Err(fault) => return Err((index, row_fault(place, fault))),

@@ -20,7 +20,7 @@ pub enum RowRest<'a> {
 }
 
 // What is left of a row behind one of its fields.
-#[inline]
+#[inline(always)]
 fn behind_field(others: &[u8], separator: u8) -> RowRest<'_>
     ensures { IsBehind separator others.now result }
 {
@@ -31,7 +31,7 @@ fn behind_field(others: &[u8], separator: u8) -> RowRest<'_>
 }
 
 /// The next field, or the empty one where there is none, and what is left of the row behind it.
-#[inline]
+#[inline(always)]
 pub fn next_field<'a>(rest: RowRest<'a>, dialect: &Dialect<'_>) -> (&'a [u8], RowRest<'a>)
     ensures field { result.0.now ≡ field_at (fields_left (marks_of dialect.now) rest.entry) 0 }
     ensures left { fields_left (marks_of dialect.now) result.1 ≡ drop 1 (fields_left (marks_of dialect.now) rest.entry) }
@@ -53,7 +53,7 @@ pub fn next_field<'a>(rest: RowRest<'a>, dialect: &Dialect<'_>) -> (&'a [u8], Ro
 }
 
 /// What is left of a row behind so many of its fields.
-#[inline]
+#[inline(always)]
 pub fn pass_fields<'a>(rest: RowRest<'a>, count: usize, dialect: &Dialect<'_>) -> RowRest<'a>
     ensures left { fields_left (marks_of dialect.now) result ≡ drop count (fields_left (marks_of dialect.now) rest.entry) }
     ensures behind { behind_row (marks_of dialect.now) result ≡ behind_row (marks_of dialect.now) rest.entry }

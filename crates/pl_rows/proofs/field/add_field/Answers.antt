@@ -1,4 +1,4 @@
-use Rattle.std.proofs.Common.{sym, ap, subst}
+use Rattle.std.proofs.Common.{ap, subst}
 use Rattle.pl_cells.specs.InitBuffers.{state_of}
 use Rattle.pl_cells.specs.BufferValue.{Answers, reading_with}
 use Rattle.pl_cells.specs.Cells.{Cell}

@@ -1,10 +1,10 @@
-use Rattle.std.proofs.Common.{◌≡◌, ◌<◌, ◌≤◌, [], length, drop, eqb-true, refl, sym, ◌∙◌, ap, arith}
+use Rattle.std.proofs.Common.{◌≡◌, ◌<◌, ◌≤◌, length, eqb-true, sym, ◌∙◌, arith}
 use Rattle.std.proofs.lemmas.Bool.Decides.{nat_tests}
 use Rattle.std.proofs.lemmas.List.{length-map}
 use Rattle.pl_rows.specs.Plan.{states}
 use Rattle.pl_rows.proofs.ExcessLaws.{length-nil}
 use Rattle.pl_rows.proofs.PlanLaws.{CanRead-more}
-use Rattle.pl_rows.proofs.RangeLaws.{IsAtRow, HasReadRange, HasReadRows-start, HasReadRows-more, HasReadRows-comment, HasReadRange-closed, HasReadRange-open, HasReadRange-fault, HasReadRows-back, rows_left-none, rows_left-past}
+use Rattle.pl_rows.proofs.RangeLaws.{IsAtRow, HasReadRows-start, HasReadRows-more, HasReadRows-comment, HasReadRange-closed, HasReadRange-open, HasReadRange-fault, HasReadRows-back, rows_left-none}
 use Rattle.pl_rows.proofs.range.read_range.Goals as goal
 
 pub loop-rest-init : goal.loop-rest-init

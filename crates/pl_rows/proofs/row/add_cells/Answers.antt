@@ -1,4 +1,4 @@
-use Rattle.std.proofs.Common.{◌≡◌, ◌<◌, ◌+◌, ◌^◌, ◌∷◌, Fits, Ok, set, get_or, length, drop, refl, sym, ◌∙◌, ap, subst, arith}
+use Rattle.std.proofs.Common.{◌≡◌, ◌<◌, ◌+◌, ◌∷◌, Ok, set, get_or, length, drop, refl, sym, ◌∙◌, ap, subst, arith}
 use Rattle.std.proofs.lemmas.List.{get_or-map, map-set, length-map, drop_more}
 use Rattle.std.proofs.Math.Seq.{map-set_same}
 use Rattle.pl_scan.specs.Dialect.{marks_of}
@@ -8,7 +8,6 @@ use Rattle.pl_rows.specs.Cells.{cell}
 use Rattle.pl_rows.specs.Plan.{states, rules_of}
 use Rattle.pl_rows.specs.RowRest.{fields_left}
 use Rattle.pl_rows.specs.Rows.{field_at}
-use Rattle.pl_rows.specs.Steps.{IsCellsFault}
 use Rattle.pl_rows.proofs.RowLaws.{HasReadColumns, IsAt, HasReadColumns-more, next_place, cells_fault}
 use Rattle.pl_rows.proofs.RuleLaws.{FollowsRules-at}
 use Rattle.pl_rows.proofs.row.add_cells.Goals as goal

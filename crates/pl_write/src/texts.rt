@@ -1,5 +1,5 @@
 //! Texts and nulls as they are written.
-ghost use Rattle.std.specs.Prelude.{◌≡◌, ◌++◌, ◌∷◌, ◌==◌, ◌||◌, [], OnOk, if◌then◌else◌};
+ghost use Rattle.std.specs.Prelude.{◌≡◌, ◌++◌, ◌∷◌, ◌==◌, ◌||◌, ◌≤◌, [], length, take, drop, OnOk, if◌then◌else◌};
 ghost use Rattle.pl_frame.specs.Text.{needs_quotes, doubled, quoted, quoted_null, written_text, written_null};
 ghost use Rattle.pl_write.specs.Options.{cell_options};
 ghost use Rattle.pl_write.specs.Writing.{StaysInFront};
@@ -31,6 +31,63 @@ fn push_doubled(block: &mut Vec<u8>, text: &[u8], quote: u8) -> Result<(), Alloc
         rest = &behind[1..];
     }
     block.extend_from_slice(rest)?;
+    Ok(())
+}
+
+// Doubles each quote from a place of the block on, by way of a copy in `scratch`.
+#[tactic(auto, using(crate::proofs::KeptLaws::keeping))]
+#[cold]
+fn double_by_copy(
+    block: &mut Vec<u8>,
+    scratch: &mut Vec<u8>,
+    start: usize,
+    quote: u8,
+) -> Result<(), AllocError>
+    requires { start ≤ length block.old.items }
+    ensures text { OnOk result (block.new.items ≡ take start block.old.items ++ doubled quote (drop start block.old.items)) }
+    ensures kept { StaysInFront (take start block.old.items) block.new.items }
+{
+    scratch.clear();
+    scratch.extend_from_slice(&block[start..])?;
+    block.truncate(start);
+    push_doubled(block, scratch, quote)
+}
+
+// Doubles each quote from a place of the block on. Where there is none, which is nearly always, nothing is copied.
+#[tactic(auto, using(crate::proofs::KeptLaws::keeping))]
+#[inline]
+fn double_from(
+    block: &mut Vec<u8>,
+    scratch: &mut Vec<u8>,
+    start: usize,
+    quote: u8,
+) -> Result<(), AllocError>
+    requires { start ≤ length block.old.items }
+    ensures text { OnOk result (block.new.items ≡ take start block.old.items ++ doubled quote (drop start block.old.items)) }
+    ensures kept { StaysInFront (take start block.old.items) block.new.items }
+{
+    match memchr(quote, &block[start..]) {
+        None => Ok(()),
+        Some(_) => double_by_copy(block, scratch, start, quote),
+    }
+}
+
+/// Closes a quoted text, of which the quote before it and the text itself stand at the end of the block, the text from
+/// `start` on. `scratch` is a buffer for its own use, of which nothing is expected.
+#[tactic(auto, using(crate::proofs::KeptLaws::keeping))]
+#[inline]
+pub(crate) fn close_quoted(
+    block: &mut Vec<u8>,
+    scratch: &mut Vec<u8>,
+    start: usize,
+    quote: u8,
+) -> Result<(), AllocError>
+    requires { start ≤ length block.old.items }
+    ensures text { OnOk result (block.new.items ≡ take start block.old.items ++ (doubled quote (drop start block.old.items) ++ quote ∷ [])) }
+    ensures kept { StaysInFront (take start block.old.items) block.new.items }
+{
+    double_from(block, scratch, start, quote)?;
+    block.push(quote)?;
     Ok(())
 }
 

@@ -4,14 +4,14 @@ ghost use Rattle.pl_frame.specs.Columns.{is_number_of};
 ghost use Rattle.pl_frame.specs.Frame.{Truth};
 ghost use Rattle.pl_frame.specs.Types.{is_numeric, is_within, datetime_range, range_of, units_in_second};
 ghost use Rattle.pl_frame.specs.Printed.{datetime_text, number_text, printed};
-ghost use Rattle.pl_frame.specs.Text.{is_bare, written_value};
+ghost use Rattle.pl_frame.specs.Text.{is_bare, quoted, written_value};
 ghost use Rattle.pl_write.specs.Options.{cell_options, style_number};
 ghost use Rattle.pl_write.specs.Writing.{StaysInFront};
 
 use crate::dates::push_date;
 use crate::decimals::push_decimal;
 use crate::options::{QuoteStyle, SerializeOptions};
-use crate::texts::push_quoted;
+use crate::texts::close_quoted;
 use crate::times::{push_datetime, push_time};
 use crate::wholes::push_whole;
 use pl_frame::data_type::DataType;
@@ -46,6 +46,45 @@ fn push_truth(block: &mut Vec<u8>, dtype: &DataType, truth: bool) -> Result<(), 
     } else {
         block.extend_from_slice(b"false")
     }
+}
+
+// Appends a number between quotes, with each quote in it doubled.
+#[tactic(auto, using(crate::proofs::KeptLaws::keeping))]
+#[inline]
+fn push_quoted_number(
+    block: &mut Vec<u8>,
+    scratch: &mut Vec<u8>,
+    dtype: &DataType,
+    number: i128,
+    quote: u8,
+) -> Result<(), AllocError>
+    requires { is_number_of dtype.now number ≡ true }
+    ensures text { OnOk result (block.new.items ≡ block.old.items ++ quoted quote (number_text dtype.now number)) }
+    ensures kept { StaysInFront block.old.items block.new.items }
+{
+    block.push(quote)?;
+    let start = block.len();
+    push_number(block, dtype, number)?;
+    close_quoted(block, scratch, start, quote)
+}
+
+// Appends a truth value between quotes, with each quote in it doubled.
+#[tactic(auto, using(crate::proofs::KeptLaws::keeping))]
+#[inline]
+fn push_quoted_truth(
+    block: &mut Vec<u8>,
+    scratch: &mut Vec<u8>,
+    dtype: &DataType,
+    truth: bool,
+    quote: u8,
+) -> Result<(), AllocError>
+    ensures text { OnOk result (block.new.items ≡ block.old.items ++ quoted quote (printed dtype.now (Truth truth))) }
+    ensures kept { StaysInFront block.old.items block.new.items }
+{
+    block.push(quote)?;
+    let start = block.len();
+    push_truth(block, dtype, truth)?;
+    close_quoted(block, scratch, start, quote)
 }
 
 // Whether values of a type are numbers, dates and times not among them.
@@ -88,9 +127,7 @@ pub(crate) fn push_number_cell(
     ensures kept { StaysInFront block.old.items block.new.items }
 {
     if is_quoted(dtype, options.quote_style) {
-        scratch.clear();
-        push_number(scratch, dtype, number)?;
-        push_quoted(block, scratch, options.quote_char)
+        push_quoted_number(block, scratch, dtype, number, options.quote_char)
     } else {
         push_number(block, dtype, number)
     }
@@ -111,9 +148,7 @@ pub(crate) fn push_truth_cell(
     ensures kept { StaysInFront block.old.items block.new.items }
 {
     if is_quoted(dtype, options.quote_style) {
-        scratch.clear();
-        push_truth(scratch, dtype, truth)?;
-        push_quoted(block, scratch, options.quote_char)
+        push_quoted_truth(block, scratch, dtype, truth, options.quote_char)
     } else {
         push_truth(block, dtype, truth)
     }

@@ -5,7 +5,7 @@ ghost use Rattle.pl_rows.specs.Plan.{AreRising};
 use crate::columns::into_columns;
 use crate::plan::{Projection, RangePlan, RowOptions};
 use crate::range::{RangeEnd, read_range};
-use pl_cells::buffers::init_buffers;
+use pl_cells::init_buffers::init_buffers;
 use pl_cells::utf8::CsvEncoding;
 use pl_frame::column::Column;
 use pl_frame::data_type::DataType;

@@ -62,8 +62,10 @@ fn add_cells<'a>(
     requires { CanRead plan.now (states buffers.old) }
     ensures { MatchResult result (HasAddedCells plan.now bytes.now (states buffers.old) (states buffers.new)) (λ wrong. IsCellsFault plan.now bytes.now (states buffers.old) (states buffers.new) wrong.0 wrong.1) }
 {
-    let dialect = plan.dialect;
-    let places = plan.projection.places;
+    // A copy of its own lies in registers, whatever is written to the buffers.
+    let own = *plan;
+    let dialect = own.dialect;
+    let places = own.projection.places;
     // Each place is below it, so one more fits.
     let _width = plan.projection.width;
     let mut rest = RowRest::Fields(bytes);
@@ -72,7 +74,7 @@ fn add_cells<'a>(
         let place = places[index];
         let begin = pass_fields(rest, place - next, &dialect);
         let (field, behind) = next_field(begin, &dialect);
-        match add_field(buffer, place, field, plan) {
+        match add_field(buffer, place, field, &own) {
             Ok(()) => rest = behind,
             Err(fault) => return Err((index, row_fault(place, fault))),
         }

@@ -1,0 +1,61 @@
+-- The first of several causes.
+use Rattle.std.proofs.Common.{◌≡◌, List, [], ◌∷◌, ◌++◌, refl, ◌∙◌, inl, inr}
+use Rattle.std.specs.Prelude.{Option, None, Some}
+use Rattle.pl_frame.specs.declared.error.PolarsError.{PolarsError}
+use Rattle.pl_read.specs.Refusals.{first_some}
+use Rattle.pl_read.specs.Steps.{IsFault}
+
+-- of one cause
+pub first_some-one : {X : Type 0} (x : Option X) → first_some (x ∷ []) ≡ x
+first_some-one None = refl
+first_some-one (Some x) = refl
+
+-- behind one that is not there
+pub first_some-behind : {X : Type 0} (x : Option X) (xs : List (Option X)) → x ≡ None → first_some (x ∷ xs) ≡ first_some xs
+first_some-behind x xs none = rw none refl
+
+-- one that is there
+pub first_some-here : {X : Type 0} (x : Option X) (xs : List (Option X)) (y : X) → x ≡ Some y → first_some (x ∷ xs) ≡ Some y
+first_some-here x xs y some = rw some refl
+
+-- where none of some causes is there, it is the first of the others
+pub first_some-late : {X : Type 0} (xs ys : List (Option X)) → first_some xs ≡ None → first_some (xs ++ ys) ≡ first_some ys
+first_some-late [] ys none = refl
+first_some-late (None ∷ xs) ys none = first_some-late xs ys none
+first_some-late (Some x ∷ xs) ys none = cc
+
+-- where one is there, it is the first of them with others behind
+pub first_some-early : {X : Type 0} (xs ys : List (Option X)) (y : X) → first_some xs ≡ Some y → first_some (xs ++ ys) ≡ Some y
+first_some-early [] ys y some = cc
+first_some-early (None ∷ xs) ys y some = first_some-early xs ys y some
+first_some-early (Some x ∷ xs) ys y some = some
+
+-- where none of several is there, none is in the front
+pub first_some-front : {X : Type 0} (x : Option X) (xs : List (Option X)) → first_some (x ∷ xs) ≡ None → x ≡ None
+first_some-front None xs none = refl
+first_some-front (Some x) xs none = cc
+
+-- nor behind it
+pub first_some-rest : {X : Type 0} (x : Option X) (xs : List (Option X)) → first_some (x ∷ xs) ≡ None → first_some xs ≡ None
+first_some-rest None xs none = none
+first_some-rest (Some x) xs none = cc
+
+-- a fault of the first cause
+pub fault-here : (x : Option PolarsError) (xs : List (Option PolarsError)) (fault : PolarsError) → IsFault x fault → IsFault (first_some (x ∷ xs)) fault
+fault-here x xs fault (inl some) = inl (first_some-here x xs fault some)
+fault-here x xs fault (inr wanting) = inr wanting
+
+-- a fault of a later cause
+pub fault-behind : (x : Option PolarsError) (xs : List (Option PolarsError)) (fault : PolarsError) → x ≡ None → IsFault (first_some xs) fault → IsFault (first_some (x ∷ xs)) fault
+fault-behind x xs fault none (inl some) = inl (first_some-behind x xs none ∙ some)
+fault-behind x xs fault none (inr wanting) = inr wanting
+
+-- a fault of one of several causes
+pub fault-early : (xs ys : List (Option PolarsError)) (fault : PolarsError) → IsFault (first_some xs) fault → IsFault (first_some (xs ++ ys)) fault
+fault-early xs ys fault (inl some) = inl (first_some-early xs ys fault some)
+fault-early xs ys fault (inr wanting) = inr wanting
+
+-- a fault of a cause behind several
+pub fault-late : (xs ys : List (Option PolarsError)) (fault : PolarsError) → first_some xs ≡ None → IsFault (first_some ys) fault → IsFault (first_some (xs ++ ys)) fault
+fault-late xs ys fault none (inl some) = inl (first_some-late xs ys none ∙ some)
+fault-late xs ys fault none (inr wanting) = inr wanting

@@ -1,0 +1,4 @@
+pub mod PlaceLaws
+pub mod CauseLaws
+pub mod SettlingLaws
+pub mod ProjectionLaws

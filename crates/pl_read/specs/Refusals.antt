@@ -1,0 +1,140 @@
+-- Why an input has no frame: the causes in their order (docs/refusals.md).
+use Rattle.std.specs.Prelude.{◌≡◌, ℕ, ◌^◌, ◌+◌, Bool, true, false, not, ◌&&◌, ◌||◌, ◌==◌, nat_lt, if◌then◌else◌, List, [], ◌∷◌, ◌++◌, length, map, position, find, Option, None, Some, unwrap_or, is_none, ◌⊎◌}
+use Rattle.std.specs.Option.{option_map, option_and_then, option_map_or}
+use Rattle.pl_frame.specs.declared.error.FaultKind.{FaultKind}
+use Rattle.pl_frame.specs.declared.error.PolarsError.{PolarsError}
+use Rattle.pl_frame.specs.declared.error.PolarsError.TheVariants as error
+use Rattle.pl_frame.specs.declared.error.OpFault.TheVariants as op_fault
+use Rattle.pl_frame.specs.declared.error.ComputeFault.TheVariants as compute_fault
+use Rattle.pl_frame.specs.declared.error.NoDataFault.TheVariants as no_data
+use Rattle.pl_frame.specs.declared.error.NamePlace.TheVariants as name_place
+use Rattle.pl_frame.specs.declared.data_type.DataType.{DataType}
+use Rattle.pl_frame.specs.declared.data_type.DataType.TheVariants as dtype
+use Rattle.pl_frame.specs.Columns.{dictionary}
+use Rattle.pl_frame.specs.Compression.{is_compressed}
+use Rattle.pl_frame.specs.Dialect.{IsDialect}
+use Rattle.pl_frame.specs.Frame.{ColumnValue}
+use Rattle.pl_frame.specs.Schema.{Entry}
+use Rattle.pl_frame.specs.Types.{is_readable}
+use Rattle.pl_cells.specs.NullValues.{unknown_name}
+use Rattle.pl_infer.specs.declared.read_options.CsvReadOptions.{CsvReadOptions}
+use Rattle.pl_infer.specs.declared.row_index.RowIndex.{RowIndex}
+use Rattle.pl_rows.specs.Rows.{first_faulty}
+use Rattle.pl_read.specs.Options.{marks_of, comment_of, data_of, rules_of}
+use Rattle.pl_read.specs.Projection.{projected, unknown_column, outside, doubled_name, taken_name}
+use Rattle.pl_read.specs.Rows.{columns_read, rows_in, data_columns}
+
+-- a refusal, where something holds
+abbrev pub when : Bool → PolarsError → Option PolarsError
+when holds refusal = if holds then Some refusal else None
+
+-- the first that is there
+abbrev pub first_some : {X : Type 0} → List (Option X) → Option X
+first_some [] = None
+first_some (None ∷ others) = first_some others
+first_some (Some x ∷ others) = Some x
+
+-- ---- the options
+
+-- a count is given, and it is 0
+abbrev pub is_zero : Option ℕ → Bool
+is_zero count = option_map_or (λ n. n == 0) count false
+
+-- an option has a value that it may not have: no workers, pieces of no bytes, lines and rows before the header that are both
+-- to be skipped, or fields to cast
+abbrev pub has_wrong_option : CsvReadOptions → Bool
+has_wrong_option o =
+    is_zero o.n_threads || (o.chunk_size == 0 || ((nat_lt 0 o.skip_lines && nat_lt 0 o.skip_rows) || nat_lt 0 (length o.fields_to_cast)))
+
+-- ---- the schema
+
+-- more types are given than the schema has columns
+abbrev pub overrides : CsvReadOptions → List Entry → Option PolarsError
+overrides o schema =
+    let given = length (unwrap_or o.dtype_overwrite []) in
+    when (nat_lt (length schema) given) (error.InvalidOperation (op_fault.Overrides given (length schema)))
+
+-- the types of the columns
+abbrev pub types_of : List Entry → List DataType
+types_of schema = map (λ column. column.1) schema
+
+-- the least column whose type can't be read
+abbrev pub first_unreadable : List Entry → Option ℕ
+first_unreadable schema = position (λ type. not (is_readable type)) (types_of schema)
+
+abbrev pub unreadable : List Entry → Option PolarsError
+unreadable schema = option_map (λ column. error.ComputeError (compute_fault.Dtype column)) (first_unreadable schema)
+
+-- the first name of the null values, or else of the asked columns, that the schema doesn't have
+abbrev pub unknown : CsvReadOptions → List Entry → Option PolarsError
+unknown o schema =
+    option_map error.ColumnNotFound (first_some (option_and_then (unknown_name schema) o.parse_options.null_values ∷ unknown_column o schema ∷ []))
+
+-- ---- the projection
+
+-- the greatest place that is given and is none of the schema's
+abbrev pub out_of_bounds : CsvReadOptions → List Entry → Option PolarsError
+out_of_bounds o schema = option_map (λ place. error.OutOfBounds place (length schema)) (outside o schema)
+
+-- a column that is asked twice, or the row index with the name of a column that is read
+abbrev pub duplicate : CsvReadOptions → List Entry → Option PolarsError
+duplicate o schema = option_map (λ name. error.Duplicate name name_place.Projection) (first_some (doubled_name o schema ∷ taken_name o schema ∷ []))
+
+-- no column is read, and there is data
+abbrev pub nothing_read : CsvReadOptions → List Entry → List ℕ → Option PolarsError
+nothing_read o schema records = when (length (projected o schema) == 0 && nat_lt 0 (length records)) error.EmptyProjection
+
+-- ---- the rows
+
+-- the least row with a fault, and its first fault
+abbrev pub faulty_record : CsvReadOptions → List Entry → List ℕ → Option PolarsError
+faulty_record o schema records =
+    option_map (λ found. error.ComputeError (compute_fault.Record found.0 found.1.0 found.1.1)) (first_faulty (rules_of o schema) (columns_read o schema) 0 (rows_in o records))
+
+-- the last of so many numbers of a row index does not fit 32 bits
+abbrev pub numbers_past : Option RowIndex → ℕ → Option PolarsError
+numbers_past None count = None
+numbers_past (Some index) count = when (nat_lt (2 ^ 32) (index.offset + count)) (error.ComputeError (compute_fault.Index index.offset count))
+
+-- the type `Categorical`
+abbrev pub is_categorical : DataType → Bool
+is_categorical dtype.Categorical = true
+is_categorical _ = false
+
+-- the last code of a category of the column does not fit 32 bits
+abbrev pub codes_past : ColumnValue → Option PolarsError
+codes_past column =
+    let texts = length (dictionary column.dtype column.values) in
+    when (is_categorical column.dtype && nat_lt (2 ^ 32) texts) (error.ComputeError (compute_fault.Index 0 texts))
+
+-- the last number of a row index of so many rows, or else of a code of a category of one of these columns
+abbrev pub index_past : Option RowIndex → ℕ → List ColumnValue → Option PolarsError
+index_past index count columns = first_some (numbers_past index count ∷ map codes_past columns)
+
+-- ---- all of them
+
+-- the causes that stand before the quote of an output, given whether the marks are a dialect
+abbrev pub early_causes : CsvReadOptions → Bool → List (Option PolarsError)
+early_causes o is_dialect =
+    when (not is_dialect) (error.InvalidOperation op_fault.Dialect)
+    ∷ when (has_wrong_option o) (error.InvalidOperation op_fault.Option)
+    ∷ []
+
+-- the causes that stand behind it, given the settled schema
+abbrev pub late_causes : CsvReadOptions → List Entry → List ℕ → List (Option PolarsError)
+late_causes o schema input =
+    when (is_compressed input) (error.ComputeError compute_fault.Compressed)
+    ∷ overrides o schema
+    ∷ unreadable schema
+    ∷ unknown o schema
+    ∷ when (is_none (data_of o input)) (error.NoData no_data.Skip)
+    ∷ out_of_bounds o schema
+    ∷ duplicate o schema
+    ∷ option_and_then (nothing_read o schema) (data_of o input)
+    ∷ option_and_then (faulty_record o schema) (data_of o input)
+    ∷ option_and_then (λ records. index_past o.row_index (length (rows_in o records)) (data_columns o schema records)) (data_of o input)
+    ∷ []
+
+-- the causes against the frame of an input, in their order
+abbrev pub read_causes : CsvReadOptions → List Entry → List ℕ → Bool → List (Option PolarsError)
+read_causes o schema input is_dialect = early_causes o is_dialect ++ late_causes o schema input

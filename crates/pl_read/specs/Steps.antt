@@ -1,0 +1,72 @@
+-- What the steps of a read answer.
+use Rattle.std.specs.Prelude.{◌≡◌, ◌⊎◌, ℕ, zero, suc, Bool, true, false, List, [], ◌∷◌, length, drop, Option, None, Some, map}
+use Rattle.std.specs.List.{range_with_len}
+use Rattle.std.specs.Option.{option_and_then}
+use Rattle.pl_frame.specs.declared.error.PolarsError.{PolarsError}
+use Rattle.pl_frame.specs.declared.error.PolarsError.TheVariants as error
+use Rattle.pl_frame.specs.Schema.{Entry}
+use Rattle.pl_cells.specs.NullValues.{unknown_name}
+use Rattle.pl_infer.specs.declared.read_options.CsvReadOptions.{CsvReadOptions}
+use Rattle.pl_read.specs.Options.{settled}
+use Rattle.pl_read.specs.declared.projecting.Times.{Times}
+use Rattle.pl_read.specs.declared.projecting.Times.TheVariants as times
+use Rattle.pl_read.specs.Projection.{times_asked}
+use Rattle.pl_read.specs.Reading.{IsFirstCause}
+use Rattle.pl_read.specs.Rows.{rows_in, data_columns}
+use Rattle.pl_read.specs.Refusals.{first_some, early_causes, late_causes, overrides, unreadable, out_of_bounds, duplicate, faulty_record, index_past}
+
+-- the fault is this one; or memory is wanting, which may be at any time
+abbrev pub IsFault : Option PolarsError → PolarsError → Type 0
+IsFault first fault = (first ≡ Some fault) ⊎ (fault ≡ error.OutOfMemory)
+
+-- the marks are a dialect, and no option has a value that it may not have
+abbrev pub MayRead : CsvReadOptions → Type 0
+MayRead o = IsFirstCause (early_causes o) o.parse_options None
+
+-- the first of the causes behind those
+abbrev pub late_cause : CsvReadOptions → List Entry → List ℕ → Option PolarsError
+late_cause o schema input = first_some (late_causes o schema input)
+
+-- the first cause against a schema with the types that the options give, that schema being given
+abbrev pub settling_cause : CsvReadOptions → List Entry → Option PolarsError
+settling_cause o given = first_some (overrides o (settled o given) ∷ unreadable (settled o given) ∷ [])
+
+-- the first of the null values' names that the schema doesn't have
+abbrev pub unknown_null : CsvReadOptions → List Entry → Option (List ℕ)
+unknown_null o schema = option_and_then (unknown_name schema) o.parse_options.null_values
+
+-- the first cause against the projection
+abbrev pub projection_cause : CsvReadOptions → List Entry → Option PolarsError
+projection_cause o schema = first_some (out_of_bounds o schema ∷ duplicate o schema ∷ [])
+
+-- the first cause against data
+abbrev pub data_cause : CsvReadOptions → List Entry → List ℕ → Option PolarsError
+data_cause o schema records = first_some (faulty_record o schema records ∷ index_past o.row_index (length (rows_in o records)) (data_columns o schema records) ∷ [])
+
+-- the first cause against an input behind those that stand against its schema's types
+abbrev pub settled_cause : CsvReadOptions → List Entry → List ℕ → Option PolarsError
+settled_cause o schema input = first_some (drop 3 (late_causes o schema input))
+
+-- ---- how often places are asked
+
+-- once more
+abbrev pub once_more : Times → Times
+once_more times.Never = times.Once
+once_more _ = times.More
+
+abbrev pub is_asked : Times → Bool
+is_asked times.Never = false
+is_asked _ = true
+
+abbrev pub is_more : Times → Bool
+is_more times.More = true
+is_more _ = false
+
+-- how often that many times are
+abbrev pub times_of : ℕ → Times
+times_of zero = times.Never
+times_of (suc n) = once_more (times_of n)
+
+-- how often each place below a width is asked
+abbrev pub all_times : List ℕ → ℕ → List Times
+all_times places width = map (λ place. times_of (times_asked places place)) (range_with_len 0 width)

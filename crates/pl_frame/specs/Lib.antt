@@ -14,6 +14,7 @@ pub mod Opening
 pub mod Optional
 pub mod Outside
 pub mod Printed
+pub mod RowIndex
 pub mod Schema
 pub mod Text
 pub mod Types

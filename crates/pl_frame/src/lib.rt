@@ -20,6 +20,7 @@ pub mod opener;
 pub mod places;
 pub mod range;
 pub mod read_all;
+pub mod row_index;
 pub mod schema;
 pub mod sink;
 pub mod source;

@@ -9,6 +9,8 @@ pub mod Dialect
 pub mod Equal
 pub mod EqualLaws
 pub mod Frame
+pub mod FrameParts
+pub mod GatheredCells
 pub mod Names
 pub mod Opening
 pub mod Optional

@@ -13,6 +13,7 @@ pub mod data_type;
 pub mod equal;
 pub mod error;
 pub mod frame;
+mod gathered;
 pub mod laws;
 pub mod name;
 pub mod numbers;

@@ -3,7 +3,7 @@ use Rattle.std.proofs.Common.{◌≡◌, ℕ, ℤ, zero, suc, ◌+◌, ◌-◌, 
 use Rattle.std.specs.Option.{option_map, option_map_or}
 use Rattle.std.specs.Str.{is_utf8}
 use borrow.Author.Tests.{ltb-true, ltb-false}
-use Rattle.std.proofs.lemmas.List.{map_push, get_or_append_left, get_or_push, length_push, replicate_more, take_more, get_or_default, get_or-drop}
+use Rattle.std.proofs.lemmas.List.{map_push, get_or_append_left, get_or_push, length_push, replicate_more, take_more, get_or-drop, length-drop}
 use Rattle.std.proofs.lemmas.List.Folds.{list_any_at}
 use Rattle.pl_frame.specs.declared.data_type.DataType.{DataType}
 use Rattle.pl_frame.specs.declared.data_type.DataType.TheVariants as dtype
@@ -194,3 +194,36 @@ null_more type len more cell is fits e = ap (λ n. replicate n None) e ∙ sym (
     same (Some (Truth b)) h = absurd_true h
     same (Some (Number n)) h = absurd_true h
     same (Some (Letters t)) h = absurd_true (sym (never (is_utf8 t)) ∙ h)
+
+-- ---- rows
+
+-- one row more of those from one on
+pub rows_more : (values start made new : List (Option Scalar)) (from row : ℕ) → from ≤ row → row < length values → made ≡ start ++ take (row - from) (drop from values) →
+    new ≡ made ++ unwrap_or (slice_get values row) None ∷ [] → new ≡ start ++ take (row + 1 - from) (drop from values)
+rows_more values start made new from row behind within before e =
+    let inside : row - from < length (drop from values) = let size = length-drop from values in omega (arith, size, behind, within) in
+    let next : row - from + 1 ≡ row + 1 - from = omega (arith, behind) in
+    let here : from + (row - from) ≡ row = omega (arith, behind) in
+    e ∙ (λ j. before j ++ (cell_is values row ∙ ap (λ n. get_or values n None) (sym here) ∙ sym (get_or-drop from values (row - from) None)) j ∷ [])
+    ∙ append_assoc start (take (row - from) (drop from values)) (get_or (drop from values) (row - from) None ∷ [])
+    ∙ ap (λ rest. start ++ rest) (sym (take_more (drop from values) (row - from) None inside) ∙ ap (λ n. take n (drop from values)) next)
+
+-- one row more of those whose flag is set
+kept_more : {X : Type 0} (flags : List Bool) (values : List X) (i : ℕ) (f : Bool) (d : X) → i < length flags → i < length values → f ≡ get_or flags i false →
+    kept_of (take (suc i) flags) (take (suc i) values) ≡ kept_of (take i flags) (take i values) ++ (if f then get_or values i d ∷ [] else [])
+kept_more [] values i f d l m e = absurd (omega arith)
+kept_more (g ∷ gs) [] i f d l m e = absurd (omega arith)
+kept_more (true ∷ gs) (v ∷ vs) zero f d l m e = ap (λ b. if b then v ∷ [] else []) (sym e)
+kept_more (false ∷ gs) (v ∷ vs) zero f d l m e = ap (λ b. if b then v ∷ [] else []) (sym e)
+kept_more (true ∷ gs) (v ∷ vs) (suc i) f d l m e = ap (λ rest. v ∷ rest) (kept_more gs vs i f d (omega arith) (omega arith) e)
+kept_more (false ∷ gs) (v ∷ vs) (suc i) f d l m e = kept_more gs vs i f d (omega arith) (omega arith) e
+
+pub flagged_more : (flags : List Bool) (values start made new : List (Option Scalar)) (row : ℕ) (flag : Bool) → length flags ≡ length values → row < length flags →
+    flag ≡ get_or flags row false → made ≡ start ++ kept_of (take row flags) (take row values) →
+    new ≡ made ++ (if flag then unwrap_or (slice_get values row) None ∷ [] else []) → new ≡ start ++ kept_of (take (row + 1) flags) (take (row + 1) values)
+flagged_more flags values start made new row flag one_length within at before e =
+    let next : suc row ≡ row + 1 = omega arith in
+    e ∙ (λ j. before j ++ (if flag then cell_is values row j ∷ [] else []))
+    ∙ append_assoc start (kept_of (take row flags) (take row values)) (if flag then get_or values row None ∷ [] else [])
+    ∙ ap (λ rest. start ++ rest) (sym (kept_more flags values row flag None within (omega (arith, within, one_length)) at))
+    ∙ ap (λ n. start ++ kept_of (take n flags) (take n values)) next

@@ -1,5 +1,5 @@
 //! Cells that are gathered for a column, one behind the other.
-ghost use Rattle.std.specs.Prelude.{◌≡◌, ◌<◌, ◌≤◌, ◌+◌, ◌-◌, [], ◌∷◌, ◌++◌, length, take, drop, OnOk};
+ghost use Rattle.std.specs.Prelude.{◌≡◌, ◌<◌, ◌≤◌, ◌+◌, ◌-◌, [], ◌∷◌, ◌++◌, length, take, drop, if◌then◌else◌, OnOk};
 ghost use Rattle.pl_frame.specs.Columns.{scalar_of};
 ghost use Rattle.pl_frame.specs.FrameParts.{kept_of};
 ghost use Rattle.pl_frame.specs.Frame.{cell_at};
@@ -104,9 +104,21 @@ impl Gathered {
         ensures cells { OnOk result (cells_so_far column.now.dtype self.new ≡ cells_so_far column.now.dtype self.old ++ kept_of keep.now column.now.values) }
     {
         for (row, flag) in keep.iter().enumerate() {
-            if *flag {
-                self.push(column, row)?;
-            }
+            self.push_if(*flag, column, row)?;
+        }
+        Ok(())
+    }
+
+    // Puts the cell of a row at the end where the flag is set. Refuses only want of memory.
+    #[inline]
+    fn push_if(&mut self, flag: bool, column: &Column, row: usize) -> Result<(), AllocError>
+        requires suits { SuitsType column.now.dtype self.old }
+        requires row { row < length column.now.values }
+        ensures suits { OnOk result (SuitsType column.now.dtype self.new) }
+        ensures cells { OnOk result (cells_so_far column.now.dtype self.new ≡ cells_so_far column.now.dtype self.old ++ (if flag then cell_at column.now row ∷ [] else [])) }
+    {
+        if flag {
+            return self.push(column, row);
         }
         Ok(())
     }

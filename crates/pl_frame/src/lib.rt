@@ -7,6 +7,7 @@ pub mod codes;
 pub mod column;
 #[cfg(test)]
 mod column_kinds;
+mod column_parts;
 pub mod compression;
 pub mod constructors;
 pub mod data_type;

@@ -56,9 +56,9 @@ impl Column {
         ensures refused { IsOkUnless result error.OutOfMemory }
     {
         let mut gathered = Gathered::new(alloc, self.dtype());
-        if gathered.push_rows(self, 0, self.len()).is_err() {
+        let Ok(()) = gathered.push_rows(self, 0, self.len()) else {
             return Err(PolarsError::OutOfMemory);
-        }
+        };
         match gathered.push_rows(other, 0, other.len()) {
             Ok(()) => with_cells(alloc, self, gathered),
             Err(_) => Err(PolarsError::OutOfMemory),

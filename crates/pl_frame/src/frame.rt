@@ -1,5 +1,5 @@
 //! Frames: columns of one height with distinct names.
-ghost use Rattle.std.specs.Prelude.{◌≡◌, ◌<◌, ◌↔◌, IsTrue, length, IfSome, IfOk, OnOk, OnErr, IfErr, true, IsOkUnless, None, Some, slice_get, slice_set, slice_index_or, []};
+ghost use Rattle.std.specs.Prelude.{◌≡◌, ◌<◌, ◌↔◌, IsTrue, length, IfSome, IfOk, OnOk, OnErr, IfErr, true, IsOkUnless, None, Some, slice_get, slice_set, slice_index_or, [], ◌∷◌};
 ghost use Rattle.std.specs.Bool.{Decides};
 ghost use Rattle.std.specs.Cmp.{partial_equiv_from_equiv};
 ghost use Rattle.std.specs.Cmp.Lexicographic.{lists_equiv, lists_per, pointwise};
@@ -116,6 +116,24 @@ impl DataFrame {
         ensures rows { height_of self.new ≡ height_of self.old }
     {
         self.columns[place] = column;
+    }
+
+    // Puts a column in front that has another name and as many rows. Refuses only want of memory, and is then as it was.
+    pub(crate) fn put_in_front(&mut self, column: Column) -> PolarsResult<()>
+        requires { IsFrame (column ∷ self.old) }
+        ensures put { OnOk result (self.new ≡ column ∷ self.old) }
+        ensures unchanged { OnErr result (self.new ≡ self.old) }
+        ensures refused { IsOkUnless result error.OutOfMemory }
+    {
+        match self.columns.insert(0, column) {
+            Ok(()) => Ok(()),
+            Err(_) => Err(PolarsError::OutOfMemory),
+        }
+    }
+
+    // What the columns took memory from.
+    pub(crate) fn allocator(&self) -> Global {
+        *self.columns.allocator()
     }
 
     /// The number of rows, without taking memory.

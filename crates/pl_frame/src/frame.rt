@@ -1,5 +1,5 @@
 //! Frames: columns of one height with distinct names.
-ghost use Rattle.std.specs.Prelude.{◌≡◌, ◌<◌, ◌↔◌, IsTrue, length, IfSome, IfOk, OnOk, OnErr, IfErr, true, IsOkUnless, None, Some, slice_get, slice_set, slice_index_or, [], ◌∷◌};
+ghost use Rattle.std.specs.Prelude.{◌≡◌, ◌<◌, ◌↔◌, IsTrue, length, IfSome, IfOk, OnOk, OnErr, IfErr, true, IsOkUnless, None, Some, slice_get, slice_set, slice_index_or, [], ◌∷◌, ◌++◌};
 ghost use Rattle.std.specs.Bool.{Decides};
 ghost use Rattle.std.specs.Cmp.{partial_equiv_from_equiv};
 ghost use Rattle.std.specs.Cmp.Lexicographic.{lists_equiv, lists_per, pointwise};
@@ -203,11 +203,21 @@ fn copy_columns(alloc: Global, columns: &[Column]) -> PolarsResult<Vec<Column>>
     let mut copies = Vec::new(alloc);
     for column in columns {
         let copy = column.try_clone()?;
-        if copies.push(copy).is_err() {
-            return Err(PolarsError::OutOfMemory);
-        }
+        push_column(&mut copies, copy)?;
     }
     Ok(copies)
+}
+
+// Puts a column at the end.
+#[inline]
+pub(crate) fn push_column(columns: &mut Vec<Column>, column: Column) -> PolarsResult<()>
+    ensures pushed { OnOk result (columns.new.items ≡ columns.old.items ++ column ∷ []) }
+    ensures refused { IsOkUnless result error.OutOfMemory }
+{
+    match columns.push(column) {
+        Ok(()) => Ok(()),
+        Err(_) => Err(PolarsError::OutOfMemory),
+    }
 }
 
 // The refusal of a name that stands twice.

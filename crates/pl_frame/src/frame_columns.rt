@@ -7,7 +7,7 @@ ghost use Rattle.pl_frame.specs.RowIndex.{row_index_column};
 
 use crate::column::Column;
 use crate::error::{ComputeFault, NamePlace, PolarsError, PolarsResult};
-use crate::frame::DataFrame;
+use crate::frame::{DataFrame, push_column};
 use crate::name::{PlSmallStr, has_name};
 use crate::schema::Schema;
 use std::alloc::Global;
@@ -75,9 +75,7 @@ fn columns_without_rows(alloc: Global, schema: &Schema) -> PolarsResult<Vec<Colu
             Some((name, dtype)) => Column::empty(alloc, name.as_str(), dtype)?,
             None => unreachable!(),
         };
-        if columns.push(column).is_err() {
-            return Err(PolarsError::OutOfMemory);
-        }
+        push_column(&mut columns, column)?;
     }
     Ok(columns)
 }
@@ -95,9 +93,7 @@ fn copy_columns_at(
     let mut copies = Vec::new(alloc);
     for place in which {
         let copy = columns[*place].try_clone()?;
-        if copies.push(copy).is_err() {
-            return Err(PolarsError::OutOfMemory);
-        }
+        push_column(&mut copies, copy)?;
     }
     Ok(copies)
 }

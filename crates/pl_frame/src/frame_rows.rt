@@ -8,8 +8,8 @@ ghost use Rattle.pl_frame.specs.Frame.{HaveHeight, height_of};
 ghost use Rattle.pl_frame.specs.FrameParts.{filtered, schema_of, sliced, stacked, HaveSameColumns};
 
 use crate::column::Column;
-use crate::error::{PolarsError, PolarsResult};
-use crate::frame::DataFrame;
+use crate::error::PolarsResult;
+use crate::frame::{DataFrame, push_column};
 use std::alloc::Global;
 
 impl DataFrame {
@@ -66,9 +66,7 @@ fn slice_columns(
     let mut parts = Vec::new(alloc);
     for column in columns {
         let part = column.slice(alloc, offset, count)?;
-        if parts.push(part).is_err() {
-            return Err(PolarsError::OutOfMemory);
-        }
+        push_column(&mut parts, part)?;
     }
     Ok(parts)
 }
@@ -82,9 +80,7 @@ fn filter_columns(alloc: Global, columns: &[Column], keep: &[bool]) -> PolarsRes
     let mut parts = Vec::new(alloc);
     for column in columns {
         let part = column.filter(alloc, keep)?;
-        if parts.push(part).is_err() {
-            return Err(PolarsError::OutOfMemory);
-        }
+        push_column(&mut parts, part)?;
     }
     Ok(parts)
 }
@@ -98,9 +94,7 @@ fn join_columns(alloc: Global, columns: &[Column], others: &[Column]) -> PolarsR
     let mut joined = Vec::new(alloc);
     for i in 0..columns.len() {
         let column = columns[i].joined(alloc, &others[i])?;
-        if joined.push(column).is_err() {
-            return Err(PolarsError::OutOfMemory);
-        }
+        push_column(&mut joined, column)?;
     }
     Ok(joined)
 }

@@ -1,0 +1,7 @@
+use Rattle.std.proofs.Common.{arith}
+use Rattle.pl_frame.proofs.FramePartLaws.{places_more}
+use Rattle.pl_frame.proofs.frame_columns.copy_columns_at.Goals as goal
+
+pub loop-place-preserved : goal.loop-place-preserved
+loop-place-preserved c =
+    places_more c.args.which.now c.args.columns.now _ _ c.loop-place.place-index _ _ (omega arith) ? ? c.in_ok-copy.ensures.equal c.loop-place.invariant c.in_ok-push_column.ensures.pushed

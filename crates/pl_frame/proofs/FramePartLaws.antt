@@ -77,8 +77,8 @@ frame_filtered flags columns made e frame = subst IsFrame (sym e) (frame_changed
 
 -- ---- rows behind others
 
-first_same : (a b : Entry) (as bs : List Entry) → a ∷ as ≡ b ∷ bs → (a ≡ b) × (as ≡ bs)
-first_same a b as bs e = (cc, cc)
+first_same : (a b : Entry) (xs ys : List Entry) → a ∷ xs ≡ b ∷ ys → (a ≡ b) × (xs ≡ ys)
+first_same a b xs ys e = (cc, cc)
 
 names_stacked : (columns others : List ColumnValue) → HaveSameColumns columns others → names_of (stacked columns others) ≡ names_of columns
 names_stacked [] others e = refl
@@ -212,7 +212,7 @@ columns_are : (places : List ℕ) (columns : List ColumnValue) → AreWithin pla
 columns_are [] columns within = refl
 columns_are (p ∷ ps) columns within = (λ j. option_to_list (slice_get-get_or columns p no_column within.0 j) ++ columns_are ps columns within.1 j)
 
-within_at : (places : List ℕ) (columns : List ColumnValue) (i : ℕ) → AreWithin places columns → i < length places → get_or places i 0 < length columns
+pub within_at : (places : List ℕ) (columns : List ColumnValue) (i : ℕ) → AreWithin places columns → i < length places → get_or places i 0 < length columns
 within_at [] columns i within l = absurd (omega arith)
 within_at (p ∷ ps) columns zero within l = within.0
 within_at (p ∷ ps) columns (suc i) within l = within_at ps columns i within.1 (omega arith)

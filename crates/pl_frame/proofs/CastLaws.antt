@@ -53,11 +53,11 @@ held_as to type values cells same cast = subst (λ t. HoldsType t cells) (sym sa
 
 -- ---- to whole numbers
 
-record NumbersOnly (type : DataType) : Type 0 where
-  truths : is_boolean type ≡ false
-  texts : (t : List ℕ) → is_text_of type t ≡ false
+pub record NumbersOnly (type : DataType) : Type 0 where
+  pub truths : is_boolean type ≡ false
+  pub texts : (t : List ℕ) → is_text_of type t ≡ false
 
-numbers_only : (type : DataType) → is_number type ≡ true → NumbersOnly type
+pub numbers_only : (type : DataType) → is_number type ≡ true → NumbersOnly type
 numbers_only dtype.Boolean h = absurd (true≢false (sym h))
 numbers_only dtype.Int8 h = record { truths = refl; texts = λ t. refl }
 numbers_only dtype.Int16 h = record { truths = refl; texts = λ t. refl }
@@ -114,7 +114,7 @@ left_true : (a b : Bool) → (a && b) ≡ true → a ≡ true
 left_true true b e = refl
 left_true false b e = e
 
-utf8_of : (from : DataType) (t : List ℕ) → misfits from (Some (Letters t)) ≡ false → is_utf8 t ≡ true
+pub utf8_of : (from : DataType) (t : List ℕ) → misfits from (Some (Letters t)) ≡ false → is_utf8 t ≡ true
 utf8_of from t h = left_true (is_utf8 t) (is_text_of from t) (true_from_not _ h)
 
 module _ (from to : DataType) (plain : is_boolean to ≡ false) (unnumbered : range_of to ≡ None) (any : (t : List ℕ) → is_text_of to t ≡ true) where
@@ -149,7 +149,7 @@ module _ (from : DataType) (categories : List (List ℕ)) where
       ap (λ o. option_map Letters (text_for categories o)) e ∙ ap (λ x. Some (Letters x)) (sym (text_at_place categories t k e))
       ∙ sym (λ j. if u j && known categories t k e j then Some (Letters t) else None)
 
-  place_cast : (v : Option Scalar) → misfits from v ≡ false → option_map Letters (text_for categories (place v)) ≡ cast_value enumeration v
+  pub place_cast : (v : Option Scalar) → misfits from v ≡ false → option_map Letters (text_for categories (place v)) ≡ cast_value enumeration v
   place_cast None h = refl
   place_cast (Some (Truth b)) h = refl
   place_cast (Some (Number n)) h = refl
@@ -163,7 +163,7 @@ module _ (from : DataType) (categories : List (List ℕ)) where
   letters_coded t None e = ap (λ o. code_of categories (text_for categories o)) e ∙ sym e
   letters_coded t (Some k) e = ap (λ o. code_of categories (text_for categories o)) e ∙ ap (λ x. position (bytes_eq x) categories) (sym (text_at_place categories t k e))
 
-  place_coded : (v : Option Scalar) → code_of categories (text_for categories (place v)) ≡ place v
+  pub place_coded : (v : Option Scalar) → code_of categories (text_for categories (place v)) ≡ place v
   place_coded None = refl
   place_coded (Some (Truth b)) = refl
   place_coded (Some (Number n)) = refl
@@ -175,7 +175,7 @@ module _ (from : DataType) (categories : List (List ℕ)) where
 
 -- ---- to the same type
 
-cell_kept : (type : DataType) (v : Option Scalar) → misfits type v ≡ false → v ≡ cast_value type v
+pub cell_kept : (type : DataType) (v : Option Scalar) → misfits type v ≡ false → v ≡ cast_value type v
 cell_kept type None h = refl
 cell_kept type (Some x) h = sym (ap (λ b. if b then Some x else None) (true_from_not _ h))
 

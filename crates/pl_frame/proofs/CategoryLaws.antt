@@ -23,7 +23,7 @@ text_for d c = option_map (λ code. get_or d code []) c
 pub dictionary-push : (values : List (Option (List ℕ))) (v : Option (List ℕ)) → dictionary_of (values ++ v ∷ []) ≡ with_text (dictionary_of values) v
 dictionary-push values v = fold-append with_text [] values (v ∷ [])
 
-decoded-push : (d : List (List ℕ)) (cs : List (Option ℕ)) (c : Option ℕ) → decoded d (cs ++ c ∷ []) ≡ decoded d cs ++ text_for d c ∷ []
+pub decoded-push : (d : List (List ℕ)) (cs : List (Option ℕ)) (c : Option ℕ) → decoded d (cs ++ c ∷ []) ≡ decoded d cs ++ text_for d c ∷ []
 decoded-push d cs c = map-append (text_for d) cs (c ∷ [])
 
 -- a text that has a place is there, and one that has none is not
@@ -33,7 +33,7 @@ known d t k at = let found = position-Some (bytes_eq t) d k [] at in list_any_at
 pub text_at_place : (d : List (List ℕ)) (t : List ℕ) (k : ℕ) → position (bytes_eq t) d ≡ Some k → t ≡ get_or d k []
 text_at_place d t k at = (bytes_eq-Decides _ _).0 (position-Some (bytes_eq t) d k [] at).1
 
-codes-push : (d : List (List ℕ)) (cs : List (Option ℕ)) (c : Option ℕ) → AreCodes d cs → code_of d (text_for d c) ≡ c → AreCodes d (cs ++ c ∷ [])
+pub codes-push : (d : List (List ℕ)) (cs : List (Option ℕ)) (c : Option ℕ) → AreCodes d cs → code_of d (text_for d c) ≡ c → AreCodes d (cs ++ c ∷ [])
 codes-push d cs c are same =
     ap (map (code_of d)) (decoded-push d cs c) ∙ map-append (code_of d) (decoded d cs) (text_for d c ∷ []) ∙ (λ j. are j ++ same j ∷ [])
 

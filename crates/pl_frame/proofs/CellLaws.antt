@@ -182,7 +182,7 @@ all_outside range xs none k l = by (is_outside range (get_or xs k None)) refl
     by false e = e
     by true e = let seen = list_any_at (is_outside range) xs k None l e in let unseen = none_passes (is_outside range) xs none in absurd (cc)
 
-narrow_one : (range : Range) (n : ℤ) → is_narrow range ≡ true → is_within range n ≡ true → is_within (signed_range 64) n ≡ true
+pub narrow_one : (range : Range) (n : ℤ) → is_narrow range ≡ true → is_within range n ≡ true → is_within (signed_range 64) n ≡ true
 narrow_one range n narrow inside = grind arith
 
 narrow_each : (range : Range) (o : Option ℤ) → is_narrow range ≡ true → is_outside range o ≡ false → is_outside (signed_range 64) o ≡ false

@@ -9,11 +9,14 @@ pub mod Dialect
 pub mod Equal
 pub mod EqualLaws
 pub mod Frame
+pub mod FrameParts
+pub mod GatheredCells
 pub mod Names
 pub mod Opening
 pub mod Optional
 pub mod Outside
 pub mod Printed
+pub mod RowIndex
 pub mod Schema
 pub mod Text
 pub mod Types

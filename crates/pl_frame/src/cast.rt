@@ -252,7 +252,7 @@ fn places_of(
 
 // Puts the text in a cell at the end.
 #[inline]
-fn push_text(texts: &mut Texts, value: Value<'_>) -> Result<(), AllocError>
+pub(crate) fn push_text(texts: &mut Texts, value: Value<'_>) -> Result<(), AllocError>
     ensures { OnOk result (texts.new ≡ texts.old ++ text_in (scalar_of value.entry) ∷ []) }
 {
     match value {
@@ -263,7 +263,7 @@ fn push_text(texts: &mut Texts, value: Value<'_>) -> Result<(), AllocError>
 
 // The same as a code.
 #[inline]
-fn push_code(texts: &mut CodesBuilder, value: Value<'_>) -> Result<(), AllocError>
+pub(crate) fn push_code(texts: &mut CodesBuilder, value: Value<'_>) -> Result<(), AllocError>
     ensures { OnOk result (texts.new ≡ texts.old ++ text_in (scalar_of value.entry) ∷ []) }
 {
     match value {
@@ -274,7 +274,7 @@ fn push_code(texts: &mut CodesBuilder, value: Value<'_>) -> Result<(), AllocErro
 
 // Puts a number or a null at the end.
 #[inline]
-fn push_option<T: Copy + Default>(
+pub(crate) fn push_option<T: Copy + Default>(
     numbers: &mut Numbers<T>,
     value: Option<T>,
 ) -> Result<(), AllocError>

@@ -1,5 +1,5 @@
 //! Frames: columns of one height with distinct names.
-ghost use Rattle.std.specs.Prelude.{◌≡◌, ◌<◌, ◌↔◌, IsTrue, length, IfSome, IfOk, OnOk, OnErr, IfErr, true, IsOkUnless, None, Some, slice_get, slice_set, slice_index_or, []};
+ghost use Rattle.std.specs.Prelude.{◌≡◌, ◌<◌, ◌↔◌, IsTrue, length, IfSome, IfOk, OnOk, OnErr, IfErr, true, IsOkUnless, None, Some, slice_get, slice_set, slice_index_or, [], ◌∷◌, ◌++◌};
 ghost use Rattle.std.specs.Bool.{Decides};
 ghost use Rattle.std.specs.Cmp.{partial_equiv_from_equiv};
 ghost use Rattle.std.specs.Cmp.Lexicographic.{lists_equiv, lists_per, pointwise};
@@ -118,6 +118,24 @@ impl DataFrame {
         self.columns[place] = column;
     }
 
+    // Puts a column in front that has another name and as many rows. Refuses only want of memory, and is then as it was.
+    pub(crate) fn put_in_front(&mut self, column: Column) -> PolarsResult<()>
+        requires { IsFrame (column ∷ self.old) }
+        ensures put { OnOk result (self.new ≡ column ∷ self.old) }
+        ensures unchanged { OnErr result (self.new ≡ self.old) }
+        ensures refused { IsOkUnless result error.OutOfMemory }
+    {
+        match self.columns.insert(0, column) {
+            Ok(()) => Ok(()),
+            Err(_) => Err(PolarsError::OutOfMemory),
+        }
+    }
+
+    // What the columns took memory from.
+    pub(crate) fn allocator(&self) -> Global {
+        *self.columns.allocator()
+    }
+
     /// The number of rows, without taking memory.
     pub fn height(&self) -> usize
         ensures { result ≡ height_of self.now }
@@ -185,11 +203,21 @@ fn copy_columns(alloc: Global, columns: &[Column]) -> PolarsResult<Vec<Column>>
     let mut copies = Vec::new(alloc);
     for column in columns {
         let copy = column.try_clone()?;
-        if copies.push(copy).is_err() {
-            return Err(PolarsError::OutOfMemory);
-        }
+        push_column(&mut copies, copy)?;
     }
     Ok(copies)
+}
+
+// Puts a column at the end.
+#[inline]
+pub(crate) fn push_column(columns: &mut Vec<Column>, column: Column) -> PolarsResult<()>
+    ensures pushed { OnOk result (columns.new.items ≡ columns.old.items ++ column ∷ []) }
+    ensures refused { IsOkUnless result error.OutOfMemory }
+{
+    match columns.push(column) {
+        Ok(()) => Ok(()),
+        Err(_) => Err(PolarsError::OutOfMemory),
+    }
 }
 
 // The refusal of a name that stands twice.

@@ -102,7 +102,7 @@ pub fn find_repeat<T: Named>(items: &[T]) -> Option<usize>
 }
 
 // Whether one of them has this name.
-fn has_name<T: Named>(items: &[T], name: &str) -> bool
+pub(crate) fn has_name<T: Named>(items: &[T], name: &str) -> bool
     ensures { result ≡ list_any (λ item. bytes_eq (T.name item) name.now) items.now }
 {
     items.iter().any(|item| item.name_text() == name)

@@ -2,3 +2,4 @@ pub mod PlaceLaws
 pub mod CauseLaws
 pub mod SettlingLaws
 pub mod ProjectionLaws
+pub mod IndexingLaws

@@ -5,15 +5,19 @@ use Rattle.std.specs.Option.{option_and_then}
 use Rattle.pl_frame.specs.declared.error.PolarsError.{PolarsError}
 use Rattle.pl_frame.specs.declared.error.PolarsError.TheVariants as error
 use Rattle.pl_frame.specs.Schema.{Entry}
-use Rattle.pl_cells.specs.NullValues.{unknown_name}
+use Rattle.pl_frame.specs.Dialect.{AreDistinct}
+use Rattle.pl_scan.specs.Dialect as scan
+use Rattle.pl_cells.specs.NullValues.{unknown_name, HaveTexts}
 use Rattle.pl_infer.specs.declared.read_options.CsvReadOptions.{CsvReadOptions}
-use Rattle.pl_read.specs.Options.{settled}
+use Rattle.pl_read.specs.Options.{marks_of, comment_of, rules_of, settled}
+use Rattle.pl_rows.specs.declared.plan.RangePlan.{RangePlan}
+use Rattle.pl_rows.specs.Plan.{rules_of as plan_rules}
 use Rattle.pl_read.specs.declared.projecting.Times.{Times}
 use Rattle.pl_read.specs.declared.projecting.Times.TheVariants as times
-use Rattle.pl_read.specs.Projection.{times_asked}
+use Rattle.pl_read.specs.Projection.{projected, taken_name, times_asked}
 use Rattle.pl_read.specs.Reading.{IsFirstCause}
 use Rattle.pl_read.specs.Rows.{rows_in, data_columns}
-use Rattle.pl_read.specs.Refusals.{first_some, early_causes, late_causes, overrides, unreadable, out_of_bounds, duplicate, faulty_record, index_past}
+use Rattle.pl_read.specs.Refusals.{first_some, early_causes, late_causes, overrides, unreadable, out_of_bounds, duplicate, first_unreadable, nothing_read, faulty_record, index_past}
 
 -- the fault is this one; or memory is wanting, which may be at any time
 abbrev pub IsFault : Option PolarsError → PolarsError → Type 0
@@ -46,6 +50,27 @@ data_cause o schema records = first_some (faulty_record o schema records ∷ ind
 -- the first cause against an input behind those that stand against its schema's types
 abbrev pub settled_cause : CsvReadOptions → List Entry → List ℕ → Option PolarsError
 settled_cause o schema input = first_some (drop 3 (late_causes o schema input))
+
+-- ---- the plan of a read
+
+-- a plan reads the last range by the options, and the projected columns of a schema
+pub record IsPlanOf (plan : RangePlan) (o : CsvReadOptions) (schema : List Entry) : Type 0 where
+  pub marks_are : scan.marks_of plan.dialect ≡ marks_of o.parse_options
+  pub comment_is : scan.comment_of plan.dialect ≡ comment_of o.parse_options
+  pub rules_are : plan_rules plan ≡ rules_of o schema
+  pub places_are : plan.projection.places.now ≡ projected o schema
+  pub width_is : plan.projection.width ≡ length schema
+  pub limit_is : plan.limit ≡ o.n_rows
+  pub is_last : plan.last ≡ true
+
+-- data that can be read by a plan: no cause stands before its rows
+pub record CanReadData (plan : RangePlan) (o : CsvReadOptions) (schema : List Entry) (records : List ℕ) : Type 0 where
+  pub plan_is : IsPlanOf plan o schema
+  pub apart : AreDistinct (marks_of o.parse_options)
+  pub readable : first_unreadable schema ≡ None
+  pub texts : HaveTexts plan.options.null_values (length schema)
+  pub free : taken_name o schema ≡ None
+  pub some : nothing_read o schema records ≡ None
 
 -- ---- how often places are asked
 

@@ -2,6 +2,8 @@
 #![tactic(auto)]
 
 mod checks;
+mod indexing;
 mod nulls;
 mod projecting;
+pub mod reading;
 mod settling;

@@ -1,5 +1,5 @@
 //! Which columns of a schema are read.
-ghost use Rattle.std.specs.Prelude.{◌≡◌, ◌<◌, ◌++◌, ◌∷◌, ℕ, [], nat_le, filter, find, length, position, slice_index, slice_index_or, IfOk, OnOk, IfErr, IsOkUnless, None, Some};
+ghost use Rattle.std.specs.Prelude.{◌≡◌, ◌<◌, ◌++◌, ◌∷◌, ℕ, [], nat_le, filter, find, length, slice_index, slice_index_or, IfOk, OnOk, IfErr, IsOkUnless, None, Some};
 ghost use Rattle.std.specs.List.{filter_map, list_any, range_with_len};
 ghost use Rattle.std.specs.Option.{option_map};
 ghost use Rattle.std.specs.Str.{bytes_eq};
@@ -157,7 +157,7 @@ fn times_asked(alloc: Global, places: &[usize], width: usize) -> PolarsResult<Ve
 
 // The least place that is asked more than once.
 fn find_doubled(times: &[Times]) -> Option<usize>
-    ensures { result ≡ position is_more times.now }
+    ensures { result ≡ find (λ place. is_more (slice_index_or times.now place Times.Never)) (range_with_len 0 (length times.now)) }
 {
     for place in 0..times.len() {
         if times[place].is_more() {
@@ -244,8 +244,10 @@ pub fn projected_places(
         return Err(duplicate(name_at(schema, place)));
     }
     let read = places_asked(alloc, &times)?;
-    check_index_name(options, schema, &read)?;
-    Ok(read)
+    match check_index_name(options, schema, &read) {
+        Ok(()) => Ok(read),
+        Err(fault) => Err(fault),
+    }
 }
 
 // Refuses the name of the row index, where one of the columns at these places has it, and want of memory.

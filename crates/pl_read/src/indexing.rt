@@ -1,0 +1,120 @@
+//! The row index before the columns, and numbers that do not fit 32 bits.
+ghost use Rattle.std.specs.Prelude.{◌≡◌, ◌<◌, ◌+◌, ◌^◌, nat_lt, IfOk, OnOk, IfErr, None, map};
+ghost use Rattle.std.specs.Option.{option_map};
+ghost use Rattle.pl_frame.specs.Frame.{IsFrame, height_of};
+ghost use Rattle.pl_frame.specs.declared.error.ComputeFault.TheVariants as compute_fault;
+ghost use Rattle.pl_frame.specs.declared.error.PolarsError.TheVariants as error;
+ghost use Rattle.pl_read.specs.Refusals.{when, first_some, is_categorical, numbers_past, codes_past, index_past};
+ghost use Rattle.pl_read.specs.Rows.{with_index};
+ghost use Rattle.pl_read.specs.Steps.{IsFault};
+
+use pl_frame::column::Column;
+use pl_frame::data_type::DataType;
+use pl_frame::error::{ComputeFault, PolarsError, PolarsResult};
+use pl_frame::frame::DataFrame;
+use pl_infer::row_index::RowIndex;
+use std::alloc::Global;
+
+// So many numbers are there of 32 bits.
+const NUMBERS: u64 = 1 << 32;
+
+// The refusal of a row index whose last number does not fit 32 bits.
+fn numbers_past(index: Option<&RowIndex>, rows: usize) -> Option<PolarsError>
+    ensures { result ≡ numbers_past (option_map (λ i. i.now) index.entry) rows }
+{
+    match index {
+        Some(index) => past(u64::from(index.offset), rows as u64),
+        None => None,
+    }
+}
+
+// The refusal of so many numbers from one of 32 bits on, where the last does not fit 32 bits.
+fn past(offset: u64, rows: u64) -> Option<PolarsError>
+    requires { offset < 2 ^ 32 }
+    ensures { result ≡ when (nat_lt (2 ^ 32) (offset + rows)) (error.ComputeError (compute_fault.Index offset rows)) }
+{
+    if rows > NUMBERS - offset {
+        return Some(PolarsError::ComputeError(ComputeFault::Index {
+            offset,
+            rows,
+        }));
+    }
+    None
+}
+
+// Whether the type is `Categorical`.
+fn is_categorical(dtype: &DataType) -> bool
+    ensures { result ≡ is_categorical dtype.now }
+{
+    matches!(dtype, DataType::Categorical)
+}
+
+// The refusal of a column whose last code does not fit 32 bits.
+fn codes_past(column: &Column) -> Option<PolarsError>
+    ensures { result ≡ codes_past column.now }
+{
+    if !is_categorical(column.dtype()) {
+        return None;
+    }
+    past(0, column.categories().len() as u64)
+}
+
+// The refusal of the first column whose last code does not fit 32 bits.
+fn find_codes_past(columns: &[Column]) -> Option<PolarsError>
+    ensures { result ≡ first_some (map codes_past columns.now) }
+{
+    for column in columns {
+        if let Some(fault) = codes_past(column) {
+            return Some(fault);
+        }
+    }
+    None
+}
+
+// The refusal of numbers that do not fit 32 bits.
+fn index_past(index: Option<&RowIndex>, rows: usize, columns: &[Column]) -> Option<PolarsError>
+    ensures { result ≡ index_past (option_map (λ i. i.now) index.entry) rows columns.now }
+{
+    match numbers_past(index, rows) {
+        Some(fault) => Some(fault),
+        None => find_codes_past(columns),
+    }
+}
+
+// The number of rows of columns of one height.
+fn rows_of(columns: &[Column]) -> usize
+    ensures { result ≡ height_of columns.now }
+{
+    match columns {
+        [] => 0,
+        [first, ..] => first.len(),
+    }
+}
+
+/// The frame of columns of one height behind their row index, where one is asked; with it their names are distinct. Refuses
+/// the last number of the row index, or else the last code of the first column, that does not fit 32 bits (`Index`), and want
+/// of memory.
+pub fn with_index(
+    alloc: Global,
+    index: Option<&RowIndex>,
+    columns: Vec<Column>,
+) -> PolarsResult<DataFrame>
+    requires { IsFrame (with_index (option_map (λ i. i.now) index) (height_of columns.items) columns.items) }
+    ensures frame { IfOk result (λ frame. frame ≡ with_index (option_map (λ i. i.now) index.entry) (height_of columns.items) columns.items) }
+    ensures sound { OnOk result (index_past (option_map (λ i. i.now) index.entry) (height_of columns.items) columns.items ≡ None) }
+    ensures refused { IfErr result (IsFault (index_past (option_map (λ i. i.now) index.entry) (height_of columns.items) columns.items)) }
+{
+    let rows = rows_of(&columns);
+    if let Some(fault) = index_past(index, rows, &columns) {
+        return Err(fault);
+    }
+    let Some(index) = index else {
+        return Ok(DataFrame::of_distinct(columns));
+    };
+    let numbers = Column::row_numbers(alloc, index.name.try_clone()?, index.offset, rows)?;
+    let mut columns = columns;
+    match columns.insert(0, numbers) {
+        Ok(()) => Ok(DataFrame::of_distinct(columns)),
+        Err(_) => Err(PolarsError::OutOfMemory),
+    }
+}

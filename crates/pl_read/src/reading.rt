@@ -1,0 +1,175 @@
+//! From the bytes of an input to the frame that they mean.
+ghost use Rattle.std.specs.Prelude.{◌≡◌, IfOk, OnOk, IfErr, MatchResult, None};
+ghost use Rattle.std.specs.Option.{option_copied, option_map};
+ghost use Rattle.pl_cells.specs.NullValues.{compiled_for};
+ghost use Rattle.pl_read.specs.Options.{keeps_ends, data_of, settled};
+ghost use Rattle.pl_read.specs.Projection.{projected};
+ghost use Rattle.pl_read.specs.Reading.{frame_of, IsRead, IsReadFault};
+ghost use Rattle.pl_read.specs.Refusals.{first_unreadable};
+ghost use Rattle.pl_read.specs.Rows.{data_frame};
+ghost use Rattle.pl_read.specs.Steps.{IsFault, MayRead, late_cause, settled_cause, data_cause, IsPlanOf, CanReadData};
+
+use crate::checks::check_options;
+use crate::indexing::with_index;
+use crate::nulls::null_values_of;
+use crate::projecting::{asked_places, projected_places};
+use crate::settling::settled_schema;
+use pl_cells::null_values::NullValuesCompiled;
+use pl_frame::compression::is_compressed;
+use pl_frame::error::{ComputeFault, NoDataFault, PolarsError, PolarsResult};
+use pl_frame::frame::DataFrame;
+use pl_frame::schema::Schema;
+use pl_infer::read_options::CsvReadOptions;
+use pl_rows::columns::read_columns;
+use pl_rows::plan::{Projection, RangePlan, RowOptions};
+use pl_rows::range::RangeEnd;
+use pl_scan::dialect::Dialect;
+use pl_scan::start::data_of;
+use std::alloc::Global;
+
+/// The frame that an input means under a schema that is given. Refuses the first cause against it (docs/refusals.md), and
+/// want of memory.
+pub fn read_frame(
+    alloc: Global,
+    input: &[u8],
+    options: &CsvReadOptions,
+    schema: &Schema,
+) -> PolarsResult<DataFrame>
+    ensures { MatchResult result (IsRead options.now (settled options.now schema.now) input.now) (IsReadFault options.now (settled options.now schema.now) input.now) }
+{
+    check_options(options)?;
+    read_checked(alloc, input, options, schema)
+}
+
+/// The frame that an input means under a schema that is given, where the options may stand: `check_options` tells. Refuses the
+/// first cause against it, and want of memory.
+pub fn read_checked(
+    alloc: Global,
+    input: &[u8],
+    options: &CsvReadOptions,
+    schema: &Schema,
+) -> PolarsResult<DataFrame>
+    requires { MayRead options.now }
+    ensures frame { IfOk result (λ frame. frame ≡ frame_of options.now (settled options.now schema.now) input.now) }
+    ensures sound { OnOk result (late_cause options.now (settled options.now schema.now) input.now ≡ None) }
+    ensures refused { IfErr result (IsFault (late_cause options.now (settled options.now schema.now) input.now)) }
+{
+    if is_compressed(input) {
+        return Err(PolarsError::ComputeError(ComputeFault::Compressed));
+    }
+    let schema = settled_schema(options, schema)?;
+    read_settled(alloc, input, options, &schema)
+}
+
+// What stands from the starting point on, where there is one.
+fn data_from_start<'a>(input: &'a [u8], options: &CsvReadOptions) -> Option<&'a [u8]>
+    ensures { option_copied result ≡ data_of options.now input.now }
+{
+    let parse_options = &options.parse_options;
+    data_of(
+        input,
+        parse_options.separator,
+        parse_options.quote_char,
+        parse_options.eol_char,
+        keeps_ends(options),
+        options.skip_lines,
+        options.skip_rows,
+        options.skip_rows_after_header,
+        parse_options.comment_prefix.as_ref(),
+        options.has_header,
+    )
+}
+
+// Whether leading line ends are kept.
+fn keeps_ends(options: &CsvReadOptions) -> bool
+    ensures { result ≡ keeps_ends options.now }
+{
+    match &options.schema {
+        Some(schema) => schema.len() <= 1,
+        None => false,
+    }
+}
+
+// The frame of an input under its settled schema.
+fn read_settled(
+    alloc: Global,
+    input: &[u8],
+    options: &CsvReadOptions,
+    schema: &Schema,
+) -> PolarsResult<DataFrame>
+    requires allowed { MayRead options.now }
+    requires readable { first_unreadable schema.now ≡ None }
+    ensures frame { IfOk result (λ frame. frame ≡ frame_of options.now schema.now input.now) }
+    ensures sound { OnOk result (settled_cause options.now schema.now input.now ≡ None) }
+    ensures refused { IfErr result (IsFault (settled_cause options.now schema.now input.now)) }
+{
+    let null_values = null_values_of(alloc, options, schema)?;
+    let asked = asked_places(alloc, options, schema)?;
+    let Some(records) = data_from_start(input, options) else {
+        return Err(PolarsError::NoData(NoDataFault::Skip));
+    };
+    let places = projected_places(alloc, options, schema, &asked)?;
+    if places.is_empty() && !records.is_empty() {
+        return Err(PolarsError::EmptyProjection);
+    }
+    let plan = plan_of(options, schema, &places, null_values.as_ref());
+    read_data(alloc, records, options, schema, &plan)
+}
+
+// How the projected columns are read, with the null values of the schema's columns.
+fn plan_of<'a>(
+    options: &'a CsvReadOptions,
+    schema: &Schema,
+    places: &'a [usize],
+    null_values: Option<&'a NullValuesCompiled>,
+) -> RangePlan<'a>
+    requires places { places.now ≡ projected options.now schema.now }
+    requires compiled { option_copied null_values ≡ option_map (λ values. compiled_for values schema.now) options.now.parse_options.null_values }
+    ensures plan { IsPlanOf result options.now schema.now }
+    ensures nulls { result.options.null_values ≡ null_values.entry }
+{
+    let parse_options = &options.parse_options;
+    RangePlan {
+        dialect: Dialect {
+            separator: parse_options.separator,
+            quote_char: parse_options.quote_char,
+            eol_char: parse_options.eol_char,
+            comment_prefix: parse_options.comment_prefix.as_ref(),
+        },
+        projection: Projection {
+            places,
+            width: schema.len(),
+        },
+        options: RowOptions {
+            null_values,
+            encoding: parse_options.encoding,
+            missing_is_null: parse_options.missing_is_null,
+            ignore_errors: options.ignore_errors,
+            truncate_ragged_lines: parse_options.truncate_ragged_lines,
+        },
+        limit: options.n_rows,
+        last: true,
+    }
+}
+
+// The frame of the data.
+fn read_data(
+    alloc: Global,
+    records: &[u8],
+    options: &CsvReadOptions,
+    schema: &Schema,
+    plan: &RangePlan<'_>,
+) -> PolarsResult<DataFrame>
+    requires { CanReadData plan.now options.now schema.now records.now }
+    ensures frame { IfOk result (λ frame. frame ≡ data_frame options.now schema.now records.now) }
+    ensures sound { OnOk result (data_cause options.now schema.now records.now ≡ None) }
+    ensures refused { IfErr result (IsFault (data_cause options.now schema.now records.now)) }
+{
+    let Ok(read) = read_columns(alloc, schema, records, plan) else {
+        return Err(PolarsError::OutOfMemory);
+    };
+    if let RangeEnd::Fault { row, column, kind } = read.end {
+        return Err(PolarsError::ComputeError(ComputeFault::Record { row, column, kind }));
+    }
+    with_index(alloc, options.row_index.as_ref(), read.columns)
+}

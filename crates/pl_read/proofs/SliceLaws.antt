@@ -42,7 +42,7 @@ module _ {T : Type 0} where
   -- a file in which the slice begins, or in which it goes on
   joined : (rows later : List T) (current start end : ℕ) → start < current + length rows → current < end
       → part_of rows (start - current, min end (current + length rows) - max start current) ++ rest_of_slice later (current + length rows) start end
-        ≡ rest_of_slice (rows ++ later) current start end
+      ≡ rest_of_slice (rows ++ later) current start end
   joined rows later current start end begins ends =
       let offset : start - (current + length rows) ≡ 0 = omega (arith, begins) in
       ap (λ n. take (min end (current + length rows) - max start current) (drop (start - current) rows) ++ take (end - max start (current + length rows)) (drop n later)) offset
@@ -51,7 +51,7 @@ module _ {T : Type 0} where
     where
       by_end : (t : Bool) → nat_le end (current + length rows) ≡ t
           → take (min end (current + length rows) - max start current) (drop (start - current) rows) ++ take (end - max start (current + length rows)) later
-            ≡ take (end - max start current) (drop (start - current) rows ++ later)
+          ≡ take (end - max start current) (drop (start - current) rows ++ later)
       by_end true e =
           let last = leb-true end (current + length rows) e in
           let long = length-drop (start - current) rows in

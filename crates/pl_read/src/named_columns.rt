@@ -1,8 +1,8 @@
 //! The places in a file of columns that are asked for by name.
-ghost use Rattle.std.specs.Prelude.{◌≡◌, ◌↔◌, ◌||◌, IsTrue, is_some, map, Some, IsSome, IsNone, ForSome, IfOk, IfSome, IsOkUnless};
-ghost use Rattle.std.specs.Option.{option_map};
+ghost use Rattle.std.specs.Prelude.{◌≡◌, ◌↔◌, ◌||◌, IsTrue, is_some, Some, IsSome, IfOk, IfSome, IsOkUnless};
+ghost use Rattle.std.specs.Option.{ForSome};
 ghost use Rattle.pl_frame.specs.declared.error.PolarsError.TheVariants as error;
-ghost use Rattle.pl_read.specs.NamedColumns.{ArePlaces, HavePlaces, is_partition, partition_names, place_in_file};
+ghost use Rattle.pl_read.specs.NamedColumns.{ArePlaces, HavePlaces, is_partition, partitions_in, place_in_file};
 
 use pl_frame::column::{Column, Series};
 use pl_frame::error::{PolarsError, PolarsResult};
@@ -22,9 +22,9 @@ pub fn materialize_projection(
     hive_partitions: Option<&[Series]>,
     has_row_index: bool,
 ) -> PolarsResult<Option<Vec<usize>>>
-    requires { ForSome with_columns (λ names. HavePlaces schema.now (partition_names (option_map (λ columns. columns.now) hive_partitions)) has_row_index names.now) }
-    ensures named { IfOk result (λ found. IsSome found ↔ IsSome with_columns) }
-    ensures places { IfOk result (λ found. IfSome found (λ places. IfSome with_columns (λ names. ArePlaces schema.now (partition_names (option_map (λ columns. columns.now) hive_partitions)) has_row_index names.now places.items))) }
+    requires { ForSome with_columns (λ names. HavePlaces schema.now (partitions_in hive_partitions) has_row_index names.now) }
+    ensures named { IfOk result (λ found. IsSome found ↔ IsSome with_columns.entry) }
+    ensures places { IfOk result (λ found. IfSome found (λ places. IfSome with_columns.entry (λ names. ArePlaces schema.now (partitions_in hive_partitions.entry) has_row_index names.now places.items))) }
     ensures refused { IsOkUnless result error.OutOfMemory }
 {
     let Some(names) = with_columns else {
@@ -43,8 +43,8 @@ fn places_of(
     partitions: &[Column],
     has_row_index: bool,
 ) -> PolarsResult<Vec<usize>>
-    requires { HavePlaces schema.now (map (λ column. column.name) partitions.now) has_row_index names.now }
-    ensures places { IfOk result (λ places. ArePlaces schema.now (map (λ column. column.name) partitions.now) has_row_index names.now places.items) }
+    requires { HavePlaces schema.now partitions.now has_row_index names.now }
+    ensures places { IfOk result (λ places. ArePlaces schema.now partitions.now has_row_index names.now places.items) }
     ensures refused { IsOkUnless result error.OutOfMemory }
 {
     let mut places = Vec::new(alloc);
@@ -62,7 +62,7 @@ fn places_of(
 
 // Whether a partition has this name.
 fn is_partition(partitions: &[Column], name: &str) -> bool
-    ensures { result ≡ is_partition (map (λ column. column.name) partitions.now) name.now }
+    ensures { result ≡ is_partition partitions.now name.now }
 {
     partitions.iter().any(|column| name == column.name())
 }
@@ -97,7 +97,10 @@ mod tests {
     fn names_have_places_in_the_file(rt: HostRuntime) -> Result<(), Fail> {
         let alloc = rt.alloc();
         let b = PlSmallStr::from_str(alloc, "b")?;
-        let names = vec![in alloc; PlSmallStr::from_str(alloc, "c")?, PlSmallStr::from_str(alloc, "a")?]?;
+        let names = vec![in alloc;
+            PlSmallStr::from_str(alloc, "c")?,
+            PlSmallStr::from_str(alloc, "a")?,
+        ]?;
         let schema = schema_of(alloc, &["a", "b", "c"])?;
         let places = materialize_projection(alloc, Some(&names), &schema, None, false)?;
         assert_eq!(rt; places.as_deref(), Some([2, 0].as_slice()));

@@ -1,7 +1,7 @@
 -- The places in a file of columns that are asked for by name.
-use Rattle.std.specs.Prelude.{◌≡◌, ℕ, zero, suc, Bool, true, false, ◌||◌, not, IsTrue, List, [], map, filter, All, Option, None, Some, is_some}
+use Rattle.std.specs.Prelude.{◌≡◌, ℕ, zero, suc, Bool, true, false, ◌||◌, not, List, [], map, filter, Option, None, Some, is_some}
 use Rattle.std.specs.Borrow.{Bor}
-use Rattle.std.specs.List.{list_any}
+use Rattle.std.specs.List.{list_all, list_any}
 use Rattle.std.specs.Option.{option_and_then}
 use Rattle.std.specs.Str.{bytes_eq}
 use Rattle.pl_frame.specs.Frame.{ColumnValue}
@@ -31,8 +31,8 @@ abbrev pub names_in_file : List ColumnValue → List (List ℕ) → List (List �
 names_in_file partitions names = filter (λ name. not (is_partition partitions name)) names
 
 -- each of the names is that of a partition or of a column of the file
-abbrev pub HavePlaces : List Entry → List ColumnValue → Bool → List (List ℕ) → Type 0
-HavePlaces schema partitions has_row_index names = All (λ name. IsTrue (is_partition partitions name || is_some (place_in_file schema has_row_index name))) names
+abbrev pub have_places : List Entry → List ColumnValue → Bool → List (List ℕ) → Bool
+have_places schema partitions has_row_index names = list_all (λ name. is_partition partitions name || is_some (place_in_file schema has_row_index name)) names
 
 -- these are the places of the names that are none of a partition, in their order
 abbrev pub ArePlaces : List Entry → List ColumnValue → Bool → List (List ℕ) → List ℕ → Type 0

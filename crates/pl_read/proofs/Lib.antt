@@ -3,3 +3,4 @@ pub mod CauseLaws
 pub mod SettlingLaws
 pub mod ProjectionLaws
 pub mod IndexingLaws
+pub mod SliceLaws

@@ -4,3 +4,6 @@ pub mod Rows
 pub mod Refusals
 pub mod Reading
 pub mod Steps
+pub mod BytesReader
+pub mod NamedColumns
+pub mod Slices

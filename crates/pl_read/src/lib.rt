@@ -1,9 +1,13 @@
 //! Readers: the frame that an input means under the options of a read, or the first cause against it.
 #![tactic(auto)]
 
+pub mod bytes_reader;
 mod checks;
 mod indexing;
+pub mod laws;
+pub mod named_columns;
 mod nulls;
 mod projecting;
 pub mod reading;
 mod settling;
+pub mod slices;

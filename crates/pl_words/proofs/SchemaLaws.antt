@@ -17,8 +17,10 @@ use Rattle.std.specs.Char.{is_ascii_digit}
 use Rattle.pl_cells.specs.Integers.{number_after, number_of, number_below}
 use Rattle.pl_cells.proofs.IntegerLaws.{digit_small}
 use Rattle.pl_words.specs.OptionValues.{count_of}
-use Rattle.pl_words.specs.SchemaText.{SchemaValue, entry_of, all_of, are_distinct, schema_of, small_number}
+use Rattle.pl_words.specs.Lists.{all_of}
+use Rattle.pl_words.specs.SchemaText.{SchemaValue, entry_of, are_distinct, schema_of}
 use Rattle.pl_words.specs.Splitting.{parts_at}
+use Rattle.pl_words.specs.TypeText.{small_number}
 
 abbrev Named : Type 0
 Named = List ℕ × DataType

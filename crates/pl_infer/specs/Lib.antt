@@ -1,0 +1,3 @@
+pub mod ColumnLists
+pub mod Options
+pub mod ReaderBytes

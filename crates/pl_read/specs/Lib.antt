@@ -1,0 +1,3 @@
+pub mod BytesReader
+pub mod NamedColumns
+pub mod Slices

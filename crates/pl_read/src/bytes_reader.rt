@@ -1,0 +1,133 @@
+//! What readers read: sources that may lend all their bytes.
+ghost use Rattle.std.specs.Prelude.{◌≡◌, ◌≤◌, ℕ, List, Option, None, Some, is_some, IsNone, IsSome, IfOk, IfErr, IfSome, OnOk};
+ghost use Rattle.std.specs.Borrow.{sem};
+ghost use Rattle.std.specs.Io.BufRead.{Rests};
+ghost use Rattle.std.specs.Io.KnownBytes.{IsAtEnd};
+ghost use Rattle.std.specs.Option.{option_map};
+ghost use Rattle.pl_infer.specs.ReaderBytes.{bytes_in};
+ghost use Rattle.pl_read.specs.BytesReader.{input_of, IsSourceFault, AfterRead};
+
+use pl_frame::error::{PolarsError, PolarsResult};
+use pl_frame::read_all::{ReadAllFault, read_all};
+use pl_frame::source::{MemSource, PipeSource, Source};
+use pl_infer::reader_bytes::ReaderBytes;
+use std::alloc::Global;
+
+/// A source that may have all its bytes in memory.
+pub trait MmapBytesReader: Source {
+    /// All its bytes, whatever was read, where it lends them.
+    ghost lent: { Self → Option (List ℕ) };
+
+    /// All its bytes, whatever was read, where it lends them. Takes no memory.
+    fn to_bytes(&self) -> Option<&[u8]>
+        ensures { option_map (λ bytes. bytes.now) result ≡ lent self.now };
+}
+
+impl<T: MmapBytesReader> MmapBytesReader for &mut T {
+    ghost lent = { λ reader. T.lent reader.now };
+
+    fn to_bytes(&self) -> Option<&[u8]> {
+        MmapBytesReader::to_bytes(&**self)
+    }
+}
+
+impl<T: MmapBytesReader> MmapBytesReader for Box<T> {
+    ghost lent = { λ reader. T.lent reader.value };
+
+    fn to_bytes(&self) -> Option<&[u8]> {
+        self.as_ref().to_bytes()
+    }
+}
+
+impl<'a> MmapBytesReader for MemSource<'a> {
+    ghost lent = { λ source. Some source.bytes };
+
+    fn to_bytes(&self) -> Option<&[u8]> {
+        Some(self.bytes())
+    }
+}
+
+impl<'a> MmapBytesReader for PipeSource<'a> {
+    ghost lent = { λ _. None };
+
+    fn to_bytes(&self) -> Option<&[u8]> {
+        None
+    }
+}
+
+/// What is left of a reader's source, read to its end, where the reader lends no bytes; `None` where it does, and then
+/// nothing is read.
+///
+/// Refuses `IO` only where the reader's count of faults rose, and want of memory, in which a source without end ends.
+pub fn read_unlent<R: MmapBytesReader>(
+    alloc: Global,
+    reader: &mut R,
+) -> PolarsResult<Option<Vec<u8>>>
+    ensures lent { IsSome (R.lent reader.old) → IfOk result (λ read. IsNone read) × (reader.new ≡ reader.old) }
+    ensures read { IsNone (R.lent reader.old) → IfOk result (λ read. IsSome read) }
+    ensures bytes { IfOk result (λ read. IfSome read (λ bytes. IfSome (R.left reader.old) (λ left. bytes.items ≡ left))) }
+    ensures end { IfOk result (λ read. IsSome read → IsAtEnd (R.left reader.new)) }
+    ensures refused { IfErr result (IsSourceFault (R.faults reader.old) (R.faults reader.new)) }
+    ensures later { R.faults reader.old ≤ R.faults reader.new }
+{
+    if reader.to_bytes().is_some() {
+        return Ok(None);
+    }
+    match read_all(alloc, reader, usize::MAX) {
+        Ok(bytes) => Ok(Some(bytes)),
+        Err(ReadAllFault::Source) => Err(PolarsError::IO),
+        Err(_) => Err(PolarsError::OutOfMemory),
+    }
+}
+
+/// The bytes of a reader where it lends them, and else what is left of its source, read to its end.
+///
+/// Refuses `IO` only where the reader's count of faults rose, and want of memory, in which a source without end ends.
+pub fn get_reader_bytes<R: MmapBytesReader>(
+    alloc: Global,
+    reader: &mut R,
+) -> PolarsResult<ReaderBytes<'_>>
+    ensures input { IfOk result (λ bytes. IfSome (input_of (R.lent reader.old) (R.left reader.old)) (λ input. bytes_in bytes ≡ input)) }
+    ensures* after_borrow { sem 𝓛 (Rests R.row reader.entry (λ new. AfterRead R.faults reader.old new result)) }
+{
+    match read_unlent(alloc, reader) {
+        Err(fault) => Err(fault),
+        Ok(Some(bytes)) => Ok(ReaderBytes::Owned(bytes)),
+        Ok(None) => Ok(ReaderBytes::Borrowed(lent_bytes(reader))),
+    }
+}
+
+// The bytes that a reader lends.
+fn lent_bytes<R: MmapBytesReader>(reader: &R) -> &[u8]
+    requires { IsSome (R.lent reader.now) }
+    ensures { Some result.now ≡ R.lent reader.now }
+{
+    match reader.to_bytes() {
+        Some(bytes) => bytes,
+        None => unreachable!(),
+    }
+}
+
+#[cfg(test)]
+mod tests {
+    use super::*;
+    use std::test::Fail;
+
+    #[test]
+    fn memory_lends_its_bytes_and_a_pipe_is_read(rt: HostRuntime) -> Result<(), Fail> {
+        let alloc = rt.alloc();
+        let mut source = MemSource::new(b"ab");
+        assert_eq!(rt; source.read(&mut [0u8; 1]), Ok(1));
+        let read = get_reader_bytes(alloc, &mut source)?;
+        assert!(rt; matches!(&read, ReaderBytes::Borrowed(_)));
+        assert_eq!(rt; read.bytes(), b"ab".as_slice());
+        let mut pipe = PipeSource::new(b"ab", 1, &[]);
+        let read = get_reader_bytes(alloc, &mut pipe)?;
+        assert!(rt; matches!(&read, ReaderBytes::Owned(_)));
+        assert_eq!(rt; read.bytes(), b"ab".as_slice());
+        let mut failing = PipeSource::new(b"ab", 1, &[0]);
+        let read = get_reader_bytes(alloc, &mut failing);
+        assert!(rt; matches!(read, Err(PolarsError::IO)));
+        Ok(())
+    }
+}

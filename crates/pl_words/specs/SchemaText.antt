@@ -13,7 +13,6 @@ use Rattle.pl_words.specs.TypeText.{named_type}
 abbrev pub SchemaValue : Type 0
 SchemaValue = List (List ℕ × DataType)
 
-
 -- NAME:TYPE, cut at the first colon; the name may be empty
 abbrev pub entry_of : List ℕ → Option (List ℕ × DataType)
 entry_of part = option_and_then (λ cut. option_map (λ type. (cut.0, type)) (named_type cut.1)) (cut_at 58 part)

@@ -9,7 +9,6 @@ use Rattle.pl_frame.specs.declared.data_type.TimeUnit.TheVariants as unit
 use Rattle.pl_cells.specs.Integers.{is_digits, number_of}
 use Rattle.pl_words.specs.Splitting.{cut_at, parts_at}
 
-
 -- the type that a name means alone; an enum without categories and a decimal without a scale can't be read
 abbrev pub plain_type : List ℕ → Option DataType
 plain_type text =

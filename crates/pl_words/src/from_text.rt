@@ -33,11 +33,7 @@ pub(crate) fn meant<T: Drop>(meaning: Option<T>) -> Result<T, WordsFault>
 }
 
 // Puts the value of a part at the end. Refuses a part without a meaning, and want of memory.
-fn push_value<T: FromText>(
-    alloc: Global,
-    values: &mut Vec<T>,
-    part: &str,
-) -> Result<(), WordsFault>
+fn push_value<T: FromText>(alloc: Global, values: &mut Vec<T>, part: &str) -> Result<(), WordsFault>
     ensures pushed { OnOk result (option_map (λ value. values.old.items ++ value ∷ []) (T.meaning part.now) ≡ Some values.new.items) }
     ensures refused { IsErrOf result WordsFault.Words → T.meaning part.now ≡ None }
 {

@@ -77,7 +77,7 @@ fn parse_options_of(alloc: Global, parts: &[Part<'_>]) -> Result<CsvParseOptions
     let eol_char = set_or(alloc, parts, "--eol", defaults.eol_char)?;
     let comment_prefix = set_under(alloc, parts, "--comment")?;
     let null_values = null_values_of(alloc, parts)?;
-    Ok(defaults
+    let options = defaults
         .with_separator(separator)
         .with_quote_char(quote_char)
         .with_eol_char(eol_char)
@@ -85,7 +85,8 @@ fn parse_options_of(alloc: Global, parts: &[Part<'_>]) -> Result<CsvParseOptions
         .with_null_values(null_values)
         .with_encoding(encoding_of(has_name(parts, "--lossy")))
         .with_missing_is_null(!has_name(parts, "--keep-missing"))
-        .with_truncate_ragged_lines(has_name(parts, "--truncate")))
+        .with_truncate_ragged_lines(has_name(parts, "--truncate"));
+    Ok(options)
 }
 
 /// How an input is read. Refuses parts without a schema, values without a meaning, and want of memory.
@@ -102,14 +103,15 @@ pub(crate) fn read_options_of(
     let parse_options = parse_options_of(alloc, parts)?;
     let skip_lines = set_or(alloc, parts, "--skip-lines", defaults.skip_lines)?;
     let skip_rows = set_or(alloc, parts, "--skip-rows", defaults.skip_rows)?;
-    let after_header = set_or(alloc, parts, "--skip-after", defaults.skip_rows_after_header)?;
+    let after_header = defaults.skip_rows_after_header;
+    let after_header = set_or(alloc, parts, "--skip-after", after_header)?;
     let n_rows = set_under(alloc, parts, "--limit")?;
     let columns = set_under(alloc, parts, "--columns")?;
     let projection = set_under(alloc, parts, "--projection")?;
     let row_index = row_index_of(alloc, parts)?;
     let n_threads = set_under(alloc, parts, "--workers")?;
     let chunk_size = set_or(alloc, parts, "--piece", defaults.chunk_size)?;
-    Ok(defaults
+    let options = defaults
         .with_schema(Some(schema))
         .with_dtype_overwrite(dtype_overwrite)
         .with_parse_options(parse_options)
@@ -123,5 +125,6 @@ pub(crate) fn read_options_of(
         .with_row_index(row_index)
         .with_n_threads(n_threads)
         .with_chunk_size(chunk_size)
-        .with_ignore_errors(has_name(parts, "--ignore-errors")))
+        .with_ignore_errors(has_name(parts, "--ignore-errors"));
+    Ok(options)
 }

@@ -85,9 +85,13 @@ mod tests {
                 assert_eq!(rt; read.parse_options.separator, b';');
                 assert_eq!(rt; read.n_rows, Some(9));
                 assert!(rt; matches!(&read.columns, Some(list) if list.names().len() == 2));
-                assert!(rt; matches!(&read.projection, Some(list) if list.places() == [1, 0].as_slice()));
+                assert!(rt;
+                    matches!(&read.projection, Some(list) if list.places() == [1, 0].as_slice())
+                );
                 assert!(rt; matches!(&read.row_index, Some(index) if index.offset == u32::MAX));
-                assert!(rt; matches!(&read.dtype_overwrite, Some(list) if list.dtypes().len() == 2));
+                assert!(rt;
+                    matches!(&read.dtype_overwrite, Some(list) if list.dtypes().len() == 2)
+                );
                 assert_eq!(rt; read.n_threads, Some(0));
                 assert_eq!(rt; read.chunk_size, 64);
                 assert_eq!(rt; write.serialize_options.separator, b'|');

@@ -1,4 +1,4 @@
-pub mod NameLaws
+pub mod ListLaws
 pub mod PartLaws
 pub mod SchemaLaws
 pub mod SplitLaws

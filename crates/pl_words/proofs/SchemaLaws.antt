@@ -1,6 +1,6 @@
 -- The schema of a text, entry by entry.
-use Rattle.std.proofs.Common.{◌≡◌, ℕ, ◌+◌, ◌-◌, ◌*◌, ◌^◌, ◌<◌, ◌≤◌, Bool, true, false, not, if◌then◌else◌, ◌&&◌, ◌||◌, ◌==◌, List, [], ◌∷◌, ◌++◌, map, length, position, suc, refl, sym, ◌∙◌, ap, append_assoc, append-nil, arith, lit<}
-use Rattle.std.specs.Prelude.{Option, Some, None, codes, is_some, slice_set, ◌≢◌}
+use Rattle.std.proofs.Common.{◌≡◌, ℕ, ◌+◌, ◌-◌, ◌*◌, ◌^◌, ◌<◌, ◌≤◌, Bool, true, false, not, if◌then◌else◌, ◌&&◌, ◌||◌, List, [], ◌∷◌, ◌++◌, map, length, position, suc, refl, sym, ◌∙◌, ap, append_assoc, append-nil, arith, lit<}
+use Rattle.std.specs.Prelude.{Option, Some, None, is_some, slice_set}
 use Rattle.std.specs.List.{list_any}
 use Rattle.std.specs.Option.{option_map, option_map_or, option_and_then}
 use Rattle.std.specs.Str.{bytes_eq, all_ascii_digits}
@@ -17,8 +17,10 @@ use Rattle.std.specs.Char.{is_ascii_digit}
 use Rattle.pl_cells.specs.Integers.{number_after, number_of, number_below}
 use Rattle.pl_cells.proofs.IntegerLaws.{digit_small}
 use Rattle.pl_words.specs.OptionValues.{count_of}
-use Rattle.pl_words.specs.SchemaText.{SchemaValue, entry_of, all_of, are_distinct, schema_of, small_number}
+use Rattle.pl_words.specs.Lists.{all_of}
+use Rattle.pl_words.specs.SchemaText.{SchemaValue, entry_of, are_distinct, schema_of}
 use Rattle.pl_words.specs.Splitting.{parts_at}
+use Rattle.pl_words.specs.TypeText.{small_number}
 
 abbrev Named : Type 0
 Named = List ℕ × DataType

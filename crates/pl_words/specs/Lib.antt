@@ -1,5 +1,12 @@
+pub mod ColumnWords
+pub mod Defaults
+pub mod Lists
+pub mod NullWords
 pub mod OptionValues
 pub mod Parts
+pub mod ReadWords
 pub mod SchemaText
 pub mod Splitting
+pub mod TypeText
 pub mod Words
+pub mod WriteWords

@@ -1,13 +1,10 @@
--- What the values of options write (docs/command-line.md, "Values").
-use Rattle.std.specs.Prelude.{ℕ, ◌+◌, ◌-◌, ◌*◌, ◌&&◌, ◌==◌, nat_lt, nat_le, if◌then◌else◌, List, [], ◌∷◌, map, length, codes, Option, None, Some}
+-- What the values of options write (docs/command-line.md, "Words").
+use Rattle.std.specs.Prelude.{ℕ, ◌+◌, ◌-◌, ◌*◌, ◌&&◌, ◌==◌, nat_lt, nat_le, if◌then◌else◌, List, [], ◌∷◌, length, codes, Option, None, Some}
 use Rattle.std.specs.Option.{option_map, option_and_then}
 use Rattle.std.specs.Str.{bytes_eq}
 use Rattle.pl_cells.specs.Integers.{is_digits, number_of}
-use Rattle.pl_cells.specs.NullValues.{NamedTexts}
 use Rattle.pl_write.specs.declared.options.QuoteStyle.{QuoteStyle}
 use Rattle.pl_write.specs.declared.options.QuoteStyle.TheVariants as style
-use Rattle.pl_words.specs.SchemaText.{all_of}
-use Rattle.pl_words.specs.Splitting.{cut_at, parts_at}
 
 -- what a hexadecimal digit of either case counts
 abbrev pub hexadecimal_digit : ℕ → Option ℕ
@@ -37,6 +34,10 @@ quote_of text = if bytes_eq text (codes "none") then Some None else option_map (
 abbrev pub count_of : List ℕ → Option ℕ
 count_of text = if is_digits text && nat_le (length text) 18 then Some (number_of text) else None
 
+-- NUM up to 4294967295
+abbrev pub offset_of : List ℕ → Option ℕ
+offset_of text = option_and_then (λ n. if nat_lt n 4294967296 then Some n else None) (count_of text)
+
 -- what ends a line of the output: `lf` or `crlf`
 abbrev pub terminator_named : List ℕ → Option (List ℕ)
 terminator_named text =
@@ -52,7 +53,3 @@ style_named text =
     else if bytes_eq text (codes "nonnumeric") then Some style.NonNumeric
     else if bytes_eq text (codes "never") then Some style.Never
     else None
-
--- between commas stands NAME=TEXT each; both may be empty
-abbrev pub named_texts : List ℕ → Option NamedTexts
-named_texts text = all_of (map (cut_at 61) (parts_at 44 text))

@@ -1,5 +1,5 @@
 -- The shape of the words of the command line: flags and options (docs/command-line.md, "Words").
-use Rattle.std.specs.Prelude.{ℕ, Bool, true, false, not, ◌&&◌, ◌==◌, if◌then◌else◌, List, [], ◌∷◌, map, length, codes, Option, None, Some}
+use Rattle.std.specs.Prelude.{ℕ, Bool, false, not, ◌&&◌, ◌==◌, if◌then◌else◌, List, [], ◌∷◌, map, length, codes, Option, None, Some}
 use Rattle.std.specs.List.{list_all, list_any}
 use Rattle.std.specs.Option.{option_map}
 use Rattle.std.specs.Str.{bytes_eq}
@@ -41,6 +41,14 @@ options =
     ∷ codes "--skip-lines"
     ∷ codes "--skip-rows"
     ∷ codes "--skip-after"
+    ∷ codes "--limit"
+    ∷ codes "--columns"
+    ∷ codes "--projection"
+    ∷ codes "--row-index"
+    ∷ codes "--row-offset"
+    ∷ codes "--dtypes"
+    ∷ codes "--workers"
+    ∷ codes "--piece"
     ∷ codes "--null"
     ∷ codes "--nulls"
     ∷ codes "--null-of"

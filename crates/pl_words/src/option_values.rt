@@ -1,10 +1,13 @@
 //! What the values of options write.
 ghost use Rattle.std.specs.Prelude.{◌≡◌, ◌<◌, MatchOption};
 ghost use Rattle.std.specs.Option.{option_map};
-ghost use Rattle.pl_words.specs.OptionValues.{hexadecimal_digit, hexadecimal_pair, byte_of, quote_of, count_of, terminator_named, style_named};
+ghost use Rattle.pl_words.specs.OptionValues.{hexadecimal_digit, hexadecimal_pair, byte_of, quote_of, count_of, offset_of, terminator_named, style_named};
 
+use crate::from_text::{FromText, meant};
+use crate::words::WordsFault;
 use pl_cells::integers::number_of;
 use pl_write::options::QuoteStyle;
+use std::alloc::Global;
 
 // What a hexadecimal digit counts.
 fn parse_hexadecimal_digit(byte: u8) -> Option<u8>
@@ -66,6 +69,17 @@ pub(crate) fn parse_count(text: &str) -> Option<usize>
     }
 }
 
+// The number up to 4294967295 that 1 to 18 digits write.
+pub(crate) fn parse_offset(text: &str) -> Option<u32>
+    ensures { result ≡ offset_of text.now }
+{
+    let number = parse_count(text)?;
+    match u32::try_from(number) {
+        Ok(offset) => Some(offset),
+        Err(_) => None,
+    }
+}
+
 // The line end that a text names.
 pub(crate) fn parse_terminator(text: &str) -> Option<&'static str>
     ensures { option_map (λ end. end.now) result ≡ terminator_named text.now }
@@ -87,5 +101,32 @@ pub(crate) fn parse_style(text: &str) -> Option<QuoteStyle>
         "nonnumeric" => Some(QuoteStyle::NonNumeric),
         "never" => Some(QuoteStyle::Never),
         _ => None,
+    }
+}
+
+// BYTE.
+impl FromText for u8 {
+    ghost meaning = { byte_of };
+
+    fn from_text(_alloc: Global, text: &str) -> Result<Self, WordsFault> {
+        meant(parse_byte(text))
+    }
+}
+
+// NUM.
+impl FromText for usize {
+    ghost meaning = { count_of };
+
+    fn from_text(_alloc: Global, text: &str) -> Result<Self, WordsFault> {
+        meant(parse_count(text))
+    }
+}
+
+// The name of a style.
+impl FromText for QuoteStyle {
+    ghost meaning = { style_named };
+
+    fn from_text(_alloc: Global, text: &str) -> Result<Self, WordsFault> {
+        meant(parse_style(text))
     }
 }

@@ -17,15 +17,24 @@ pub fn cut_at(text: &str, mark: u8) -> Option<(&str, &str)>
     text.split_once(mark as char)
 }
 
+/// A text of its own. Refuses only want of memory.
+pub(crate) fn copy_text(alloc: Global, text: &str) -> Result<PlSmallStr, WordsFault>
+    ensures copied { IfOk result (λ copy. copy ≡ text.now) }
+    ensures refused { result ≢ Err WordsFault.Words }
+{
+    match PlSmallStr::from_str(alloc, text) {
+        Ok(copy) => Ok(copy),
+        Err(_) => Err(WordsFault::OutOfMemory),
+    }
+}
+
 // Puts a copy of a text at the end. Refuses only want of memory.
 fn push_text(alloc: Global, texts: &mut Vec<PlSmallStr>, text: &str) -> Result<(), WordsFault>
     ensures pushed { OnOk result (texts.new.items ≡ texts.old.items ++ text.now ∷ []) }
     ensures refused { result ≢ Err WordsFault.Words }
 {
-    let Ok(text) = PlSmallStr::from_str(alloc, text) else {
-        return Err(WordsFault::OutOfMemory);
-    };
-    match texts.push(text) {
+    let copy = copy_text(alloc, text)?;
+    match texts.push(copy) {
         Ok(()) => Ok(()),
         Err(_) => Err(WordsFault::OutOfMemory),
     }

@@ -1,7 +1,7 @@
 use Rattle.std.proofs.Common.{◌^◌, ◌∙◌, ap, sym, arith}
 use Rattle.pl_cells.specs.Integers.{number_below}
 use Rattle.pl_words.proofs.SchemaLaws.{small_number-is, small_number-fits}
-use Rattle.pl_words.proofs.schema_text.small_number.Goals as goal
+use Rattle.pl_words.proofs.type_text.small_number.Goals as goal
 
 pub returns-in-None : goal.returns-in-None
 returns-in-None c =

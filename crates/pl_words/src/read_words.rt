@@ -1,0 +1,130 @@
+//! How an input is read, as words give it.
+ghost use Rattle.std.specs.Prelude.{◌≡◌, None, Some, IfOk, IsErrOf};
+ghost use Rattle.std.specs.Option.{option_and_then};
+ghost use Rattle.pl_words.specs.Defaults.{option_or};
+ghost use Rattle.pl_words.specs.OptionValues.{quote_of};
+ghost use Rattle.pl_words.specs.Parts.{part_texts, value_under};
+ghost use Rattle.pl_words.specs.ReadWords.{encoding_of, comment_of, parse_options_of, read_options_of};
+ghost use Rattle.pl_words.specs.SchemaText.{schema_of};
+
+use crate::column_words::row_index_of;
+use crate::from_text::{FromText, meant, set_or, set_under};
+use crate::null_words::null_values_of;
+use crate::option_values::parse_quote;
+use crate::parts::{Part, has_name, value_under};
+use crate::schema_text::parse_schema;
+use crate::words::WordsFault;
+use pl_cells::utf8::CsvEncoding;
+use pl_frame::schema::Schema;
+use pl_infer::parse_options::CsvParseOptions;
+use pl_infer::read_options::CsvReadOptions;
+use pl_scan::comment::CommentPrefix;
+use std::alloc::Global;
+
+// A comment prefix.
+impl FromText for CommentPrefix {
+    ghost meaning = { comment_of };
+
+    fn from_text(alloc: Global, text: &str) -> Result<Self, WordsFault> {
+        match CommentPrefix::new_from_str(alloc, text) {
+            Ok(prefix) => Ok(prefix),
+            Err(_) => Err(WordsFault::OutOfMemory),
+        }
+    }
+}
+
+// The quote under a name, or else the default.
+fn quote_or(parts: &[Part<'_>], name: &str, default: Option<u8>) -> Result<Option<u8>, WordsFault>
+    ensures known { IfOk result (λ quote. option_or default quote_of name.now (part_texts parts.now) ≡ Some quote) }
+    ensures refused { IsErrOf result WordsFault.Words → option_or default quote_of name.now (part_texts parts.now) ≡ None }
+{
+    match value_under(parts, name) {
+        Some(value) => meant(parse_quote(value)),
+        None => Ok(default),
+    }
+}
+
+// The schema under a name. Refuses where there is none or a text without a meaning, and want of memory.
+fn schema_under(alloc: Global, parts: &[Part<'_>], name: &str) -> Result<Schema, WordsFault>
+    ensures known { IfOk result (λ schema. option_and_then schema_of (value_under name.now (part_texts parts.now)) ≡ Some schema) }
+    ensures refused { IsErrOf result WordsFault.Words → option_and_then schema_of (value_under name.now (part_texts parts.now)) ≡ None }
+{
+    match value_under(parts, name) {
+        Some(value) => parse_schema(alloc, value),
+        None => Err(WordsFault::Words),
+    }
+}
+
+// What is done with texts that are not UTF-8.
+fn encoding_of(lossy: bool) -> CsvEncoding
+    ensures { result ≡ encoding_of lossy }
+{
+    if lossy {
+        CsvEncoding::LossyUtf8
+    } else {
+        CsvEncoding::Utf8
+    }
+}
+
+// How records are cut and cells are read. Refuses values without a meaning, and want of memory.
+fn parse_options_of(alloc: Global, parts: &[Part<'_>]) -> Result<CsvParseOptions, WordsFault>
+    ensures options { IfOk result (λ options. parse_options_of (part_texts parts.now) ≡ Some options) }
+    ensures refused { IsErrOf result WordsFault.Words → parse_options_of (part_texts parts.now) ≡ None }
+{
+    let defaults = CsvParseOptions::new();
+    let separator = set_or(alloc, parts, "--sep", defaults.separator)?;
+    let quote_char = quote_or(parts, "--quote", defaults.quote_char)?;
+    let eol_char = set_or(alloc, parts, "--eol", defaults.eol_char)?;
+    let comment_prefix = set_under(alloc, parts, "--comment")?;
+    let null_values = null_values_of(alloc, parts)?;
+    let options = defaults
+        .with_separator(separator)
+        .with_quote_char(quote_char)
+        .with_eol_char(eol_char)
+        .with_comment_prefix(comment_prefix)
+        .with_null_values(null_values)
+        .with_encoding(encoding_of(has_name(parts, "--lossy")))
+        .with_missing_is_null(!has_name(parts, "--keep-missing"))
+        .with_truncate_ragged_lines(has_name(parts, "--truncate"));
+    Ok(options)
+}
+
+/// How an input is read. Refuses parts without a schema, values without a meaning, and want of memory.
+pub(crate) fn read_options_of(
+    alloc: Global,
+    parts: &[Part<'_>],
+) -> Result<CsvReadOptions, WordsFault>
+    ensures options { IfOk result (λ options. read_options_of (part_texts parts.now) ≡ Some options) }
+    ensures refused { IsErrOf result WordsFault.Words → read_options_of (part_texts parts.now) ≡ None }
+{
+    let defaults = CsvReadOptions::new(alloc);
+    let schema = schema_under(alloc, parts, "--schema")?;
+    let dtype_overwrite = set_under(alloc, parts, "--dtypes")?;
+    let parse_options = parse_options_of(alloc, parts)?;
+    let skip_lines = set_or(alloc, parts, "--skip-lines", defaults.skip_lines)?;
+    let skip_rows = set_or(alloc, parts, "--skip-rows", defaults.skip_rows)?;
+    let after_header = defaults.skip_rows_after_header;
+    let after_header = set_or(alloc, parts, "--skip-after", after_header)?;
+    let n_rows = set_under(alloc, parts, "--limit")?;
+    let columns = set_under(alloc, parts, "--columns")?;
+    let projection = set_under(alloc, parts, "--projection")?;
+    let row_index = row_index_of(alloc, parts)?;
+    let n_threads = set_under(alloc, parts, "--workers")?;
+    let chunk_size = set_or(alloc, parts, "--piece", defaults.chunk_size)?;
+    let options = defaults
+        .with_schema(Some(schema))
+        .with_dtype_overwrite(dtype_overwrite)
+        .with_parse_options(parse_options)
+        .with_has_header(!has_name(parts, "--no-header"))
+        .with_skip_lines(skip_lines)
+        .with_skip_rows(skip_rows)
+        .with_skip_rows_after_header(after_header)
+        .with_n_rows(n_rows)
+        .with_columns(columns)
+        .with_projection(projection)
+        .with_row_index(row_index)
+        .with_n_threads(n_threads)
+        .with_chunk_size(chunk_size)
+        .with_ignore_errors(has_name(parts, "--ignore-errors"));
+    Ok(options)
+}

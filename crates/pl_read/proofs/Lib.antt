@@ -4,3 +4,4 @@ pub mod SettlingLaws
 pub mod ProjectionLaws
 pub mod IndexingLaws
 pub mod SliceLaws
+pub mod DataLaws

@@ -47,6 +47,12 @@ projection_cause o schema = first_some (out_of_bounds o schema ∷ duplicate o s
 abbrev pub data_cause : CsvReadOptions → List Entry → List ℕ → Option PolarsError
 data_cause o schema records = first_some (faulty_record o schema records ∷ index_past o.row_index (length (rows_in o records)) (data_columns o schema records) ∷ [])
 
+-- the first cause against data of which columns are asked
+abbrev pub asked_cause : CsvReadOptions → List Entry → List ℕ → Option PolarsError
+asked_cause o schema records =
+    first_some (out_of_bounds o schema ∷ duplicate o schema ∷ nothing_read o schema records ∷ faulty_record o schema records
+    ∷ index_past o.row_index (length (rows_in o records)) (data_columns o schema records) ∷ [])
+
 -- the first cause against an input behind those that stand against its schema's types
 abbrev pub settled_cause : CsvReadOptions → List Entry → List ℕ → Option PolarsError
 settled_cause o schema input = first_some (drop 3 (late_causes o schema input))

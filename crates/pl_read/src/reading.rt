@@ -3,11 +3,11 @@ ghost use Rattle.std.specs.Prelude.{◌≡◌, IfOk, OnOk, IfErr, MatchResult, N
 ghost use Rattle.std.specs.Option.{option_copied, option_map};
 ghost use Rattle.pl_cells.specs.NullValues.{compiled_for};
 ghost use Rattle.pl_read.specs.Options.{keeps_ends, data_of, settled};
-ghost use Rattle.pl_read.specs.Projection.{projected};
+ghost use Rattle.pl_read.specs.Projection.{asked, projected};
 ghost use Rattle.pl_read.specs.Reading.{frame_of, IsRead, IsReadFault};
 ghost use Rattle.pl_read.specs.Refusals.{first_unreadable};
 ghost use Rattle.pl_read.specs.Rows.{data_frame};
-ghost use Rattle.pl_read.specs.Steps.{IsFault, MayRead, late_cause, settled_cause, data_cause, IsPlanOf, CanReadData};
+ghost use Rattle.pl_read.specs.Steps.{IsFault, MayRead, late_cause, settled_cause, asked_cause, data_cause, IsPlanOf, CanReadData};
 
 use crate::checks::check_options;
 use crate::indexing::with_index;
@@ -108,11 +108,31 @@ fn read_settled(
     let Some(records) = data_from_start(input, options) else {
         return Err(PolarsError::NoData(NoDataFault::Skip));
     };
-    let places = projected_places(alloc, options, schema, &asked)?;
-    if places.is_empty() && !records.is_empty() {
+    read_asked(alloc, records, options, schema, null_values.as_ref(), &asked)
+}
+
+// The frame of the data, of which these columns are asked.
+fn read_asked(
+    alloc: Global,
+    records: &[u8],
+    options: &CsvReadOptions,
+    schema: &Schema,
+    null_values: Option<&NullValuesCompiled>,
+    places: &[usize],
+) -> PolarsResult<DataFrame>
+    requires allowed { MayRead options.now }
+    requires readable { first_unreadable schema.now ≡ None }
+    requires compiled { option_copied null_values ≡ option_map (λ values. compiled_for values schema.now) options.now.parse_options.null_values }
+    requires places { places.now ≡ asked options.now schema.now }
+    ensures frame { IfOk result (λ frame. frame ≡ data_frame options.now schema.now records.now) }
+    ensures sound { OnOk result (asked_cause options.now schema.now records.now ≡ None) }
+    ensures refused { IfErr result (IsFault (asked_cause options.now schema.now records.now)) }
+{
+    let read = projected_places(alloc, options, schema, places)?;
+    if read.is_empty() && !records.is_empty() {
         return Err(PolarsError::EmptyProjection);
     }
-    let plan = plan_of(options, schema, &places, null_values.as_ref());
+    let plan = plan_of(options, schema, &read, null_values);
     read_data(alloc, records, options, schema, &plan)
 }
 
@@ -168,8 +188,12 @@ fn read_data(
     let Ok(read) = read_columns(alloc, schema, records, plan) else {
         return Err(PolarsError::OutOfMemory);
     };
-    if let RangeEnd::Fault { row, column, kind } = read.end {
-        return Err(PolarsError::ComputeError(ComputeFault::Record { row, column, kind }));
+    match read.end {
+        RangeEnd::Fault { row, column, kind } => {
+            Err(PolarsError::ComputeError(ComputeFault::Record { row, column, kind }))
+        }
+        RangeEnd::Closed | RangeEnd::Open => {
+            with_index(alloc, options.row_index.as_ref(), read.columns)
+        }
     }
-    with_index(alloc, options.row_index.as_ref(), read.columns)
 }

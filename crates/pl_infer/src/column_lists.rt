@@ -1,8 +1,7 @@
 //! Lists that options hold.
-ghost use Rattle.std.specs.Prelude.{◌≡◌, IfOk, IsOkUnless};
+ghost use Rattle.std.specs.Prelude.{◌≡◌, nat_eq, IfOk, IsOkUnless};
 ghost use Rattle.std.specs.Cmp.{nat_eq_equiv, partial_equiv_from_equiv};
 ghost use Rattle.std.specs.Cmp.Lexicographic.{lists_equiv, lists_per, nat_list_eq_equiv, pointwise};
-ghost use Rattle.std.specs.Prelude.{nat_eq};
 ghost use Rattle.std.specs.Str.{bytes_eq};
 ghost use Rattle.pl_frame.specs.Equal.{types_equal};
 ghost use Rattle.pl_frame.specs.EqualLaws.{types_equiv};

@@ -4,7 +4,7 @@ use Rattle.std.proofs.Math.Seq.{drop-append-add, drop-nil, take-append-add, take
 use Rattle.std.proofs.lemmas.Bool.{leb-true, leb-false}
 use Rattle.std.proofs.lemmas.List.{append-nil, take-append-le, drop-append-le}
 use Rattle.pl_read.specs.declared.slices.SplitSlicePosition.TheVariants.{Before, Overlapping, After}
-use Rattle.pl_read.specs.Slices.{rows_at, rows_in_file, part_of, joined_parts, all_rows, slice_of, PartsAreTheSlice}
+use Rattle.pl_read.specs.Slices.{rows_at, rows_in_file, part_of, joined_parts, all_rows, slice_of}
 
 module _ {T : Type 0} where
   -- the rows of a slice from a row of all files on, of which these are left
@@ -42,7 +42,7 @@ module _ {T : Type 0} where
   -- a file in which the slice begins, or in which it goes on
   joined : (rows later : List T) (current start end : ℕ) → start < current + length rows → current < end
       → part_of rows (start - current, min end (current + length rows) - max start current) ++ rest_of_slice later (current + length rows) start end
-        ≡ rest_of_slice (rows ++ later) current start end
+      ≡ rest_of_slice (rows ++ later) current start end
   joined rows later current start end begins ends =
       let offset : start - (current + length rows) ≡ 0 = omega (arith, begins) in
       ap (λ n. take (min end (current + length rows) - max start current) (drop (start - current) rows) ++ take (end - max start (current + length rows)) (drop n later)) offset
@@ -51,7 +51,7 @@ module _ {T : Type 0} where
     where
       by_end : (t : Bool) → nat_le end (current + length rows) ≡ t
           → take (min end (current + length rows) - max start current) (drop (start - current) rows) ++ take (end - max start (current + length rows)) later
-            ≡ take (end - max start current) (drop (start - current) rows ++ later)
+          ≡ take (end - max start current) (drop (start - current) rows ++ later)
       by_end true e =
           let last = leb-true end (current + length rows) e in
           let long = length-drop (start - current) rows in

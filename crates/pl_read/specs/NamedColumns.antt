@@ -1,6 +1,7 @@
--- The places in a file of columns that are asked for by name.
-use Rattle.std.specs.Prelude.{◌≡◌, ℕ, ◌-◌, Bool, true, false, ◌||◌, not, if◌then◌else◌, IsTrue, List, [], map, filter, All, Option, None, Some, is_some}
-use Rattle.std.specs.List.{list_any}
+-- The places in a file of columns that are asked for by name (docs/files.md, "Names and places").
+use Rattle.std.specs.Prelude.{◌≡◌, ℕ, zero, suc, Bool, true, false, ◌||◌, not, List, [], map, filter, Option, None, Some, is_some}
+use Rattle.std.specs.Borrow.{Bor}
+use Rattle.std.specs.List.{list_all, list_any}
 use Rattle.std.specs.Option.{option_and_then}
 use Rattle.std.specs.Str.{bytes_eq}
 use Rattle.pl_frame.specs.Frame.{ColumnValue}
@@ -16,23 +17,23 @@ place_behind true (suc place) = Some place
 abbrev pub place_in_file : List Entry → Bool → List ℕ → Option ℕ
 place_in_file schema has_row_index name = option_and_then (place_behind has_row_index) (place_of name schema)
 
--- the names of the partitions, where there are any
-abbrev pub partition_names : Option (List ColumnValue) → List (List ℕ)
-partition_names None = []
-partition_names (Some columns) = map (λ column. column.name) columns
+-- the partitions, where there are any
+abbrev pub partitions_in : Option (Bor (List ColumnValue)) → List ColumnValue
+partitions_in None = []
+partitions_in (Some partitions) = partitions.now
 
 -- it is the name of a partition
-abbrev pub is_partition : List (List ℕ) → List ℕ → Bool
-is_partition partitions name = list_any (bytes_eq name) partitions
+abbrev pub is_partition : List ColumnValue → List ℕ → Bool
+is_partition partitions name = list_any (λ partition. bytes_eq name partition.name) partitions
 
 -- those of the names that are none of a partition
-abbrev pub names_in_file : List (List ℕ) → List (List ℕ) → List (List ℕ)
+abbrev pub names_in_file : List ColumnValue → List (List ℕ) → List (List ℕ)
 names_in_file partitions names = filter (λ name. not (is_partition partitions name)) names
 
 -- each of the names is that of a partition or of a column of the file
-abbrev pub HavePlaces : List Entry → List (List ℕ) → Bool → List (List ℕ) → Type 0
-HavePlaces schema partitions has_row_index names = All (λ name. IsTrue (is_partition partitions name || is_some (place_in_file schema has_row_index name))) names
+abbrev pub have_places : List Entry → List ColumnValue → Bool → List (List ℕ) → Bool
+have_places schema partitions has_row_index names = list_all (λ name. is_partition partitions name || is_some (place_in_file schema has_row_index name)) names
 
 -- these are the places of the names that are none of a partition, in their order
-abbrev pub ArePlaces : List Entry → List (List ℕ) → Bool → List (List ℕ) → List ℕ → Type 0
+abbrev pub ArePlaces : List Entry → List ColumnValue → Bool → List (List ℕ) → List ℕ → Type 0
 ArePlaces schema partitions has_row_index names places = map Some places ≡ map (place_in_file schema has_row_index) (names_in_file partitions names)

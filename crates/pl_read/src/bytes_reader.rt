@@ -1,11 +1,10 @@
 //! What readers read: sources that may lend all their bytes.
-ghost use Rattle.std.specs.Prelude.{◌≡◌, ◌≤◌, ℕ, List, Option, None, Some, is_some, IsNone, IsSome, IfOk, IfErr, IfSome, OnOk};
-ghost use Rattle.std.specs.Borrow.{sem};
-ghost use Rattle.std.specs.Io.BufRead.{Rests};
+ghost use Rattle.std.specs.Prelude.{◌≡◌, ◌≢◌, ◌≤◌, ◌⊎◌, ℕ, List, Option, None, Some, IsNone, IsSome, Ok, IfOk, IfErr, IfSome};
 ghost use Rattle.std.specs.Io.KnownBytes.{IsAtEnd};
 ghost use Rattle.std.specs.Option.{option_map};
+ghost use Rattle.pl_frame.specs.declared.error.PolarsError.TheVariants as error;
 ghost use Rattle.pl_infer.specs.ReaderBytes.{bytes_in};
-ghost use Rattle.pl_read.specs.BytesReader.{input_of, IsSourceFault, AfterRead};
+ghost use Rattle.pl_read.specs.BytesReader.{input_of, IsSourceFault};
 
 use pl_frame::error::{PolarsError, PolarsResult};
 use pl_frame::read_all::{ReadAllFault, read_all};
@@ -63,7 +62,7 @@ pub fn read_unlent<R: MmapBytesReader>(
     alloc: Global,
     reader: &mut R,
 ) -> PolarsResult<Option<Vec<u8>>>
-    ensures lent { IsSome (R.lent reader.old) → IfOk result (λ read. IsNone read) × (reader.new ≡ reader.old) }
+    ensures lent { IsSome (R.lent reader.old) → (result ≡ Ok None) × (reader.new ≡ reader.old) }
     ensures read { IsNone (R.lent reader.old) → IfOk result (λ read. IsSome read) }
     ensures bytes { IfOk result (λ read. IfSome read (λ bytes. IfSome (R.left reader.old) (λ left. bytes.items ≡ left))) }
     ensures end { IfOk result (λ read. IsSome read → IsAtEnd (R.left reader.new)) }
@@ -80,38 +79,53 @@ pub fn read_unlent<R: MmapBytesReader>(
     }
 }
 
+/// The bytes of a reader after `read_unlent`: those that were read, or else those that it lends. Takes no memory.
+pub fn lent_or_read<R: MmapBytesReader>(reader: &R, read: Option<Vec<u8>>) -> ReaderBytes<'_>
+    requires { IsSome read ⊎ IsSome (R.lent reader.now) }
+    ensures read { IfSome read (λ bytes. bytes_in result ≡ bytes.items) }
+    ensures lent { IsNone read → Some (bytes_in result) ≡ R.lent reader.now }
+{
+    if let Some(bytes) = read {
+        return ReaderBytes::Owned(bytes);
+    }
+    let Some(bytes) = reader.to_bytes() else {
+        unreachable!();
+    };
+    ReaderBytes::Borrowed(bytes)
+}
+
 /// The bytes of a reader where it lends them, and else what is left of its source, read to its end.
 ///
-/// Refuses `IO` only where the reader's count of faults rose, and want of memory, in which a source without end ends.
+/// Refuses `IO` only where the reader lends no bytes and its count of faults rose, as `read_unlent` says, and want of
+/// memory, in which a source without end ends.
 pub fn get_reader_bytes<R: MmapBytesReader>(
     alloc: Global,
     reader: &mut R,
 ) -> PolarsResult<ReaderBytes<'_>>
     ensures input { IfOk result (λ bytes. IfSome (input_of (R.lent reader.old) (R.left reader.old)) (λ input. bytes_in bytes ≡ input)) }
-    ensures* after_borrow { sem 𝓛 (Rests R.row reader.entry (λ new. AfterRead R.faults reader.old new result)) }
+    ensures refused { IfErr result (λ fault. fault ≢ error.OutOfMemory → (fault ≡ error.IO) × IsNone (R.lent reader.old)) }
 {
-    match read_unlent(alloc, reader) {
-        Err(fault) => Err(fault),
-        Ok(Some(bytes)) => Ok(ReaderBytes::Owned(bytes)),
-        Ok(None) => Ok(ReaderBytes::Borrowed(lent_bytes(reader))),
-    }
-}
-
-// The bytes that a reader lends.
-fn lent_bytes<R: MmapBytesReader>(reader: &R) -> &[u8]
-    requires { IsSome (R.lent reader.now) }
-    ensures { Some result.now ≡ R.lent reader.now }
-{
-    match reader.to_bytes() {
-        Some(bytes) => bytes,
-        None => unreachable!(),
-    }
+    let read = read_unlent(alloc, reader)?;
+    Ok(lent_or_read(reader, read))
 }
 
 #[cfg(test)]
 mod tests {
     use super::*;
     use std::test::Fail;
+
+    // Through the bound: whether a reader lends its bytes.
+    fn lends<R: MmapBytesReader + Drop>(reader: R) -> bool {
+        reader.to_bytes().is_some()
+    }
+
+    #[test]
+    fn what_stands_for_a_reader_lends_as_it_does(rt: HostRuntime) -> Result<(), Fail> {
+        assert!(rt; lends(&mut MemSource::new(b"ab")));
+        assert!(rt; lends(Box::new(rt.alloc(), MemSource::new(b"ab"))?));
+        assert!(rt; !lends(&mut PipeSource::new(b"ab", 1, &[])));
+        Ok(())
+    }
 
     #[test]
     fn memory_lends_its_bytes_and_a_pipe_is_read(rt: HostRuntime) -> Result<(), Fail> {

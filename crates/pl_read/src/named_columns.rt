@@ -1,8 +1,8 @@
 //! The places in a file of columns that are asked for by name.
-ghost use Rattle.std.specs.Prelude.{◌≡◌, ◌↔◌, ◌||◌, IsTrue, is_some, map, Some, IsSome, IsNone, ForSome, IfOk, IfSome, IsOkUnless};
-ghost use Rattle.std.specs.Option.{option_map};
+ghost use Rattle.std.specs.Prelude.{◌≡◌, ◌↔◌, ◌||◌, IsTrue, is_some, Some, IsSome, IfOk, IfSome, IsOkUnless};
+ghost use Rattle.std.specs.Option.{ForSome};
 ghost use Rattle.pl_frame.specs.declared.error.PolarsError.TheVariants as error;
-ghost use Rattle.pl_read.specs.NamedColumns.{ArePlaces, HavePlaces, is_partition, partition_names, place_in_file};
+ghost use Rattle.pl_read.specs.NamedColumns.{ArePlaces, have_places, is_partition, partitions_in, place_in_file};
 
 use pl_frame::column::{Column, Series};
 use pl_frame::error::{PolarsError, PolarsResult};
@@ -10,11 +10,25 @@ use pl_frame::name::PlSmallStr;
 use pl_frame::schema::Schema;
 use std::alloc::Global;
 
+/// Whether each of the names is that of a partition or of a column of the file: of the schema, and not of its first column
+/// where that is a row index. Takes no memory.
+pub fn have_places(
+    names: &[PlSmallStr],
+    schema: &Schema,
+    hive_partitions: Option<&[Series]>,
+    has_row_index: bool,
+) -> bool
+    ensures { result ≡ have_places schema.now (partitions_in hive_partitions.entry) has_row_index names.now }
+{
+    let partitions = partitions_in(hive_partitions);
+    names.iter().all(|name| has_place(partitions, schema, has_row_index, name.as_str()))
+}
+
 /// The places in a file of the columns that are asked for, in the order of their names; `None` where none are named.
 ///
 /// A name of a partition is passed over, since its column stands in no file. Each other name must be one of the schema, and
-/// where a row index stands first, its place is counted without that; the row index itself must not be asked for. Refuses
-/// only want of memory.
+/// where a row index stands first, its place is counted without that; the row index itself must not be asked for.
+/// `have_places` tells whether it is so. Refuses only want of memory.
 pub fn materialize_projection(
     alloc: Global,
     with_columns: Option<&[PlSmallStr]>,
@@ -22,15 +36,15 @@ pub fn materialize_projection(
     hive_partitions: Option<&[Series]>,
     has_row_index: bool,
 ) -> PolarsResult<Option<Vec<usize>>>
-    requires { ForSome with_columns (λ names. HavePlaces schema.now (partition_names (option_map (λ columns. columns.now) hive_partitions)) has_row_index names.now) }
-    ensures named { IfOk result (λ found. IsSome found ↔ IsSome with_columns) }
-    ensures places { IfOk result (λ found. IfSome found (λ places. IfSome with_columns (λ names. ArePlaces schema.now (partition_names (option_map (λ columns. columns.now) hive_partitions)) has_row_index names.now places.items))) }
+    requires { ForSome with_columns (λ names. IsTrue (have_places schema.now (partitions_in hive_partitions) has_row_index names.now)) }
+    ensures named { IfOk result (λ found. IsSome found ↔ IsSome with_columns.entry) }
+    ensures places { IfOk result (λ found. IfSome found (λ places. IfSome with_columns.entry (λ names. ArePlaces schema.now (partitions_in hive_partitions.entry) has_row_index names.now places.items))) }
     ensures refused { IsOkUnless result error.OutOfMemory }
 {
     let Some(names) = with_columns else {
         return Ok(None);
     };
-    let partitions = hive_partitions.unwrap_or(&[]);
+    let partitions = partitions_in(hive_partitions);
     let places = places_of(alloc, names, schema, partitions, has_row_index)?;
     Ok(Some(places))
 }
@@ -43,8 +57,8 @@ fn places_of(
     partitions: &[Column],
     has_row_index: bool,
 ) -> PolarsResult<Vec<usize>>
-    requires { HavePlaces schema.now (map (λ column. column.name) partitions.now) has_row_index names.now }
-    ensures places { IfOk result (λ places. ArePlaces schema.now (map (λ column. column.name) partitions.now) has_row_index names.now places.items) }
+    requires { IsTrue (have_places schema.now partitions.now has_row_index names.now) }
+    ensures places { IfOk result (λ places. ArePlaces schema.now partitions.now has_row_index names.now places.items) }
     ensures refused { IsOkUnless result error.OutOfMemory }
 {
     let mut places = Vec::new(alloc);
@@ -60,11 +74,32 @@ fn places_of(
     Ok(places)
 }
 
+// The partitions, where there are any.
+fn partitions_in(hive_partitions: Option<&[Series]>) -> &[Series]
+    ensures { result.now ≡ partitions_in hive_partitions.entry }
+{
+    hive_partitions.unwrap_or(&[])
+}
+
 // Whether a partition has this name.
 fn is_partition(partitions: &[Column], name: &str) -> bool
-    ensures { result ≡ is_partition (map (λ column. column.name) partitions.now) name.now }
+    ensures { result ≡ is_partition partitions.now name.now }
 {
     partitions.iter().any(|column| name == column.name())
+}
+
+// Whether a name is that of a partition or of a column of the file.
+fn has_place(partitions: &[Column], schema: &Schema, has_row_index: bool, name: &str) -> bool
+    ensures { result ≡ (is_partition partitions.now name.now || is_some (place_in_file schema.now has_row_index name.now)) }
+{
+    if is_partition(partitions, name) {
+        return true;
+    }
+    match schema.index_of(name) {
+        Some(0) => !has_row_index,
+        Some(_) => true,
+        None => false,
+    }
 }
 
 // The place of a name that the file has.
@@ -82,6 +117,7 @@ fn place_of_name(schema: &Schema, has_row_index: bool, name: &str) -> usize
 mod tests {
     use super::*;
     use pl_frame::data_type::DataType;
+    use std::process::Abort;
     use std::test::Fail;
 
     // A schema of strings under these names.
@@ -93,14 +129,35 @@ mod tests {
         Ok(schema)
     }
 
+    // Whether these are the places that are told of these names in this schema.
+    fn tells(
+        rt: &impl Abort,
+        alloc: Global,
+        names: &[&str],
+        schema: &[&str],
+        has_row_index: bool,
+        places: &[usize],
+    ) -> Result<bool, Fail> {
+        let mut asked = Vec::new(alloc);
+        for name in names {
+            asked.push(PlSmallStr::from_str(alloc, name)?)?;
+        }
+        let schema = schema_of(alloc, schema)?;
+        let known = have_places(&asked, &schema, None, has_row_index);
+        assert!(rt; known);
+        let asked = Some(asked.as_slice());
+        let told = materialize_projection(alloc, asked, &schema, None, has_row_index)?;
+        Ok(told.is_some_and(|told| told.as_slice() == places))
+    }
+
     #[test]
     fn names_have_places_in_the_file(rt: HostRuntime) -> Result<(), Fail> {
         let alloc = rt.alloc();
-        let b = PlSmallStr::from_str(alloc, "b")?;
-        let names = vec![in alloc; PlSmallStr::from_str(alloc, "c")?, PlSmallStr::from_str(alloc, "a")?]?;
-        let schema = schema_of(alloc, &["a", "b", "c"])?;
-        let places = materialize_projection(alloc, Some(&names), &schema, None, false)?;
-        assert_eq!(rt; places.as_deref(), Some([2, 0].as_slice()));
+        assert!(rt; tells(&rt, alloc, &["c", "a"], &["a", "b", "c"], false, &[2, 0])?);
+        assert!(rt; tells(&rt, alloc, &["b"], &["n", "a", "b"], true, &[1])?);
+        assert!(rt; tells(&rt, alloc, &[], &["a"], false, &[])?);
+        let told = materialize_projection(alloc, None, &Schema::new(alloc), None, false)?;
+        assert!(rt; told.is_none());
         Ok(())
     }
 }

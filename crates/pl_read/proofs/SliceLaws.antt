@@ -4,7 +4,7 @@ use Rattle.std.proofs.Math.Seq.{drop-append-add, drop-nil, take-append-add, take
 use Rattle.std.proofs.lemmas.Bool.{leb-true, leb-false}
 use Rattle.std.proofs.lemmas.List.{append-nil, take-append-le, drop-append-le}
 use Rattle.pl_read.specs.declared.slices.SplitSlicePosition.TheVariants.{Before, Overlapping, After}
-use Rattle.pl_read.specs.Slices.{rows_at, rows_in_file, part_of, joined_parts, all_rows, slice_of, PartsAreTheSlice}
+use Rattle.pl_read.specs.Slices.{rows_at, rows_in_file, part_of, joined_parts, all_rows, slice_of}
 
 module _ {T : Type 0} where
   -- the rows of a slice from a row of all files on, of which these are left

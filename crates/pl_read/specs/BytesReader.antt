@@ -1,4 +1,4 @@
--- The bytes that a reader reads.
+-- The bytes that a reader reads (docs/files.md, "The bytes of an input").
 use Rattle.std.specs.Prelude.{◌≡◌, ◌≢◌, ℕ, List, Option, None, Some}
 use Rattle.pl_frame.specs.Causes.{Rose}
 use Rattle.pl_frame.specs.declared.error.PolarsError.{PolarsError}

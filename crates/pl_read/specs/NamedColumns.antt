@@ -1,4 +1,4 @@
--- The places in a file of columns that are asked for by name.
+-- The places in a file of columns that are asked for by name (docs/files.md, "Names and places").
 use Rattle.std.specs.Prelude.{◌≡◌, ℕ, zero, suc, Bool, true, false, ◌||◌, not, List, [], map, filter, Option, None, Some, is_some}
 use Rattle.std.specs.Borrow.{Bor}
 use Rattle.std.specs.List.{list_all, list_any}

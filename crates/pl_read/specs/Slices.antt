@@ -1,4 +1,4 @@
--- Where a slice of rows lies in one of several files.
+-- Where a slice of rows lies in one of several files (docs/files.md, "A slice of several files").
 use Rattle.std.specs.Prelude.{◌≡◌, ℕ, ◌+◌, ◌-◌, nat_le, min, max, if◌then◌else◌, List, [], ◌∷◌, ◌++◌, length, take, drop, flat_map}
 use Rattle.pl_read.specs.declared.slices.SplitSlicePosition.{SplitSlicePosition}
 use Rattle.pl_read.specs.declared.slices.SplitSlicePosition.TheVariants.{Before, Overlapping, After}

@@ -114,6 +114,19 @@ mod tests {
     use super::*;
     use std::test::Fail;
 
+    // Through the bound: whether a reader lends its bytes.
+    fn lends<R: MmapBytesReader + Drop>(reader: R) -> bool {
+        reader.to_bytes().is_some()
+    }
+
+    #[test]
+    fn what_stands_for_a_reader_lends_as_it_does(rt: HostRuntime) -> Result<(), Fail> {
+        assert!(rt; lends(&mut MemSource::new(b"ab")));
+        assert!(rt; lends(Box::new(rt.alloc(), MemSource::new(b"ab"))?));
+        assert!(rt; !lends(&mut PipeSource::new(b"ab", 1, &[])));
+        Ok(())
+    }
+
     #[test]
     fn memory_lends_its_bytes_and_a_pipe_is_read(rt: HostRuntime) -> Result<(), Fail> {
         let alloc = rt.alloc();

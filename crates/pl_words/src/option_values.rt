@@ -33,7 +33,7 @@ fn parse_hexadecimal_pair(high: u8, low: u8) -> Option<u8>
 }
 
 // The byte that a text writes: one ASCII character, or `x` and two hexadecimal digits.
-pub(crate) fn parse_byte(text: &str) -> Option<u8>
+fn parse_byte(text: &str) -> Option<u8>
     ensures { result ≡ byte_of text.now }
 {
     match text.as_bytes() {
@@ -43,7 +43,7 @@ pub(crate) fn parse_byte(text: &str) -> Option<u8>
     }
 }
 
-// The quote that a text writes: a byte, or `none`.
+/// The quote that a text writes: a byte, or `none`.
 pub(crate) fn parse_quote(text: &str) -> Option<Option<u8>>
     ensures { result ≡ quote_of text.now }
 {
@@ -57,7 +57,7 @@ pub(crate) fn parse_quote(text: &str) -> Option<Option<u8>>
 }
 
 // The number that 1 to 18 digits write.
-pub(crate) fn parse_count(text: &str) -> Option<usize>
+fn parse_count(text: &str) -> Option<usize>
     ensures { result ≡ count_of text.now }
 {
     if text.len() > 18 {
@@ -69,7 +69,7 @@ pub(crate) fn parse_count(text: &str) -> Option<usize>
     }
 }
 
-// The number up to 4294967295 that 1 to 18 digits write.
+/// The number up to 4294967295 that 1 to 18 digits write.
 pub(crate) fn parse_offset(text: &str) -> Option<u32>
     ensures { result ≡ offset_of text.now }
 {
@@ -80,7 +80,7 @@ pub(crate) fn parse_offset(text: &str) -> Option<u32>
     }
 }
 
-// The line end that a text names.
+/// The line end that a text names.
 pub(crate) fn parse_terminator(text: &str) -> Option<&'static str>
     ensures { option_map (λ end. end.now) result ≡ terminator_named text.now }
 {
@@ -92,7 +92,7 @@ pub(crate) fn parse_terminator(text: &str) -> Option<&'static str>
 }
 
 // The style that a text names.
-pub(crate) fn parse_style(text: &str) -> Option<QuoteStyle>
+fn parse_style(text: &str) -> Option<QuoteStyle>
     ensures { result ≡ style_named text.now }
 {
     match text {

@@ -1,13 +1,14 @@
 //! From the bytes of an input to the frame that they mean.
-ghost use Rattle.std.specs.Prelude.{◌≡◌, IfOk, OnOk, IfErr, MatchResult, None};
+ghost use Rattle.std.specs.Prelude.{◌≡◌, ◌==◌, ◌&&◌, nat_lt, length, IfOk, OnOk, IfErr, MatchResult, None};
 ghost use Rattle.std.specs.Option.{option_copied, option_map};
+ghost use Rattle.pl_frame.specs.Schema.{HaveDistinctNames};
 ghost use Rattle.pl_cells.specs.NullValues.{compiled_for};
 ghost use Rattle.pl_read.specs.Options.{keeps_ends, data_of, settled};
-ghost use Rattle.pl_read.specs.Projection.{asked, projected};
+ghost use Rattle.pl_read.specs.Projection.{asked, projected, taken_name};
 ghost use Rattle.pl_read.specs.Reading.{frame_of, IsRead, IsReadFault};
 ghost use Rattle.pl_read.specs.Refusals.{first_unreadable};
 ghost use Rattle.pl_read.specs.Rows.{data_frame};
-ghost use Rattle.pl_read.specs.Steps.{IsFault, MayRead, late_cause, settled_cause, asked_cause, data_cause, IsPlanOf, CanReadData};
+ghost use Rattle.pl_read.specs.Steps.{IsFault, MayRead, late_cause, settled_cause, asked_cause, projected_cause, data_cause, IsPlanOf, CanReadData};
 
 use crate::checks::check_options;
 use crate::indexing::with_index;
@@ -38,7 +39,10 @@ pub fn read_frame(
     ensures { MatchResult result (IsRead options.now (settled options.now schema.now) input.now) (IsReadFault options.now (settled options.now schema.now) input.now) }
 {
     check_options(options)?;
-    read_checked(alloc, input, options, schema)
+    match read_checked(alloc, input, options, schema) {
+        Ok(frame) => Ok(frame),
+        Err(fault) => Err(fault),
+    }
 }
 
 /// The frame that an input means under a schema that is given, where the options may stand: `check_options` tells. Refuses the
@@ -128,12 +132,42 @@ fn read_asked(
     ensures sound { OnOk result (asked_cause options.now schema.now records.now ≡ None) }
     ensures refused { IfErr result (IsFault (asked_cause options.now schema.now records.now)) }
 {
-    let read = projected_places(alloc, options, schema, places)?;
-    if read.is_empty() && !records.is_empty() {
+    match projected_places(alloc, options, schema, places) {
+        Ok(places) => read_projected(alloc, records, options, schema, null_values, &places),
+        Err(fault) => Err(fault),
+    }
+}
+
+// The frame of the data, of which these columns are read.
+fn read_projected(
+    alloc: Global,
+    records: &[u8],
+    options: &CsvReadOptions,
+    schema: &Schema,
+    null_values: Option<&NullValuesCompiled>,
+    places: &[usize],
+) -> PolarsResult<DataFrame>
+    requires allowed { MayRead options.now }
+    requires readable { first_unreadable schema.now ≡ None }
+    requires compiled { option_copied null_values ≡ option_map (λ values. compiled_for values schema.now) options.now.parse_options.null_values }
+    requires places { places.now ≡ projected options.now schema.now }
+    requires free { taken_name options.now schema.now ≡ None }
+    ensures frame { IfOk result (λ frame. frame ≡ data_frame options.now schema.now records.now) }
+    ensures sound { OnOk result (projected_cause options.now schema.now records.now ≡ None) }
+    ensures refused { IfErr result (IsFault (projected_cause options.now schema.now records.now)) }
+{
+    if is_nothing_read(places, records) {
         return Err(PolarsError::EmptyProjection);
     }
-    let plan = plan_of(options, schema, &read, null_values);
+    let plan = plan_of(options, schema, places, null_values);
     read_data(alloc, records, options, schema, &plan)
+}
+
+// Whether no column is read, and there is data.
+fn is_nothing_read(places: &[usize], records: &[u8]) -> bool
+    ensures { result ≡ (length places.now == 0 && nat_lt 0 (length records.now)) }
+{
+    places.is_empty() && !records.is_empty()
 }
 
 // How the projected columns are read, with the null values of the schema's columns.
@@ -147,6 +181,7 @@ fn plan_of<'a>(
     requires compiled { option_copied null_values ≡ option_map (λ values. compiled_for values schema.now) options.now.parse_options.null_values }
     ensures plan { IsPlanOf result options.now schema.now }
     ensures nulls { result.options.null_values ≡ null_values.entry }
+    ensures distinct { HaveDistinctNames schema.now }
 {
     let parse_options = &options.parse_options;
     RangePlan {

@@ -15,6 +15,8 @@ pub mod equal;
 pub mod error;
 pub mod frame;
 pub mod frame_columns;
+#[cfg(test)]
+mod frame_parts;
 pub mod frame_rows;
 mod gathered;
 pub mod laws;

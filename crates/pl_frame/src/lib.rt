@@ -14,9 +14,9 @@ pub mod data_type;
 pub mod equal;
 pub mod error;
 pub mod frame;
-pub mod frame_columns;
 #[cfg(test)]
-mod frame_parts;
+mod frame_calls;
+pub mod frame_columns;
 pub mod frame_rows;
 mod gathered;
 pub mod laws;

@@ -170,9 +170,9 @@ module _ (column : ColumnValue) (row : ℕ) (enumerated : is_enum column.dtype �
 
     pub codes_more : AreCodes (categories_of column.dtype) xs → AreCodes (categories_of column.dtype) new
     codes_more are = subst (AreCodes (categories_of column.dtype)) (sym e) (codes-push (categories_of column.dtype) xs code are
-      (ap (λ c. code_of (categories_of column.dtype) (text_for (categories_of column.dtype) c)) (from ∙ code_is)
-      ∙ coded (text_for (categories_of column.dtype) (code_of (categories_of column.dtype) (text_in (cell_at column row)))) (place_same column.dtype (cell_at column row) enumerated fits)
-      ∙ sym (from ∙ code_is)))
+        (ap (λ c. code_of (categories_of column.dtype) (text_for (categories_of column.dtype) c)) (from ∙ code_is)
+        ∙ coded (text_for (categories_of column.dtype) (code_of (categories_of column.dtype) (text_in (cell_at column row)))) (place_same column.dtype (cell_at column row) enumerated fits)
+        ∙ sym (from ∙ code_is)))
       where
         letters : (o : Option (List ℕ)) → text_in (option_map Letters o) ≡ o
         letters None = refl

@@ -6,3 +6,4 @@ pub mod IndexingLaws
 pub mod SliceLaws
 pub mod DataLaws
 pub mod LimitLaws
+pub mod SelectionLaws

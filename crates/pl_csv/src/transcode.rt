@@ -1,0 +1,64 @@
+//! From the bytes of an input to the text of its frame.
+ghost use Rattle.std.specs.Prelude.{◌≡◌, ◌≤◌, IfOk, OnOk, IfErr, IsSome, MatchResult};
+ghost use Rattle.pl_read.specs.Options.{settled_schema};
+ghost use Rattle.pl_csv.specs.Transcoding.{IsValidRead, IsUnread, IsTranscoded, IsTranscodeFault};
+ghost use Rattle.pl_csv.specs.Views.{sink_view};
+
+use pl_frame::error::{ComputeFault, PolarsError, PolarsResult};
+use pl_frame::frame::DataFrame;
+use pl_frame::sink::{Sink, SinkFault};
+use pl_infer::read_options::CsvReadOptions;
+use pl_read::checks::check_options;
+use pl_read::reading::read_checked;
+use pl_write::options::CsvWriterOptions;
+use pl_write::writer::write_frame;
+use std::alloc::Global;
+
+// The frame that an input means under the schema of the options, which can be written. Refuses the first cause against it,
+// and want of memory.
+fn read_valid(
+    alloc: Global,
+    input: &[u8],
+    read: &CsvReadOptions,
+    write: &CsvWriterOptions,
+) -> PolarsResult<DataFrame>
+    requires given { IsSome read.now.schema }
+    ensures { MatchResult result (IsValidRead read.now (settled_schema read.now) input.now write.now) (IsUnread read.now (settled_schema read.now) input.now write.now) }
+{
+    check_options(read)?;
+    if !write.serialize_options.quote_char.is_ascii() {
+        return Err(PolarsError::ComputeError(ComputeFault::Quote));
+    }
+    match &read.schema {
+        Some(schema) => read_checked(alloc, input, read, schema),
+        None => unreachable!(),
+    }
+}
+
+/// Reads an input under the schema of the options, writes the text of its frame to a sink, and answers the frame.
+///
+/// Refuses, before any byte is written, the first cause against the frame (docs/refusals.md), a quote for the output that is
+/// not ASCII standing behind wrong options and before a compressed input. Refuses a fault of the sink (`IO`), which then
+/// received a prefix of the text; and want of memory, with such a prefix or nothing received.
+pub fn transcode<S: Sink>(
+    alloc: Global,
+    input: &[u8],
+    read: &CsvReadOptions,
+    write: &CsvWriterOptions,
+    sink: &mut S,
+) -> PolarsResult<DataFrame>
+    requires given { IsSome read.now.schema }
+    ensures converted { IfOk result (IsTranscoded read.now write.now input.now (S.received sink.old) (S.received sink.new)) }
+    ensures refused { IfErr result (IsTranscodeFault read.now write.now input.now
+        (sink_view (S.received sink.old) (S.faults sink.old) (S.wants sink.old))
+        (sink_view (S.received sink.new) (S.faults sink.new) (S.wants sink.new))) }
+    ensures later { S.faults sink.old ≤ S.faults sink.new }
+    ensures later_wants { S.wants sink.old ≤ S.wants sink.new }
+{
+    let frame = read_valid(alloc, input, read, write)?;
+    match write_frame(alloc, frame.columns(), write, sink) {
+        Ok(()) => Ok(frame),
+        Err(SinkFault::Device) => Err(PolarsError::IO),
+        Err(SinkFault::OutOfMemory) => Err(PolarsError::OutOfMemory),
+    }
+}

@@ -44,7 +44,7 @@ first-not_io (Some cause ∷ causes) all h = all.0 h
 
 numbers-not_io : (index : Option RowIndex) (count : ℕ) → NotIO (numbers_past index count)
 numbers-not_io None count h = cc
-numbers-not_io (Some index) count = when-not_io _ _ (λ h. cc)
+numbers-not_io (Some index) count h = when-not_io _ _ (λ e. cc) h
 
 codes-not_io : (columns : List ColumnValue) → AllByRecursion NotIO (map codes_past columns)
 codes-not_io [] = tt

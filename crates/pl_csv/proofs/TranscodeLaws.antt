@@ -1,6 +1,6 @@
 -- An input is read where no cause stands against its frame, and else the first is told.
-use Rattle.std.proofs.Common.{◌≡◌, ℕ, ◌<◌, Bool, true, false, List, [], ◌∷◌, ◌++◌, refl, sym, ◌∙◌, ap, arith, inl, inr}
-use Rattle.std.specs.Prelude.{Option, None, Some, not, nat_lt}
+use Rattle.std.proofs.Common.{◌≡◌, ℕ, ◌<◌, Bool, true, false, List, [], ◌∷◌, ◌++◌, refl, sym, ◌∙◌, ap, subst, arith, inl, inr}
+use Rattle.std.specs.Prelude.{Option, None, Some, Result, Ok, Err, IfOk, OnOk, IfErr, MatchResult, not, nat_lt, unwrap_or}
 use Rattle.std.proofs.lemmas.Bool.Decides.{nat_tests}
 use Rattle.pl_frame.specs.declared.error.PolarsError.{PolarsError}
 use Rattle.pl_frame.specs.declared.error.PolarsError.TheVariants as error
@@ -8,7 +8,7 @@ use Rattle.pl_frame.specs.declared.error.ComputeFault.TheVariants as compute_fau
 use Rattle.pl_frame.specs.Frame.{ColumnValue}
 use Rattle.pl_frame.specs.Schema.{Entry}
 use Rattle.pl_infer.specs.declared.read_options.CsvReadOptions.{CsvReadOptions}
-use Rattle.pl_read.specs.Options.{settled_schema}
+use Rattle.pl_read.specs.Options.{settled, settled_schema}
 use Rattle.pl_read.specs.Reading.{IsFirstCause, frame_of}
 use Rattle.pl_read.specs.Refusals.{when, first_some, early_causes, late_causes}
 use Rattle.pl_read.specs.Steps.{MayRead, late_cause, IsFault}
@@ -22,7 +22,7 @@ use Rattle.pl_csv.proofs.FaultLaws.{cause-not_io}
 pub quote_none : (write : CsvWriterOptions) → HasAsciiQuote write → quote_cause write ≡ None
 quote_none write small = by (nat_lt write.serialize_options.quote_char 128) refl
   where
-    by : (t : Bool) → nat_lt write.serialize_options.quote_char 128 ≡ t → when (not (nat_lt write.serialize_options.quote_char 128)) (error.ComputeError compute_fault.Quote) ≡ None
+    by : (t : Bool) → nat_lt write.serialize_options.quote_char 128 ≡ t → when (not t) (error.ComputeError compute_fault.Quote) ≡ None
     by true e = refl
     by false e = absurd (grind (arith, nat_tests, e, small))
 
@@ -30,7 +30,7 @@ quote_none write small = by (nat_lt write.serialize_options.quote_char 128) refl
 quote_some : (write : CsvWriterOptions) → (HasAsciiQuote write → ⊥) → quote_cause write ≡ Some (error.ComputeError compute_fault.Quote)
 quote_some write large = by (nat_lt write.serialize_options.quote_char 128) refl
   where
-    by : (t : Bool) → nat_lt write.serialize_options.quote_char 128 ≡ t → when (not (nat_lt write.serialize_options.quote_char 128)) (error.ComputeError compute_fault.Quote) ≡ Some (error.ComputeError compute_fault.Quote)
+    by : (t : Bool) → nat_lt write.serialize_options.quote_char 128 ≡ t → when (not t) (error.ComputeError compute_fault.Quote) ≡ Some (error.ComputeError compute_fault.Quote)
     by true e = absurd (large (grind (arith, nat_tests, e)))
     by false e = refl
 
@@ -85,24 +85,35 @@ valid-read read schema input write frame may small none is = (
   ),
 )
 
+-- an input that was read under a schema that is given, or was not
+pub valid-or-unread : (read : CsvReadOptions) (given : List Entry) (input : List ℕ) (write : CsvWriterOptions) (result : Result (List ColumnValue) PolarsError) → MayRead read → HasAsciiQuote write
+    → read.schema ≡ Some given → IfOk result (λ frame. frame ≡ frame_of read (settled read given) input) → OnOk result (late_cause read (settled read given) input ≡ None)
+    → IfErr result (IsFault (late_cause read (settled read given) input)) → MatchResult result (IsValidRead read (settled_schema read) input write) (IsUnread read (settled_schema read) input write)
+valid-or-unread read given input write (Ok frame) may small is frame_is none fault =
+    let same : settled_schema read ≡ settled read given = ap (λ (s : Option (List Entry)). settled read (unwrap_or s [])) is in
+    subst (λ schema. IsValidRead read schema input write frame) (sym same) (valid-read read (settled read given) input write frame may small none frame_is)
+valid-or-unread read given input write (Err refusal) may small is frame_is none fault =
+    let same : settled_schema read ≡ settled read given = ap (λ (s : Option (List Entry)). settled read (unwrap_or s [])) is in
+    subst (λ schema. IsUnread read schema input write refusal) (sym same) (unread-late read (settled read given) input write refusal may small fault)
+
 -- ---- nothing was written
 
-pub fault-unread : (read : CsvReadOptions) (write : CsvWriterOptions) (input : List ℕ) (sink : SinkView) (fault : PolarsError) → IsUnread read (settled_schema read) input write fault
+pub fault_unread : (read : CsvReadOptions) (write : CsvWriterOptions) (input : List ℕ) (sink : SinkView) (fault : PolarsError) → IsUnread read (settled_schema read) input write fault
     → IsTranscodeFault read write input sink sink fault
-fault-unread read write input sink error.IO (inl cause) = absurd (cause-not_io read (settled_schema read) input write cause)
-fault-unread read write input sink error.IO (inr wanting) = cc
-fault-unread read write input sink error.OutOfMemory unread = inl refl
-fault-unread read write input sink (error.InvalidOperation op) (inl cause) = (cause, refl)
-fault-unread read write input sink (error.InvalidOperation op) (inr wanting) = cc
-fault-unread read write input sink (error.ComputeError fault) (inl cause) = (cause, refl)
-fault-unread read write input sink (error.ComputeError fault) (inr wanting) = cc
-fault-unread read write input sink (error.NoData fault) (inl cause) = (cause, refl)
-fault-unread read write input sink (error.NoData fault) (inr wanting) = cc
-fault-unread read write input sink (error.ColumnNotFound name) (inl cause) = (cause, refl)
-fault-unread read write input sink (error.ColumnNotFound name) (inr wanting) = cc
-fault-unread read write input sink (error.OutOfBounds index length) (inl cause) = (cause, refl)
-fault-unread read write input sink (error.OutOfBounds index length) (inr wanting) = cc
-fault-unread read write input sink (error.Duplicate name at) (inl cause) = (cause, refl)
-fault-unread read write input sink (error.Duplicate name at) (inr wanting) = cc
-fault-unread read write input sink error.EmptyProjection (inl cause) = (cause, refl)
-fault-unread read write input sink error.EmptyProjection (inr wanting) = cc
+fault_unread read write input sink error.IO (inl cause) = absurd (cause-not_io read (settled_schema read) input write cause)
+fault_unread read write input sink error.IO (inr wanting) = cc
+fault_unread read write input sink error.OutOfMemory unread = inl refl
+fault_unread read write input sink (error.InvalidOperation op) (inl cause) = (cause, refl)
+fault_unread read write input sink (error.InvalidOperation op) (inr wanting) = cc
+fault_unread read write input sink (error.ComputeError fault) (inl cause) = (cause, refl)
+fault_unread read write input sink (error.ComputeError fault) (inr wanting) = cc
+fault_unread read write input sink (error.NoData fault) (inl cause) = (cause, refl)
+fault_unread read write input sink (error.NoData fault) (inr wanting) = cc
+fault_unread read write input sink (error.ColumnNotFound name) (inl cause) = (cause, refl)
+fault_unread read write input sink (error.ColumnNotFound name) (inr wanting) = cc
+fault_unread read write input sink (error.OutOfBounds index length) (inl cause) = (cause, refl)
+fault_unread read write input sink (error.OutOfBounds index length) (inr wanting) = cc
+fault_unread read write input sink (error.Duplicate name at) (inl cause) = (cause, refl)
+fault_unread read write input sink (error.Duplicate name at) (inr wanting) = cc
+fault_unread read write input sink error.EmptyProjection (inl cause) = (cause, refl)
+fault_unread read write input sink error.EmptyProjection (inr wanting) = cc

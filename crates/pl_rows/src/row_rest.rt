@@ -58,6 +58,19 @@ pub fn pass_fields<'a>(rest: RowRest<'a>, count: usize, dialect: &Dialect<'_>) -
     ensures left { fields_left (marks_of dialect.now) result ≡ drop count (fields_left (marks_of dialect.now) rest.entry) }
     ensures behind { behind_row (marks_of dialect.now) result ≡ behind_row (marks_of dialect.now) rest.entry }
 {
+    if count == 0 {
+        rest
+    } else {
+        pass_some(rest, count, dialect)
+    }
+}
+
+// The same in a call of its own, which keeps a row's loop over its columns small: mostly none is passed.
+#[inline(never)]
+fn pass_some<'a>(rest: RowRest<'a>, count: usize, dialect: &Dialect<'_>) -> RowRest<'a>
+    ensures left { fields_left (marks_of dialect.now) result ≡ drop count (fields_left (marks_of dialect.now) rest.entry) }
+    ensures behind { behind_row (marks_of dialect.now) result ≡ behind_row (marks_of dialect.now) rest.entry }
+{
     let mut left = rest;
     for _ in 0..count {
         let (_, next) = next_field(left, dialect);

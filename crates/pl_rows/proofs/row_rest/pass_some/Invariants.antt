@@ -1,7 +1,7 @@
 use Rattle.std.proofs.Common.{◌≡◌, drop}
 use Rattle.pl_scan.specs.Dialect.{marks_of}
 use Rattle.pl_rows.specs.RowRest.{fields_left, behind_row}
-use Rattle.pl_rows.proofs.row_rest.pass_fields.Given as goal
+use Rattle.pl_rows.proofs.row_rest.pass_some.Given as goal
 
 abbrev pub invariant-loop : goal.invariant-loop
 invariant-loop l = record {

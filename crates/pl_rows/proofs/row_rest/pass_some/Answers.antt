@@ -2,7 +2,7 @@ use Rattle.std.proofs.Common.{◌∙◌, ap, drop}
 use Rattle.std.proofs.lemmas.List.{drop-drop}
 use Rattle.pl_scan.specs.Dialect.{marks_of}
 use Rattle.pl_rows.specs.RowRest.{fields_left}
-use Rattle.pl_rows.proofs.row_rest.pass_fields.Goals as goal
+use Rattle.pl_rows.proofs.row_rest.pass_some.Goals as goal
 
 pub loop-preserved : goal.loop-preserved
 loop-preserved c = record {

@@ -55,21 +55,46 @@ index-not_io index count columns = first-not_io (numbers_past index count ∷ ma
 
 causes-not_io : (read : CsvReadOptions) (schema : List Entry) (input : List ℕ) (write : CsvWriterOptions) (is_dialect : Bool) → NotIO (first_some (all_causes read schema input write is_dialect))
 causes-not_io read schema input write is_dialect =
-    first-not_io (all_causes read schema input write is_dialect)
-    (when-not_io _ _ (λ h. cc),
-    (when-not_io _ _ (λ h. cc),
-    (when-not_io _ _ (λ h. cc),
-    (when-not_io _ _ (λ h. cc),
-    (when-not_io _ _ (λ h. cc),
-    (map-not_io _ (λ x h. cc) _,
-    (map-not_io _ (λ x h. cc) _,
-    (when-not_io _ _ (λ h. cc),
-    (map-not_io _ (λ x h. cc) _,
-    (map-not_io _ (λ x h. cc) _,
-    (then-not_io (nothing_read read schema) (λ records. when-not_io _ _ (λ h. cc)) (data_of read input),
-    (then-not_io (faulty_record read schema) (λ records. map-not_io _ (λ x h. cc) _) (data_of read input),
-    (then-not_io _ (λ records. index-not_io read.row_index (length (rows_in read records)) (data_columns read schema records)) (data_of read input),
-    tt)))))))))))))
+    first-not_io (all_causes read schema input write is_dialect) (
+      when-not_io _ _ (λ h. cc),
+      (
+        when-not_io _ _ (λ h. cc),
+        (
+          when-not_io _ _ (λ h. cc),
+          (
+            when-not_io _ _ (λ h. cc),
+            (
+              when-not_io _ _ (λ h. cc),
+              (
+                map-not_io _ (λ x h. cc) _,
+                (
+                  map-not_io _ (λ x h. cc) _,
+                  (
+                    when-not_io _ _ (λ h. cc),
+                    (
+                      map-not_io _ (λ x h. cc) _,
+                      (
+                        map-not_io _ (λ x h. cc) _,
+                        (
+                          then-not_io (nothing_read read schema) (λ records. when-not_io _ _ (λ h. cc)) (data_of read input),
+                          (
+                            then-not_io (faulty_record read schema) (λ records. map-not_io _ (λ x h. cc) _) (data_of read input),
+                            (
+                              then-not_io _ (λ records. index-not_io read.row_index (length (rows_in read records)) (data_columns read schema records)) (data_of read input),
+                              tt,
+                            ),
+                          ),
+                        ),
+                      ),
+                    ),
+                  ),
+                ),
+              ),
+            ),
+          ),
+        ),
+      ),
+    )
 
 -- a cause against a frame is no fault of the device
 pub cause-not_io : (read : CsvReadOptions) (schema : List Entry) (input : List ℕ) (write : CsvWriterOptions) → IsCause read schema input write error.IO → ⊥

@@ -41,13 +41,19 @@ fn status_of_fault(fault: &PolarsError) -> u8
         PolarsError::ComputeError(ComputeFault::Quote) => 13,
         PolarsError::ComputeError(ComputeFault::Compressed) => 14,
         PolarsError::NoData(NoDataFault::Empty) => 15,
-        PolarsError::Duplicate { at: NamePlace::Schema, .. } => 16,
+        PolarsError::Duplicate {
+            at: NamePlace::Schema,
+            ..
+        } => 16,
         PolarsError::InvalidOperation(OpFault::Overrides { .. }) => 17,
         PolarsError::ComputeError(ComputeFault::Dtype { .. }) => 18,
         PolarsError::ColumnNotFound(_) => 19,
         PolarsError::NoData(NoDataFault::Skip) => 20,
         PolarsError::OutOfBounds { .. } => 21,
-        PolarsError::Duplicate { at: NamePlace::Projection, .. } => 22,
+        PolarsError::Duplicate {
+            at: NamePlace::Projection,
+            ..
+        } => 22,
         PolarsError::EmptyProjection => 23,
         PolarsError::ComputeError(ComputeFault::Record { .. }) => 24,
         PolarsError::ComputeError(ComputeFault::Index { .. }) => 25,

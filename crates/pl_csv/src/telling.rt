@@ -122,13 +122,19 @@ fn fault_name(fault: &PolarsError) -> &'static str
         PolarsError::ComputeError(ComputeFault::Quote) => "refusal 3 quote",
         PolarsError::ComputeError(ComputeFault::Compressed) => "refusal 4 compressed",
         PolarsError::NoData(NoDataFault::Empty) => "refusal 5 empty",
-        PolarsError::Duplicate { at: NamePlace::Schema, .. } => "refusal 6 duplicate",
+        PolarsError::Duplicate {
+            at: NamePlace::Schema,
+            ..
+        } => "refusal 6 duplicate",
         PolarsError::InvalidOperation(OpFault::Overrides { .. }) => "refusal 7 overrides",
         PolarsError::ComputeError(ComputeFault::Dtype { .. }) => "refusal 8 dtype",
         PolarsError::ColumnNotFound(_) => "refusal 9 not found",
         PolarsError::NoData(NoDataFault::Skip) => "refusal 10 skip",
         PolarsError::OutOfBounds { .. } => "refusal 11 bounds",
-        PolarsError::Duplicate { at: NamePlace::Projection, .. } => "refusal 12 duplicate",
+        PolarsError::Duplicate {
+            at: NamePlace::Projection,
+            ..
+        } => "refusal 12 duplicate",
         PolarsError::EmptyProjection => "refusal 13 projection",
         PolarsError::ComputeError(ComputeFault::Record { .. }) => "refusal 14 record",
         PolarsError::ComputeError(ComputeFault::Index { .. }) => "refusal 15 index",

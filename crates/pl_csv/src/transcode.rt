@@ -81,7 +81,9 @@ mod tests {
         name: &str,
         dtype: DataType,
         places: &[usize],
-    ) -> Result<CsvReadOptions, Fail> {
+    ) -> Result<CsvReadOptions, Fail>
+        ensures { IfOk result (λ read. IsSome read.schema) }
+    {
         let mut schema = Schema::new(alloc);
         schema.with_column(PlSmallStr::from_str(alloc, name)?, dtype)?;
         let places = ColumnPlaces::new(places.to_vec(alloc)?);

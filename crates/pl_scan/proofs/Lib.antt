@@ -9,3 +9,4 @@ pub mod LineEndLaws
 pub mod RowStateLaws
 pub mod CommentEqualLaws
 pub mod AppendLaws
+pub mod AppendStartLaws

@@ -8,3 +8,5 @@ pub mod LineLaws
 pub mod LineEndLaws
 pub mod RowStateLaws
 pub mod CommentEqualLaws
+pub mod AppendLaws
+pub mod AppendStartLaws

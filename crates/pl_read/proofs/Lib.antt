@@ -7,3 +7,4 @@ pub mod SliceLaws
 pub mod DataLaws
 pub mod LimitLaws
 pub mod SelectionLaws
+pub mod PrefixLaws

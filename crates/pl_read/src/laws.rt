@@ -1,6 +1,6 @@
 //! What holds of every input, as contracts of functions that do nothing.
 ghost use Rattle.pl_read.specs.Slices.{PartsAreTheSlice};
-ghost use Rattle.pl_read.specs.Laws.{LimitTakesFirstRows, ProjectionSelects};
+ghost use Rattle.pl_read.specs.Laws.{LimitTakesFirstRows, ProjectionSelects, LimitedReadDependsOnPrefix};
 
 /// However the rows are divided into files: the parts that `split_slice_at_file` tells, joined, are the slice of all rows.
 pub fn parts_are_the_slice<T>()
@@ -15,4 +15,9 @@ pub fn limit_takes_first_rows()
 /// Where the read of all columns succeeds, one of some of them gives these columns.
 pub fn projection_selects()
     ensures { ProjectionSelects }
+{}
+
+/// A limited read depends on a text alone that decides it, whatever stands behind that.
+pub fn limited_read_depends_on_prefix()
+    ensures { LimitedReadDependsOnPrefix }
 {}

@@ -164,7 +164,7 @@ dialect-read o schema input first = by first.is_dialect first.tells first.is
 
 -- a read of an input that begins with a text that decides it
 pub limited-prefix : LimitedReadDependsOnPrefix
-limited-prefix o n schema b rest is some decides compressed = (read, λ refusal. (forth (Some refusal), back (Some refusal)))
+limited-prefix o n schema b rest is decides compressed = (read, λ refusal. (forth (Some refusal), back (Some refusal)))
   where
     by : (d : Bool) → Tells d (IsDialect (marks_of o.parse_options) (comment_of o.parse_options)) → first_some (read_causes o schema (b ++ rest) d) ≡ first_some (read_causes o schema b d)
     by true dialect = ap first_some (causes-decided o n schema b rest true is dialect decides compressed)

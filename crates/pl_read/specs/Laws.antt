@@ -1,5 +1,5 @@
 -- Laws of the reference read (docs/options.md, "What a limit and a projection give").
-use Rattle.std.specs.Prelude.{◌≡◌, ◌≢◌, ◌↔◌, ℕ, zero, suc, ◌+◌, ◌<◌, ◌≤◌, false, not, ◌==◌, List, [], ◌∷◌, ◌++◌, length, drop, Option, None, Some}
+use Rattle.std.specs.Prelude.{◌≡◌, ◌≢◌, ◌↔◌, ℕ, zero, suc, ◌+◌, ◌≤◌, false, not, ◌==◌, List, [], ◌∷◌, ◌++◌, length, drop, Option, None, Some}
 use Rattle.std.specs.List.{prefix_len}
 use Rattle.pl_frame.specs.Compression.{is_compressed}
 use Rattle.pl_frame.specs.Frame.{ColumnValue}
@@ -73,6 +73,6 @@ pub record Decides (o : CsvReadOptions) (n : ℕ) (b : List ℕ) : Type 0 where
 -- A limited read depends on such a text alone: every input that begins with it has the same frame, or the same refusal, where
 -- both or neither begin with the mark of a compressed stream.
 abbrev pub LimitedReadDependsOnPrefix : Type 0
-LimitedReadDependsOnPrefix = (o : CsvReadOptions) (n : ℕ) (schema : List Entry) (b rest : List ℕ) → o.n_rows ≡ Some n → 0 < n → Decides o n b → is_compressed (b ++ rest) ≡ is_compressed b
+LimitedReadDependsOnPrefix = (o : CsvReadOptions) (n : ℕ) (schema : List Entry) (b rest : List ℕ) → o.n_rows ≡ Some n → Decides o n b → is_compressed (b ++ rest) ≡ is_compressed b
     → ((frame : List ColumnValue) → IsRead o schema b frame ↔ IsRead o schema (b ++ rest) frame)
     × ((refusal : PolarsError) → IsRefusal o schema b refusal ↔ IsRefusal o schema (b ++ rest) refusal)

@@ -1,10 +1,9 @@
 -- What is read of data.
-use Rattle.std.proofs.Common.{◌≡◌, ℕ, zero, suc, ◌+◌, ◌<◌, Bool, true, false, cond, not, ◌&&◌, ◌==◌, List, [], ◌∷◌, map, length, get_or, refl, sym, ◌∙◌, ap, subst, arith, nat_lt, inl, inr}
+use Rattle.std.proofs.Common.{◌≡◌, ℕ, zero, suc, ◌+◌, ◌<◌, Bool, true, false, not, ◌&&◌, ◌==◌, List, [], ◌∷◌, map, length, get_or, refl, sym, ◌∙◌, ap, subst, arith, nat_lt}
 use Rattle.std.specs.Prelude.{◌≢◌, ◌⊎◌, Option, None, Some, AllPairs, slice_index}
 use Rattle.std.specs.List.{range_with_len, list_any, All}
 use Rattle.std.specs.Option.{option_map, option_copied}
 use Rattle.std.specs.Str.{bytes_eq}
-use Rattle.std.specs.Bool.{Decides}
 use Rattle.std.specs.Cmp.Lexicographic.{bytes_decides}
 use Rattle.std.proofs.lemmas.Bool.{lt-ltb}
 use Rattle.std.proofs.lemmas.List.{length-map, get_or-map}
@@ -32,12 +31,11 @@ use Rattle.pl_infer.specs.declared.read_options.CsvReadOptions.{CsvReadOptions}
 use Rattle.pl_infer.specs.declared.row_index.RowIndex.{RowIndex}
 use Rattle.pl_rows.specs.declared.columns.RangeColumns.{RangeColumns}
 use Rattle.pl_rows.specs.declared.plan.RangePlan.{RangePlan}
-use Rattle.pl_rows.specs.declared.range.RangeEnd.{RangeEnd}
 use Rattle.pl_rows.specs.declared.range.RangeEnd.TheVariants as end
 use Rattle.pl_rows.specs.Cells.{RowRules}
 use Rattle.pl_rows.specs.Columns.{entries_in, columns_in, frame_of_rows}
 use Rattle.pl_rows.specs.Plan.{rules_of as plan_rules}
-use Rattle.pl_rows.specs.Ranges.{limited, rows_of, judged_rows, has_unjudged, end_of, range_end, sound_rows, range_frame, IsRangeRead}
+use Rattle.pl_rows.specs.Ranges.{limited, judged_rows, has_unjudged, sound_rows, IsRangeRead}
 use Rattle.pl_rows.specs.Rows.{Row, rows, first_faulty}
 use Rattle.pl_rows.proofs.FrameLaws.{IsFrame-rows}
 use Rattle.pl_rows.proofs.RangeLaws.{rows-nil}

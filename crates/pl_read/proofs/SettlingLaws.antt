@@ -1,7 +1,6 @@
 -- Types in place of the first ones of a schema.
 use Rattle.std.proofs.Common.{◌≡◌, ℕ, zero, suc, ◌<◌, ◌≤◌, List, [], ◌∷◌, length, take, get_or, refl, sym, ◌∙◌, ap, arith, nat_lt, true, false}
-use Rattle.std.specs.Prelude.{Option, None, Some, slice_get, slice_set, unwrap_or}
-use Rattle.std.specs.Option.{option_map_or}
+use Rattle.std.specs.Prelude.{Option, None, Some, slice_get, unwrap_or}
 use Rattle.std.proofs.lemmas.Bool.{lt-ltb, le-ltb}
 use Rattle.pl_frame.specs.declared.data_type.DataType.{DataType}
 use Rattle.pl_frame.specs.declared.error.PolarsError.TheVariants as error
@@ -9,7 +8,7 @@ use Rattle.pl_frame.specs.declared.error.OpFault.TheVariants as op_fault
 use Rattle.pl_frame.specs.Schema.{Entry, with_type_at}
 use Rattle.pl_infer.specs.declared.read_options.CsvReadOptions.{CsvReadOptions}
 use Rattle.pl_read.specs.Options.{with_types, settled}
-use Rattle.pl_read.specs.Refusals.{when, unreadable, overrides, first_some}
+use Rattle.pl_read.specs.Refusals.{unreadable, overrides}
 use Rattle.pl_read.specs.Steps.{settling_cause}
 use Rattle.pl_read.proofs.CauseLaws.{first_some-one, first_some-behind, first_some-here}
 

@@ -1,12 +1,11 @@
 -- Which columns of a schema are read (docs/options.md, "Which columns are read").
-use Rattle.std.specs.Prelude.{ℕ, Bool, nat_eq, nat_le, nat_lt, max, if◌then◌else◌, List, [], length, filter, find, count_by, Option, None, Some, unwrap_or, is_some, is_none}
+use Rattle.std.specs.Prelude.{ℕ, Bool, nat_eq, nat_le, nat_lt, max, if◌then◌else◌, List, length, filter, find, count_by, Option, None, Some, unwrap_or, is_none}
 use Rattle.std.specs.List.{range_with_len, list_any, filter_map, fold}
 use Rattle.std.specs.Option.{option_map, option_and_then}
 use Rattle.std.specs.Str.{bytes_eq}
 use Rattle.pl_frame.specs.Schema.{Entry, place_of}
 use Rattle.pl_cells.specs.InitBuffers.{entry_at}
 use Rattle.pl_infer.specs.declared.read_options.CsvReadOptions.{CsvReadOptions}
-use Rattle.pl_infer.specs.declared.row_index.RowIndex.{RowIndex}
 
 -- the places of columns that are asked: those of the names, where names are given; else the places that are given; else all
 abbrev pub asked : CsvReadOptions → List Entry → List ℕ

@@ -1,7 +1,6 @@
 -- Why an input has no frame: the causes in their order (docs/refusals.md).
-use Rattle.std.specs.Prelude.{◌≡◌, ℕ, ◌^◌, ◌+◌, Bool, true, false, not, ◌&&◌, ◌||◌, ◌==◌, nat_lt, if◌then◌else◌, List, [], ◌∷◌, ◌++◌, length, map, position, find, Option, None, Some, unwrap_or, is_none, ◌⊎◌}
+use Rattle.std.specs.Prelude.{ℕ, ◌^◌, ◌+◌, Bool, true, false, not, ◌&&◌, ◌||◌, ◌==◌, nat_lt, if◌then◌else◌, List, [], ◌∷◌, ◌++◌, length, map, position, Option, None, Some, unwrap_or, is_none}
 use Rattle.std.specs.Option.{option_map, option_and_then, option_map_or}
-use Rattle.pl_frame.specs.declared.error.FaultKind.{FaultKind}
 use Rattle.pl_frame.specs.declared.error.PolarsError.{PolarsError}
 use Rattle.pl_frame.specs.declared.error.PolarsError.TheVariants as error
 use Rattle.pl_frame.specs.declared.error.OpFault.TheVariants as op_fault
@@ -12,7 +11,6 @@ use Rattle.pl_frame.specs.declared.data_type.DataType.{DataType}
 use Rattle.pl_frame.specs.declared.data_type.DataType.TheVariants as dtype
 use Rattle.pl_frame.specs.Columns.{dictionary}
 use Rattle.pl_frame.specs.Compression.{is_compressed}
-use Rattle.pl_frame.specs.Dialect.{IsDialect}
 use Rattle.pl_frame.specs.Frame.{ColumnValue}
 use Rattle.pl_frame.specs.Schema.{Entry}
 use Rattle.pl_frame.specs.Types.{is_readable}
@@ -20,7 +18,7 @@ use Rattle.pl_cells.specs.NullValues.{unknown_name}
 use Rattle.pl_infer.specs.declared.read_options.CsvReadOptions.{CsvReadOptions}
 use Rattle.pl_infer.specs.declared.row_index.RowIndex.{RowIndex}
 use Rattle.pl_rows.specs.Rows.{first_faulty}
-use Rattle.pl_read.specs.Options.{marks_of, comment_of, data_of, rules_of}
+use Rattle.pl_read.specs.Options.{data_of, rules_of}
 use Rattle.pl_read.specs.Projection.{projected, unknown_column, outside, doubled_name, taken_name}
 use Rattle.pl_read.specs.Rows.{columns_read, rows_in, data_columns}
 

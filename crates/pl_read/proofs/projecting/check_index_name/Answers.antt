@@ -1,4 +1,4 @@
-use Rattle.std.proofs.Common.{true, false, sym, ◌∙◌, ap, subst}
+use Rattle.std.proofs.Common.{true, false, sym, ◌∙◌, subst}
 use Rattle.std.specs.Option.{option_map}
 use Rattle.pl_frame.specs.declared.error.NamePlace.TheVariants as name_place
 use Rattle.pl_frame.specs.declared.error.PolarsError.TheVariants as error

@@ -1,4 +1,4 @@
-use Rattle.std.proofs.Common.{◌≡◌, List, ℕ, false, true, ◌++◌, ◌∷◌, [], sym, ◌∙◌, ap, inl}
+use Rattle.std.proofs.Common.{◌≡◌, true, ◌++◌, ◌∷◌, [], sym, ◌∙◌, ap, inl}
 use Rattle.std.specs.Prelude.{Some, is_none}
 use Rattle.std.specs.Option.{option_map}
 use Rattle.pl_frame.specs.declared.error.PolarsError.TheVariants as error

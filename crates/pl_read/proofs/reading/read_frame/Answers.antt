@@ -1,6 +1,5 @@
-use Rattle.std.proofs.Common.{inl}
 use Rattle.pl_read.specs.Options.{settled}
-use Rattle.pl_read.proofs.CauseLaws.{refused-early, refused-late, sound-late}
+use Rattle.pl_read.proofs.CauseLaws.{refused-late, sound-late}
 use Rattle.pl_read.proofs.reading.read_frame.Goals as goal
 
 pub returns-in-Ok : goal.returns-in-Ok

@@ -1,5 +1,4 @@
-use Rattle.std.proofs.Common.{take, add-one, get_or, sym, ◌∙◌, ap, arith}
-use Rattle.pl_frame.specs.declared.data_type.DataType.TheVariants as dtype
+use Rattle.std.proofs.Common.{take, add-one, sym, ◌∙◌, ap, arith}
 use Rattle.pl_frame.specs.Schema.{with_type_at}
 use Rattle.pl_read.specs.Options.{with_types}
 use Rattle.pl_read.proofs.SettlingLaws.{types-more}

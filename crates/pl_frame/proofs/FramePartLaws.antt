@@ -1,7 +1,7 @@
 -- Laws of parts of frames, and of frames that are put together.
-use Rattle.std.proofs.Common.{◌≡◌, ◌≢◌, ℕ, pos, zero, suc, ◌+◌, ◌-◌, ◌<◌, ◌≤◌, Bool, true, false, ◌&&◌, min, nat_lt, List, [], ◌∷◌, ◌++◌, length, take, drop, map, get_or, slice_get, option_to_list, Option, None, Some, AllPairs, refl, sym, ◌∙◌, ap, subst, arith, append_assoc, true≢false}
+use Rattle.std.proofs.Common.{◌≡◌, ◌≢◌, ℕ, pos, zero, suc, ◌+◌, ◌-◌, ◌<◌, ◌≤◌, Bool, true, false, ◌&&◌, min, nat_lt, List, [], ◌∷◌, ◌++◌, length, take, drop, map, get_or, slice_get, option_to_list, Option, Some, AllPairs, refl, sym, ◌∙◌, ap, subst, arith, append_assoc, true≢false}
 use Rattle.std.specs.Bool.{Decides}
-use Rattle.std.specs.List.{AllByRecursion, list_any, range_with_len}
+use Rattle.std.specs.List.{AllByRecursion}
 use Rattle.std.specs.Str.{bytes_eq}
 use Rattle.std.specs.Cmp.Lexicographic.{pointwise, pointwise_decides, bytes_decides}
 use borrow.Author.Tests.{ltb-true, ltb-false}
@@ -10,13 +10,12 @@ use Rattle.std.proofs.lemmas.List.Folds.{list_any_at}
 use Rattle.std.proofs.lemmas.List.FromFn.{length-map-range_with_len}
 use Rattle.std.proofs.lemmas.List.Kept.{AllPairs-cons}
 use Rattle.std.proofs.lemmas.Option.{slice_get-get_or}
-use Rattle.pl_frame.specs.declared.data_type.DataType.{DataType}
 use Rattle.pl_frame.specs.declared.data_type.DataType.TheVariants as dtype
 use Rattle.pl_frame.specs.Equal.{types_equal, entries_equal}
 use Rattle.pl_frame.specs.EqualLaws.{types_decide}
 use Rattle.pl_frame.specs.Frame.{Scalar, Number, ColumnValue, IsFrame, HaveHeight, height_of, names_of}
-use Rattle.pl_frame.specs.FrameParts.{with_values, sliced, kept_of, filtered, schema_of, HaveSameColumns, stacked, empty_columns, columns_at, AreWithin, has_name}
-use Rattle.pl_frame.specs.RowIndex.{row_numbers, row_index_column}
+use Rattle.pl_frame.specs.FrameParts.{with_values, sliced, kept_of, filtered, schema_of, HaveSameColumns, stacked, empty_columns, columns_at, AreDistinctPlaces, AreWithin, has_name}
+use Rattle.pl_frame.specs.RowIndex.{row_index_column}
 use Rattle.pl_frame.specs.Schema.{Entry, names_in, HaveDistinctNames}
 use Rattle.pl_frame.proofs.AlikeLaws.{pointwise-map, pointwise-all, pointwise-differ}
 
@@ -254,7 +253,18 @@ names_differ columns p q frame l m differ same = by (nat_lt p q) refl
         lower true e h = ltb-true q p e
         lower false e h = let k = ltb-false q p e in absurd (differ (omega (arith, h, k)))
 
-pub frame_at : (places : List ℕ) (columns made : List ColumnValue) → made ≡ columns_at places columns → AreWithin places columns → AllPairs (λ a b. a ≢ b) places → IsFrame columns →
+differs_at : (place : ℕ) (places : List ℕ) (i : ℕ) → AllByRecursion (λ other. place ≢ other) places → i < length places → place ≢ get_or places i 0
+differs_at place [] i differ l = absurd (omega arith)
+differs_at place (p ∷ ps) zero differ l = differ.0
+differs_at place (p ∷ ps) (suc i) differ l = differs_at place ps i differ.1 (omega arith)
+
+places_differ : (places : List ℕ) (i j : ℕ) → AreDistinctPlaces places → i < j → j < length places → get_or places i 0 ≢ get_or places j 0
+places_differ [] i j differ l m = absurd (omega arith)
+places_differ (p ∷ ps) i zero differ l m = absurd (omega arith)
+places_differ (p ∷ ps) zero (suc j) differ l m = differs_at p ps j differ.0 (omega arith)
+places_differ (p ∷ ps) (suc i) (suc j) differ l m = places_differ ps i j differ.1 (omega arith) (omega arith)
+
+pub frame_at : (places : List ℕ) (columns made : List ColumnValue) → made ≡ columns_at places columns → AreWithin places columns → AreDistinctPlaces places → IsFrame columns →
     IsFrame made
 frame_at places columns made e within differ frame = subst IsFrame (sym (e ∙ columns_are places columns within)) record {
   one_height = level (height_of columns) _ (heights_at (height_of columns) places columns frame.one_height within);
@@ -268,7 +278,7 @@ frame_at places columns made e within differ frame = subst IsFrame (sym (e ∙ c
     apart i j d l m same =
         let j_in : j < length places = omega (arith, m, size) in
         let i_in : i < length places = omega (arith, l, j_in) in
-        names_differ columns (get_or places i 0) (get_or places j 0) frame (within_at places columns i within i_in) (within_at places columns j within j_in) (differ i j 0 l j_in)
+        names_differ columns (get_or places i 0) (get_or places j 0) frame (within_at places columns i within i_in) (within_at places columns j within j_in) (places_differ places i j differ l j_in)
         (sym (name_at places columns i d i_in) ∙ same ∙ name_at places columns j d j_in)
 
 -- ---- a column of row numbers in front

@@ -1,5 +1,5 @@
 -- Parts of frames, and frames that are put together (docs/types.md, "Columns and frames").
-use Rattle.std.specs.Prelude.{◌≡◌, ◌≢◌, ℕ, ◌+◌, ◌^◌, ◌<◌, Bool, true, false, if◌then◌else◌, List, [], ◌∷◌, ◌++◌, length, take, drop, map, slice_get, option_to_list, Option, Some, AllPairs}
+use Rattle.std.specs.Prelude.{◌≡◌, ◌≢◌, ℕ, ◌+◌, ◌^◌, ◌<◌, Bool, true, false, if◌then◌else◌, List, [], ◌∷◌, ◌++◌, length, take, drop, map, slice_get, option_to_list, Option}
 use Rattle.std.specs.List.{list_any, flat_map, AllByRecursion}
 use Rattle.std.specs.Str.{bytes_eq}
 use Rattle.pl_frame.specs.declared.error.ComputeFault.TheVariants as fault
@@ -56,6 +56,11 @@ columns_at places columns = flat_map (λ place. option_to_list (slice_get column
 -- there is a column at each of these places
 abbrev pub AreWithin : List ℕ → List ColumnValue → Type 0
 AreWithin places columns = AllByRecursion (λ place. place < length columns) places
+
+-- no place stands twice
+abbrev pub AreDistinctPlaces : List ℕ → Type 0
+AreDistinctPlaces [] = Unit {0}
+AreDistinctPlaces (place ∷ places) = AllByRecursion (λ other. place ≢ other) places × AreDistinctPlaces places
 
 -- a column has this name
 abbrev pub has_name : List ColumnValue → List ℕ → Bool

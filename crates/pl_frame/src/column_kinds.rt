@@ -1,4 +1,4 @@
-//! Columns of every kind with ample memory: they are copied, and cast.
+//! Columns of each kind with ample memory: they are copied, and cast to another type and back.
 
 use crate::codes::CodesBuilder;
 use crate::column::Column;
@@ -8,87 +8,81 @@ use crate::numbers::Numbers;
 use crate::texts::Texts;
 use std::alloc::Global;
 use std::process::Abort;
-use std::test::Fail;
 
-fn name(alloc: Global) -> Result<PlSmallStr, Fail> {
-    Ok(PlSmallStr::from_str(alloc, "n")?)
-}
-
-// An enum of one category.
-fn enumeration(alloc: Global) -> Result<DataType, Fail> {
-    let texts = vec![in alloc; name(alloc)?]?;
-    Ok(DataType::Enum(Some(Categories::new(texts))))
-}
-
-// The texts n and a null.
-fn texts(alloc: Global) -> Result<Column, Fail> {
-    let mut texts = Texts::new(alloc);
-    texts.push("n")?;
-    texts.push_null()?;
-    Ok(Column::from_string(name(alloc)?, texts))
-}
-
-// The same as codes.
-fn categories(alloc: Global) -> Result<Column, Fail> {
-    let mut texts = CodesBuilder::new(alloc);
-    texts.push("n")?;
-    texts.push_null()?;
-    texts.push("x")?;
-    texts.truncate(2);
-    Ok(Column::from_categories(name(alloc)?, texts.into_codes()))
+fn name(rt: &impl Abort, alloc: Global) -> PlSmallStr {
+    PlSmallStr::from_str(alloc, "n").expect(rt, "a name")
 }
 
 // The number 7 and a null.
-fn numbers(alloc: Global) -> Result<Column, Fail> {
+fn numbers(rt: &impl Abort, alloc: Global) -> Column {
     let mut numbers = Numbers::new(alloc);
-    numbers.push(7)?;
-    numbers.push_null()?;
-    numbers.push(9)?;
+    numbers.push(7).expect(rt, "a number");
+    numbers.push_null().expect(rt, "a null");
+    numbers.push(9).expect(rt, "a number");
     numbers.truncate(2);
-    Ok(Column::from_int64(name(alloc)?, numbers))
+    Column::from_int64(name(rt, alloc), numbers)
 }
 
-// A column that is copied whole.
-fn copied(rt: &impl Abort, column: &Column) {
-    let copy = column.try_clone().expect(rt, "a copy");
-    assert!(rt; copy == *column);
+// The texts n and a null.
+fn texts(rt: &impl Abort, alloc: Global) -> Column {
+    let mut texts = Texts::new(alloc);
+    texts.push("n").expect(rt, "a text");
+    texts.push_null().expect(rt, "a null");
+    Column::from_string(name(rt, alloc), texts)
 }
 
-// A column under another type, of which no value is lost, and which is copied whole.
+// The same as codes.
+fn categories(rt: &impl Abort, alloc: Global) -> Column {
+    let mut texts = CodesBuilder::new(alloc);
+    texts.push("n").expect(rt, "a text");
+    texts.push_null().expect(rt, "a null");
+    texts.push("x").expect(rt, "a text");
+    texts.truncate(2);
+    Column::from_categories(name(rt, alloc), texts.into_codes())
+}
+
+// An enum of one category.
+fn enumeration(rt: &impl Abort, alloc: Global) -> DataType {
+    let mut texts = Vec::new(alloc);
+    texts.push(name(rt, alloc)).expect(rt, "a text");
+    DataType::Enum(Some(Categories::new(texts)))
+}
+
+// A column under another type.
 fn cast(rt: &impl Abort, alloc: Global, column: &Column, to: &DataType) -> Column {
     assert!(rt; column.dtype().casts_to(to));
-    let cast = column.cast(alloc, to).expect(rt, "a cast");
-    assert_eq!(rt; cast.null_count(), column.null_count());
-    copied(rt, &cast);
-    cast
+    column.cast(alloc, to).expect(rt, "a cast")
+}
+
+// A column that is its copy, and that another type and its own again leave as it is.
+fn goes_and_comes(rt: &impl Abort, alloc: Global, column: &Column, to: &DataType) {
+    assert!(rt; column.try_clone().expect(rt, "a copy") == *column);
+    let there = cast(rt, alloc, column, to);
+    assert!(rt; cast(rt, alloc, &there, column.dtype()) == *column);
 }
 
 #[test]
-fn numbers_are_cast(rt: HostRuntime) -> Result<(), Fail> {
-    let alloc = rt.alloc();
-    let narrow = numbers(alloc)?;
-    let wide = cast(&rt, alloc, &narrow, &DataType::Int128);
-    assert!(rt; cast(&rt, alloc, &wide, &DataType::Int64) == narrow);
-    Ok(())
+fn numbers_are_cast(rt: HostRuntime) {
+    let numbers = numbers(&rt, rt.alloc());
+    goes_and_comes(&rt, rt.alloc(), &numbers, &DataType::Int128);
 }
 
 #[test]
-fn texts_are_cast(rt: HostRuntime) -> Result<(), Fail> {
-    let alloc = rt.alloc();
-    let texts = texts(alloc)?;
-    let coded = cast(&rt, alloc, &texts, &DataType::Categorical);
-    assert!(rt; coded == categories(alloc)?);
-    let placed = cast(&rt, alloc, &texts, &enumeration(alloc)?);
-    assert!(rt; cast(&rt, alloc, &placed, &DataType::String) == texts);
-    Ok(())
+fn texts_become_categories(rt: HostRuntime) {
+    let categories = categories(&rt, rt.alloc());
+    goes_and_comes(&rt, rt.alloc(), &categories, &DataType::String);
 }
 
 #[test]
-fn truths_and_nulls_are_copied(rt: HostRuntime) -> Result<(), Fail> {
-    let alloc = rt.alloc();
-    let mut truths = Numbers::new(alloc);
-    truths.push(true)?;
-    copied(&rt, &Column::from_booleans(name(alloc)?, truths));
-    copied(&rt, &Column::nulls(name(alloc)?, 3)?);
-    Ok(())
+fn texts_become_categories_of_an_enum(rt: HostRuntime) {
+    let texts = texts(&rt, rt.alloc());
+    goes_and_comes(&rt, rt.alloc(), &texts, &enumeration(&rt, rt.alloc()));
+}
+
+#[test]
+fn truths_are_copied(rt: HostRuntime) {
+    let mut truths = Numbers::new(rt.alloc());
+    truths.push(true).expect(&rt, "a truth value");
+    let truths = Column::from_booleans(name(&rt, rt.alloc()), truths);
+    assert!(rt; truths.try_clone().is_ok());
 }

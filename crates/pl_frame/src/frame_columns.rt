@@ -1,8 +1,8 @@
 //! Columns of frames: without rows, in front, and chosen by their places.
-ghost use Rattle.std.specs.Prelude.{◌≡◌, ◌≢◌, ◌<◌, ◌≤◌, ◌+◌, ◌^◌, ◌∷◌, false, AllPairs, length, IfOk, IfErr, OnOk, OnErr, IsOkUnless};
+ghost use Rattle.std.specs.Prelude.{◌≡◌, ◌<◌, ◌≤◌, ◌+◌, ◌^◌, ◌∷◌, false, length, IfOk, IfErr, OnOk, OnErr, IsOkUnless};
 ghost use Rattle.pl_frame.specs.declared.error.PolarsError.TheVariants as error;
 ghost use Rattle.pl_frame.specs.Frame.{height_of};
-ghost use Rattle.pl_frame.specs.FrameParts.{columns_at, empty_columns, has_name, AreWithin, IsRowIndexFault};
+ghost use Rattle.pl_frame.specs.FrameParts.{columns_at, empty_columns, has_name, AreDistinctPlaces, AreWithin, IsRowIndexFault};
 ghost use Rattle.pl_frame.specs.RowIndex.{row_index_column};
 
 use crate::column::Column;
@@ -55,7 +55,7 @@ impl DataFrame {
     /// The columns at these places, in this order. The places are distinct. Refuses only want of memory.
     pub fn select(&self, which: &[usize]) -> PolarsResult<DataFrame>
         requires within { AreWithin which.now self.now }
-        requires distinct { AllPairs (λ a b. a ≢ b) which.now }
+        requires distinct { AreDistinctPlaces which.now }
         ensures columns { IfOk result (λ frame. frame ≡ columns_at which.now self.now) }
         ensures refused { IsOkUnless result error.OutOfMemory }
     {
@@ -81,11 +81,7 @@ fn columns_without_rows(alloc: Global, schema: &Schema) -> PolarsResult<Vec<Colu
 }
 
 // Equal columns to those at these places.
-fn copy_columns_at(
-    alloc: Global,
-    columns: &[Column],
-    which: &[usize],
-) -> PolarsResult<Vec<Column>>
+fn copy_columns_at(alloc: Global, columns: &[Column], which: &[usize]) -> PolarsResult<Vec<Column>>
     requires { AreWithin which.now columns.now }
     ensures columns { IfOk result (λ copies. copies.items ≡ columns_at which.now columns.now) }
     ensures refused { IsOkUnless result error.OutOfMemory }

@@ -14,6 +14,8 @@ pub mod data_type;
 pub mod equal;
 pub mod error;
 pub mod frame;
+#[cfg(test)]
+mod frame_calls;
 pub mod frame_columns;
 pub mod frame_rows;
 mod gathered;

@@ -42,19 +42,3 @@ fn numbers_from(alloc: Global, offset: u32, count: usize) -> Result<Numbers<i64>
     }
     Ok(numbers)
 }
-
-#[cfg(test)]
-mod tests {
-    use super::*;
-    use crate::column::Value;
-    use std::test::Fail;
-
-    #[test]
-    fn rows_are_numbered_from_an_offset(rt: HostRuntime) -> Result<(), Fail> {
-        let name = PlSmallStr::from_str(rt.alloc(), "n")?;
-        let column = Column::row_numbers(rt.alloc(), name, 7, 2)?;
-        assert!(rt; matches!(column.get(0), Value::Whole(7)));
-        assert!(rt; matches!(column.get(1), Value::Whole(8)));
-        Ok(())
-    }
-}

@@ -204,44 +204,35 @@ impl Eq for Schema {
 #[cfg(test)]
 mod tests {
     use super::*;
-    use std::test::Fail;
+    use std::process::Abort;
+
+    // Sets the type under a name.
+    fn set(rt: &impl Abort, schema: &mut Schema, name: &str, dtype: DataType) {
+        let name = PlSmallStr::from_str(*schema.fields.allocator(), name).expect(rt, "a name");
+        assert!(rt; schema.with_column(name, dtype).is_ok());
+    }
 
     #[test]
-    fn names_keep_their_places_and_types_change(rt: HostRuntime) -> Result<(), Fail> {
-        let alloc = rt.alloc();
-        let mut schema = Schema::new(alloc);
-        let name = PlSmallStr::from_str(alloc, "a")?;
-        assert!(rt; schema.with_column(name, DataType::Int64)?.is_none());
-        let name = PlSmallStr::from_str(alloc, "b")?;
-        assert!(rt; schema.with_column(name, DataType::String)?.is_none());
-        let name = PlSmallStr::from_str(alloc, "a")?;
-        let old = schema.with_column(name, DataType::Date)?;
-        assert!(rt; matches!(old, Some(DataType::Int64)));
-        assert_eq!(rt; schema.len(), 2);
-        assert_eq!(rt; schema.index_of("b"), Some(1));
-        assert_eq!(rt; schema.index_of("c"), None);
-        assert_eq!(rt; schema.try_index_of("a")?, 0);
-        match schema.try_index_of("c") {
-            Err(PolarsError::ColumnNotFound(name)) => assert_eq!(rt; name.as_str(), "c"),
-            _ => panic!(rt; "c is not there"),
-        }
-        match schema.get_at_index(0) {
-            Some((name, DataType::Date)) => assert_eq!(rt; name.as_str(), "a"),
-            _ => panic!(rt; "a is a date"),
-        }
-        let old = schema.set_dtype_at_index(1, DataType::Null);
-        assert!(rt; matches!(old, Some(DataType::String)));
-        assert!(rt; schema.set_dtype_at_index(2, DataType::Null).is_none());
-        assert!(rt; schema.get_at_index(2).is_none());
-        Ok(())
+    fn names_keep_their_places_and_types_change(rt: HostRuntime) {
+        let mut schema = Schema::new(rt.alloc());
+        set(&rt, &mut schema, "a", DataType::Int64);
+        set(&rt, &mut schema, "b", DataType::String);
+        set(&rt, &mut schema, "a", DataType::Date);
+        assert_eq!(rt; (schema.len(), schema.index_of("b")), (2, Some(1)));
+        assert!(rt; matches!(schema.try_index_of("a"), Ok(0)));
+        assert!(rt;
+            matches!(
+                schema.try_index_of("c"),
+                Err(PolarsError::ColumnNotFound(_))
+            )
+        );
+        assert!(rt; matches!(schema.get_at_index(0), Some((_, DataType::Date))));
     }
 
     #[test]
     fn a_clone_is_equal_until_it_changes(rt: HostRuntime) {
-        let alloc = rt.alloc();
-        let mut schema = Schema::new(alloc);
-        let name = PlSmallStr::from_str(alloc, "a").expect(&rt, "a name");
-        assert!(rt; schema.with_column(name, DataType::Date).is_ok());
+        let mut schema = Schema::new(rt.alloc());
+        set(&rt, &mut schema, "a", DataType::Date);
         let mut copy = schema.try_clone().expect(&rt, "a clone");
         assert!(rt; schema == copy);
         copy.set_dtype_at_index(0, DataType::Time);
@@ -251,11 +242,10 @@ mod tests {
     #[test]
     fn a_field_equals_its_clone(rt: HostRuntime) {
         let name = PlSmallStr::from_str(rt.alloc(), "a").expect(&rt, "a name");
-        let dtype = DataType::Decimal(None, Some(2));
-        let field = Field { name, dtype };
-        let mut copy = field.try_clone().expect(&rt, "a clone");
-        assert!(rt; field == copy);
-        copy.dtype = DataType::Decimal(Some(38), Some(2));
-        assert!(rt; field != copy);
+        let field = Field {
+            name,
+            dtype: DataType::Null,
+        };
+        assert!(rt; field.try_clone().expect(&rt, "a clone") == field);
     }
 }

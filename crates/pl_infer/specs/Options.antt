@@ -47,6 +47,6 @@ default_read_options = record {
   fields_to_cast = [];
 }
 
--- parts of paths are columns, from the first part on; their types are inferred, dates among them
+-- parts of paths are columns, from the first byte on; their types are inferred, dates among them
 abbrev pub default_hive_options : HiveOptions
 default_hive_options = record { enabled = Some true; hive_start_idx = 0; schema = None; try_parse_dates = true }

@@ -42,7 +42,7 @@ pub struct CsvReadOptions {
     pub parse_options: CsvParseOptions,
     /// Whether the first record is a header. Default: it is (docs/grammar.md, "The starting point").
     pub has_header: bool,
-    /// How many bytes a piece of the input has at least, of those that workers read. Default 262144 (docs/options.md).
+    /// How many bytes of the input a worker takes at most, unless a record is longer. Default 262144 (docs/options.md).
     pub chunk_size: usize,
     /// How many items are skipped before the header. Default 0 (docs/grammar.md, "The starting point").
     pub skip_rows: usize,
@@ -245,7 +245,7 @@ impl CsvReadOptions {
         self
     }
 
-    /// Sets how many bytes a piece of the input has at least, of those that workers read.
+    /// Sets how many bytes of the input a worker takes at most, unless a record is longer.
     pub fn with_chunk_size(mut self, chunk_size: usize) -> Self
         ensures { result ≡ record self { chunk_size = chunk_size } }
     {

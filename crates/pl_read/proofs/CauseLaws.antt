@@ -1,9 +1,12 @@
 -- The first of several causes.
-use Rattle.std.proofs.Common.{◌≡◌, List, [], ◌∷◌, ◌++◌, refl, ◌∙◌, inl, inr}
+use Rattle.std.proofs.Common.{◌≡◌, ℕ, List, [], ◌∷◌, ◌++◌, refl, sym, ◌∙◌, inl, inr}
 use Rattle.std.specs.Prelude.{Option, None, Some}
 use Rattle.pl_frame.specs.declared.error.PolarsError.{PolarsError}
-use Rattle.pl_read.specs.Refusals.{first_some}
-use Rattle.pl_read.specs.Steps.{IsFault}
+use Rattle.pl_frame.specs.Schema.{Entry}
+use Rattle.pl_infer.specs.declared.read_options.CsvReadOptions.{CsvReadOptions}
+use Rattle.pl_read.specs.Reading.{IsFirstCause, IsRefusal, IsReadFault}
+use Rattle.pl_read.specs.Refusals.{first_some, early_causes, late_causes, read_causes}
+use Rattle.pl_read.specs.Steps.{IsFault, MayRead, late_cause}
 
 -- of one cause
 pub first_some-one : {X : Type 0} (x : Option X) → first_some (x ∷ []) ≡ x
@@ -59,3 +62,21 @@ fault-early xs ys fault (inr wanting) = inr wanting
 pub fault-late : (xs ys : List (Option PolarsError)) (fault : PolarsError) → first_some xs ≡ None → IsFault (first_some ys) fault → IsFault (first_some (xs ++ ys)) fault
 fault-late xs ys fault none (inl some) = inl (first_some-late xs ys none ∙ some)
 fault-late xs ys fault none (inr wanting) = inr wanting
+
+-- ---- the causes against a read
+
+-- an early cause
+pub refused-early : (o : CsvReadOptions) (schema : List Entry) (input : List ℕ) (fault : PolarsError) → IsFirstCause (early_causes o) o.parse_options (Some fault) → IsRefusal o schema input fault
+refused-early o schema input fault first =
+    record { is_dialect = first.is_dialect; tells = first.tells; is = sym (first_some-early (early_causes o first.is_dialect) (late_causes o schema input) fault (sym first.is)) }
+
+-- a late one, or want of memory
+pub refused-late : (o : CsvReadOptions) (schema : List Entry) (input : List ℕ) (fault : PolarsError) → MayRead o → IsFault (late_cause o schema input) fault → IsReadFault o schema input fault
+refused-late o schema input fault may (inl some) =
+    inl (record { is_dialect = may.is_dialect; tells = may.tells; is = sym (first_some-late (early_causes o may.is_dialect) (late_causes o schema input) (sym may.is) ∙ some) })
+refused-late o schema input fault may (inr wanting) = inr wanting
+
+-- none
+pub sound-late : (o : CsvReadOptions) (schema : List Entry) (input : List ℕ) → MayRead o → late_cause o schema input ≡ None → IsFirstCause (read_causes o schema input) o.parse_options None
+sound-late o schema input may none =
+    record { is_dialect = may.is_dialect; tells = may.tells; is = sym (first_some-late (early_causes o may.is_dialect) (late_causes o schema input) (sym may.is) ∙ none) }

@@ -1,15 +1,15 @@
 -- What is read of data.
 use Rattle.std.proofs.Common.{◌≡◌, ℕ, zero, suc, ◌+◌, ◌<◌, Bool, true, false, cond, not, ◌&&◌, ◌==◌, List, [], ◌∷◌, map, length, get_or, refl, sym, ◌∙◌, ap, subst, arith, nat_lt, inl, inr}
-use Rattle.std.specs.Prelude.{◌≢◌, ◌⊎◌, Option, None, Some, filter, take, AllPairs}
+use Rattle.std.specs.Prelude.{◌≢◌, ◌⊎◌, Option, None, Some, AllPairs, slice_index}
 use Rattle.std.specs.List.{range_with_len, list_any, All}
-use Rattle.std.specs.Option.{option_map}
+use Rattle.std.specs.Option.{option_map, option_copied}
 use Rattle.std.specs.Str.{bytes_eq}
 use Rattle.std.specs.Bool.{Decides}
 use Rattle.std.specs.Cmp.Lexicographic.{bytes_decides}
 use Rattle.std.proofs.lemmas.Bool.{lt-ltb}
 use Rattle.std.proofs.lemmas.List.{length-map, get_or-map}
 use Rattle.std.proofs.lemmas.List.Folds.{list_any_at}
-use Rattle.std.proofs.lemmas.List.FromFn.{length-range_with_len, get_or-range_with_len}
+use Rattle.std.proofs.lemmas.List.FromFn.{length-range_with_len, get_or-range_with_len, length-map-range_with_len}
 use Rattle.std.proofs.lemmas.List.Kept.{AllPairs-filter, AllPairs-cons}
 use Rattle.pl_frame.specs.declared.error.FaultKind.{FaultKind}
 use Rattle.pl_frame.specs.declared.error.ComputeFault.TheVariants as compute_fault
@@ -17,8 +17,17 @@ use Rattle.pl_frame.specs.declared.error.PolarsError.{PolarsError}
 use Rattle.pl_frame.specs.declared.error.PolarsError.TheVariants as error
 use Rattle.pl_frame.specs.Frame.{ColumnValue, IsFrame, HaveHeight, height_of, names_of}
 use Rattle.pl_frame.specs.Schema.{Entry, HaveDistinctNames, names_in}
+use Rattle.pl_frame.specs.declared.error.OpFault.TheVariants as op_fault
+use Rattle.pl_frame.specs.Dialect.{AreDistinct, IsDialect}
+use Rattle.std.specs.Borrow.{Bor}
+use Rattle.pl_cells.specs.declared.null_values.NullValues.{NullValues}
+use Rattle.pl_cells.specs.declared.null_values.NullValues.TheVariants as null
+use Rattle.pl_cells.specs.declared.null_values.NullValuesCompiled.{NullValuesCompiled}
+use Rattle.pl_cells.specs.NullValues.{compiled_for, text_under, HaveTexts, HasColumns}
 use Rattle.pl_scan.specs.Dialect as scan
+use Rattle.pl_frame.specs.Types.{is_readable}
 use Rattle.pl_cells.specs.InitBuffers.{entry_at}
+use Rattle.pl_cells.specs.InitBuffers as cells
 use Rattle.pl_infer.specs.declared.read_options.CsvReadOptions.{CsvReadOptions}
 use Rattle.pl_infer.specs.declared.row_index.RowIndex.{RowIndex}
 use Rattle.pl_rows.specs.declared.columns.RangeColumns.{RangeColumns}
@@ -31,12 +40,16 @@ use Rattle.pl_rows.specs.Plan.{rules_of as plan_rules}
 use Rattle.pl_rows.specs.Ranges.{limited, rows_of, judged_rows, has_unjudged, end_of, range_end, sound_rows, range_frame, IsRangeRead}
 use Rattle.pl_rows.specs.Rows.{Row, rows, first_faulty}
 use Rattle.pl_rows.proofs.FrameLaws.{IsFrame-rows}
+use Rattle.pl_rows.proofs.RangeLaws.{rows-nil}
 use Rattle.pl_rows.proofs.WholeLaws.{judged-last, sound-all, none-first, fault-first}
 use Rattle.pl_read.specs.Options.{marks_of, comment_of, rules_of}
 use Rattle.pl_read.specs.Projection.{projected, has_projected, taken_name}
-use Rattle.pl_read.specs.Refusals.{when, first_some, nothing_read, faulty_record, index_past}
+use Rattle.pl_read.specs.Refusals.{when, first_some, early_causes, first_unreadable, nothing_read, faulty_record, index_past}
 use Rattle.pl_read.specs.Rows.{columns_read, rows_in, data_columns, with_index, data_frame}
-use Rattle.pl_read.specs.Steps.{data_cause, IsPlanOf}
+use Rattle.pl_read.specs.Reading.{Tells}
+use Rattle.pl_read.specs.Steps.{data_cause, IsPlanOf, MayRead}
+use Rattle.pl_read.proofs.PlaceLaws.{readable_at}
+use Rattle.pl_read.proofs.ProjectionLaws.{taken}
 use Rattle.pl_read.proofs.CauseLaws.{first_some-one, first_some-behind, first_some-here}
 
 -- ---- what a plan reads
@@ -88,9 +101,8 @@ limited-none None = refl
 limited-none (Some zero) = refl
 limited-none (Some (suc n)) = refl
 
-empty : (records : List ℕ) → length records ≡ 0 → records ≡ []
-empty [] e = refl
-empty (x ∷ xs) e = absurd (omega (arith, e))
+length-none : (limit : Option ℕ) → length (limited {X = Row} limit []) ≡ 0
+length-none limit = ap length (limited-none limit)
 
 -- where no column is read, there are no records
 no-records : (count : ℕ) (records : List ℕ) → count ≡ 0 → when (count == 0 && nat_lt 0 (length records)) error.EmptyProjection ≡ None → records ≡ []
@@ -108,7 +120,7 @@ height-is o schema records none = by (projected o schema) refl
     by [] e =
         let gone : records ≡ [] = no-records (length (projected o schema)) records (ap length e) none in
         ap (λ p. height_of (frame_of_rows (rules_of o schema) (entries_in schema p) (rows_in o records))) e
-        ∙ sym (ap (λ r. length (rows_in o r)) gone ∙ ap length (limited-none o.n_rows))
+        ∙ sym (ap (λ r. length (rows_in o r)) gone ∙ ap (λ rs. length (limited o.n_rows rs)) (rows-nil (marks_of o.parse_options) (comment_of o.parse_options)) ∙ length-none o.n_rows)
     by (place ∷ places) e =
         ap (λ p. height_of (frame_of_rows (rules_of o schema) (entries_in schema p) (rows_in o records))) e ∙ length-map (rows_in o records) _
 
@@ -160,3 +172,102 @@ pub IsFrame-columns : (o : CsvReadOptions) (schema : List Entry) (records : List
 IsFrame-columns o schema records distinct =
     IsFrame-rows (rules_of o schema) (rows_in o records) (entries_in schema (projected o schema))
     (subst (AllPairs (λ a b. a ≢ b)) (sym (names-entries schema (projected o schema))) (names-distinct o schema distinct))
+
+-- ---- the row index
+
+-- a name that no column has
+unlike : (f : ℕ → List ℕ) (name : List ℕ) (places : List ℕ) → list_any (λ place. bytes_eq name (f place)) places ≡ false → All (λ other. name ≢ other) (map f places)
+unlike f name places none k d within e =
+    let far : k < length places = omega (arith, within, length-map places f) in
+    let same : name ≡ f (get_or places k 0) = e ∙ get_or-map f places k 0 d far in
+    let there = list_any_at (λ place. bytes_eq name (f place)) places k 0 far ((bytes_decides name (f (get_or places k 0))).1 same) in
+    absurd (no_both (list_any (λ place. bytes_eq name (f place)) places) none there)
+  where
+    no_both : (b : Bool) → b ≡ false → b ≡ true → ⊥
+    no_both b f t = cc
+
+-- the row index has the name of no column that is read
+free-name : (o : CsvReadOptions) (schema : List Entry) (index : RowIndex) → o.row_index ≡ Some index → taken_name o schema ≡ None → has_projected o schema index.name ≡ false
+free-name o schema index is free = by (has_projected o schema index.name) refl
+  where
+    by : (b : Bool) → has_projected o schema index.name ≡ b → has_projected o schema index.name ≡ false
+    by false e = e
+    by true e = absurd (some_none (sym (taken o schema index (projected o schema) true is refl e) ∙ free))
+      where
+        some_none : ◌≡◌ {A = Option (List ℕ)} (Some index.name) None → ⊥
+        some_none h = cc
+
+-- behind the row index they are one as well
+pub IsFrame-indexed : (o : CsvReadOptions) (schema : List Entry) (records : List ℕ) → HaveDistinctNames schema → taken_name o schema ≡ None
+    → IsFrame (with_index o.row_index (height_of (data_columns o schema records)) (data_columns o schema records))
+IsFrame-indexed o schema records distinct free = by o.row_index refl
+  where
+    columns : List ColumnValue
+    columns = data_columns o schema records
+
+    by : (index : Option RowIndex) → o.row_index ≡ index → IsFrame (with_index o.row_index (height_of columns) columns)
+    by None e = subst (λ i. IsFrame (with_index i (height_of columns) columns)) (sym e) (IsFrame-columns o schema records distinct)
+    by (Some index) e = subst (λ i. IsFrame (with_index i (height_of columns) columns)) (sym e) (record {
+      one_height = (refl, subst (λ n. HaveHeight n columns) (sym (length-map-range_with_len _ index.offset (height_of columns))) (IsFrame-columns o schema records distinct).one_height);
+      distinct = subst (λ names. AllPairs (λ a b. a ≢ b) (index.name ∷ names)) (sym (names-read (rules_of o schema) (rows_in o records) schema (projected o schema)))
+          (AllPairs-cons (λ a b. a ≢ b) index.name (map (λ place. (entry_at schema place).0) (projected o schema))
+          (unlike (λ place. (entry_at schema place).0) index.name (projected o schema) (free-name o schema index e free)) (names-distinct o schema distinct));
+    })
+
+-- ---- the first cause against data
+
+-- where no row has a fault
+pub data_cause-index : (plan : RangePlan) (o : CsvReadOptions) (schema : List Entry) (records : List ℕ) (read : RangeColumns) → IsPlanOf plan o schema → IsRangeRead plan schema records read
+    → (read.end ≡ end.Closed) ⊎ (read.end ≡ end.Open) → nothing_read o schema records ≡ None
+    → index_past o.row_index (height_of read.columns.items) read.columns.items ≡ data_cause o schema records
+data_cause-index plan o schema records read is range ended some =
+    let columns = columns-are plan o schema records read is range ended in
+    let sound : faulty_record o schema records ≡ None = ap (option_map (λ found. error.ComputeError (compute_fault.Record found.0 found.1.0 found.1.1))) (no-fault plan o schema records read is range ended) in
+    ap (λ c. index_past o.row_index (height_of c) c) columns
+    ∙ ap (λ n. index_past o.row_index n (data_columns o schema records)) (height-is o schema records some)
+    ∙ sym (first_some-behind (faulty_record o schema records) _ sound ∙ first_some-one _)
+
+-- the frame
+pub data_frame-is : (plan : RangePlan) (o : CsvReadOptions) (schema : List Entry) (records : List ℕ) (read : RangeColumns) → IsPlanOf plan o schema → IsRangeRead plan schema records read
+    → (read.end ≡ end.Closed) ⊎ (read.end ≡ end.Open) → nothing_read o schema records ≡ None
+    → with_index o.row_index (height_of read.columns.items) read.columns.items ≡ data_frame o schema records
+data_frame-is plan o schema records read is range ended some =
+    ap (λ c. with_index o.row_index (height_of c) c) (columns-are plan o schema records read is range ended)
+    ∙ ap (λ n. with_index o.row_index n (data_columns o schema records)) (height-is o schema records some)
+
+-- where all types can be read, those of the columns that are read can
+pub readable-places : (schema : List Entry) (places : List ℕ) → first_unreadable schema ≡ None → ((k : ℕ) → k < length places → slice_index places k < length schema) → cells.first_unreadable schema places ≡ None
+readable-places schema [] readable below = refl
+readable-places schema (place ∷ places) readable below =
+    let here : not (is_readable (entry_at schema place).1) ≡ false = readable_at schema place readable (below 0 (omega arith)) in
+    rw here (readable-places schema places readable (λ k l. below (suc k) (omega (arith, l))))
+
+-- ---- when data can be read
+
+-- the options of a read that may be: its marks differ from one another
+pub may-apart : (o : CsvReadOptions) → MayRead o → AreDistinct (marks_of o.parse_options)
+may-apart o may = by may.is_dialect refl
+  where
+    by : (b : Bool) → may.is_dialect ≡ b → AreDistinct (marks_of o.parse_options)
+    by true e = (subst (λ b. Tells b (IsDialect (marks_of o.parse_options) (comment_of o.parse_options))) e may.tells).distinct
+    by false e = absurd (none_some (may.is ∙ ap (λ b. first_some (early_causes o b)) e))
+      where
+        none_some : ◌≡◌ {A = Option PolarsError} None (Some (error.InvalidOperation op_fault.Dialect)) → ⊥
+        none_some h = cc
+
+-- compiled null values have a text for each column
+pub texts-compiled : (nulls : Option (Bor NullValuesCompiled)) (values : Option NullValues) (schema : List Entry) → option_copied nulls ≡ option_map (λ v. compiled_for v schema) values → HaveTexts nulls (length schema)
+texts-compiled None values schema e = tt
+texts-compiled (Some nulls) None schema e = absurd (some_none nulls.now e)
+  where
+    some_none : (n : NullValuesCompiled) → ◌≡◌ {A = Option NullValuesCompiled} (Some n) None → ⊥
+    some_none n h = cc
+texts-compiled (Some nulls) (Some values) schema e = subst (λ n. HasColumns n (length schema)) (sym (same nulls.now (compiled_for values schema) e)) (has values)
+  where
+    same : (a b : NullValuesCompiled) → ◌≡◌ {A = Option NullValuesCompiled} (Some a) (Some b) → a ≡ b
+    same a b h = cc
+
+    has : (values : NullValues) → HasColumns (compiled_for values schema) (length schema)
+    has (null.AllColumnsSingle text) = tt
+    has (null.AllColumns texts) = tt
+    has (null.Named entries) = omega (arith, length-map (names_in schema) (text_under [] entries), length-map schema (λ (entry : Entry). entry.0))

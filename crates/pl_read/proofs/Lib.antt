@@ -5,3 +5,5 @@ pub mod ProjectionLaws
 pub mod IndexingLaws
 pub mod SliceLaws
 pub mod DataLaws
+pub mod LimitLaws
+pub mod SelectionLaws

@@ -7,3 +7,4 @@ pub mod Steps
 pub mod BytesReader
 pub mod NamedColumns
 pub mod Slices
+pub mod Laws

@@ -4,7 +4,7 @@ use Rattle.std.specs.List.{range_with_len}
 use Rattle.std.specs.Option.{option_and_then}
 use Rattle.pl_frame.specs.declared.error.PolarsError.{PolarsError}
 use Rattle.pl_frame.specs.declared.error.PolarsError.TheVariants as error
-use Rattle.pl_frame.specs.Schema.{Entry}
+use Rattle.pl_frame.specs.Schema.{Entry, HaveDistinctNames}
 use Rattle.pl_frame.specs.Dialect.{AreDistinct}
 use Rattle.pl_scan.specs.Dialect as scan
 use Rattle.pl_cells.specs.NullValues.{unknown_name, HaveTexts}
@@ -47,6 +47,11 @@ projection_cause o schema = first_some (out_of_bounds o schema ∷ duplicate o s
 abbrev pub data_cause : CsvReadOptions → List Entry → List ℕ → Option PolarsError
 data_cause o schema records = first_some (faulty_record o schema records ∷ index_past o.row_index (length (rows_in o records)) (data_columns o schema records) ∷ [])
 
+-- the first cause against data of which columns are read
+abbrev pub projected_cause : CsvReadOptions → List Entry → List ℕ → Option PolarsError
+projected_cause o schema records =
+    first_some (nothing_read o schema records ∷ faulty_record o schema records ∷ index_past o.row_index (length (rows_in o records)) (data_columns o schema records) ∷ [])
+
 -- the first cause against data of which columns are asked
 abbrev pub asked_cause : CsvReadOptions → List Entry → List ℕ → Option PolarsError
 asked_cause o schema records =
@@ -75,6 +80,7 @@ pub record CanReadData (plan : RangePlan) (o : CsvReadOptions) (schema : List En
   pub apart : AreDistinct (marks_of o.parse_options)
   pub readable : first_unreadable schema ≡ None
   pub texts : HaveTexts plan.options.null_values (length schema)
+  pub distinct : HaveDistinctNames schema
   pub free : taken_name o schema ≡ None
   pub some : nothing_read o schema records ≡ None
 

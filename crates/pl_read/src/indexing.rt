@@ -1,6 +1,6 @@
 //! The row index before the columns, and numbers that do not fit 32 bits.
 ghost use Rattle.std.specs.Prelude.{◌≡◌, ◌<◌, ◌+◌, ◌^◌, nat_lt, IfOk, OnOk, IfErr, None, map};
-ghost use Rattle.std.specs.Option.{option_map};
+ghost use Rattle.std.specs.Option.{option_copied};
 ghost use Rattle.pl_frame.specs.Frame.{IsFrame, height_of};
 ghost use Rattle.pl_frame.specs.declared.error.ComputeFault.TheVariants as compute_fault;
 ghost use Rattle.pl_frame.specs.declared.error.PolarsError.TheVariants as error;
@@ -20,7 +20,7 @@ const NUMBERS: u64 = 1 << 32;
 
 // The refusal of a row index whose last number does not fit 32 bits.
 fn numbers_past(index: Option<&RowIndex>, rows: usize) -> Option<PolarsError>
-    ensures { result ≡ numbers_past (option_map (λ i. i.now) index.entry) rows }
+    ensures { result ≡ numbers_past (option_copied index.entry) rows }
 {
     match index {
         Some(index) => past(u64::from(index.offset), rows as u64),
@@ -34,10 +34,7 @@ fn past(offset: u64, rows: u64) -> Option<PolarsError>
     ensures { result ≡ when (nat_lt (2 ^ 32) (offset + rows)) (error.ComputeError (compute_fault.Index offset rows)) }
 {
     if rows > NUMBERS - offset {
-        return Some(PolarsError::ComputeError(ComputeFault::Index {
-            offset,
-            rows,
-        }));
+        return Some(PolarsError::ComputeError(ComputeFault::Index { offset, rows }));
     }
     None
 }
@@ -73,7 +70,7 @@ fn find_codes_past(columns: &[Column]) -> Option<PolarsError>
 
 // The refusal of numbers that do not fit 32 bits.
 fn index_past(index: Option<&RowIndex>, rows: usize, columns: &[Column]) -> Option<PolarsError>
-    ensures { result ≡ index_past (option_map (λ i. i.now) index.entry) rows columns.now }
+    ensures { result ≡ index_past (option_copied index.entry) rows columns.now }
 {
     match numbers_past(index, rows) {
         Some(fault) => Some(fault),
@@ -99,10 +96,10 @@ pub fn with_index(
     index: Option<&RowIndex>,
     columns: Vec<Column>,
 ) -> PolarsResult<DataFrame>
-    requires { IsFrame (with_index (option_map (λ i. i.now) index) (height_of columns.items) columns.items) }
-    ensures frame { IfOk result (λ frame. frame ≡ with_index (option_map (λ i. i.now) index.entry) (height_of columns.items) columns.items) }
-    ensures sound { OnOk result (index_past (option_map (λ i. i.now) index.entry) (height_of columns.items) columns.items ≡ None) }
-    ensures refused { IfErr result (IsFault (index_past (option_map (λ i. i.now) index.entry) (height_of columns.items) columns.items)) }
+    requires { IsFrame (with_index (option_copied index) (height_of columns.items) columns.items) }
+    ensures frame { IfOk result (λ frame. frame ≡ with_index (option_copied index.entry) (height_of columns.items) columns.items) }
+    ensures sound { OnOk result (index_past (option_copied index.entry) (height_of columns.items) columns.items ≡ None) }
+    ensures refused { IfErr result (IsFault (index_past (option_copied index.entry) (height_of columns.items) columns.items)) }
 {
     let rows = rows_of(&columns);
     if let Some(fault) = index_past(index, rows, &columns) {

@@ -230,6 +230,7 @@ pub fn projected_places(
     requires { places.now ≡ asked options.now schema.now }
     ensures places { IfOk result (λ places. places.items ≡ projected options.now schema.now) }
     ensures sound { OnOk result (projection_cause options.now schema.now ≡ None) }
+    ensures free { OnOk result (taken_name options.now schema.now ≡ None) }
     ensures refused { IfErr result (IsFault (projection_cause options.now schema.now)) }
 {
     let width = schema.len();

@@ -1,13 +1,14 @@
 //! From the bytes of an input to the frame that they mean.
-ghost use Rattle.std.specs.Prelude.{◌≡◌, IfOk, OnOk, IfErr, MatchResult, None};
+ghost use Rattle.std.specs.Prelude.{◌≡◌, ◌==◌, ◌&&◌, nat_lt, length, IfOk, OnOk, IfErr, MatchResult, None};
 ghost use Rattle.std.specs.Option.{option_copied, option_map};
+ghost use Rattle.pl_frame.specs.Schema.{HaveDistinctNames};
 ghost use Rattle.pl_cells.specs.NullValues.{compiled_for};
 ghost use Rattle.pl_read.specs.Options.{keeps_ends, data_of, settled};
-ghost use Rattle.pl_read.specs.Projection.{asked, projected};
+ghost use Rattle.pl_read.specs.Projection.{asked, projected, taken_name};
 ghost use Rattle.pl_read.specs.Reading.{frame_of, IsRead, IsReadFault};
 ghost use Rattle.pl_read.specs.Refusals.{first_unreadable};
 ghost use Rattle.pl_read.specs.Rows.{data_frame};
-ghost use Rattle.pl_read.specs.Steps.{IsFault, MayRead, late_cause, settled_cause, asked_cause, data_cause, IsPlanOf, CanReadData};
+ghost use Rattle.pl_read.specs.Steps.{IsFault, MayRead, late_cause, settled_cause, asked_cause, projected_cause, data_cause, IsPlanOf, CanReadData};
 
 use crate::checks::check_options;
 use crate::indexing::with_index;
@@ -38,7 +39,10 @@ pub fn read_frame(
     ensures { MatchResult result (IsRead options.now (settled options.now schema.now) input.now) (IsReadFault options.now (settled options.now schema.now) input.now) }
 {
     check_options(options)?;
-    read_checked(alloc, input, options, schema)
+    match read_checked(alloc, input, options, schema) {
+        Ok(frame) => Ok(frame),
+        Err(fault) => Err(fault),
+    }
 }
 
 /// The frame that an input means under a schema that is given, where the options may stand: `check_options` tells. Refuses the
@@ -108,7 +112,14 @@ fn read_settled(
     let Some(records) = data_from_start(input, options) else {
         return Err(PolarsError::NoData(NoDataFault::Skip));
     };
-    read_asked(alloc, records, options, schema, null_values.as_ref(), &asked)
+    read_asked(
+        alloc,
+        records,
+        options,
+        schema,
+        null_values.as_ref(),
+        &asked,
+    )
 }
 
 // The frame of the data, of which these columns are asked.
@@ -128,12 +139,42 @@ fn read_asked(
     ensures sound { OnOk result (asked_cause options.now schema.now records.now ≡ None) }
     ensures refused { IfErr result (IsFault (asked_cause options.now schema.now records.now)) }
 {
-    let read = projected_places(alloc, options, schema, places)?;
-    if read.is_empty() && !records.is_empty() {
+    match projected_places(alloc, options, schema, places) {
+        Ok(places) => read_projected(alloc, records, options, schema, null_values, &places),
+        Err(fault) => Err(fault),
+    }
+}
+
+// The frame of the data, of which these columns are read.
+fn read_projected(
+    alloc: Global,
+    records: &[u8],
+    options: &CsvReadOptions,
+    schema: &Schema,
+    null_values: Option<&NullValuesCompiled>,
+    places: &[usize],
+) -> PolarsResult<DataFrame>
+    requires allowed { MayRead options.now }
+    requires readable { first_unreadable schema.now ≡ None }
+    requires compiled { option_copied null_values ≡ option_map (λ values. compiled_for values schema.now) options.now.parse_options.null_values }
+    requires places { places.now ≡ projected options.now schema.now }
+    requires free { taken_name options.now schema.now ≡ None }
+    ensures frame { IfOk result (λ frame. frame ≡ data_frame options.now schema.now records.now) }
+    ensures sound { OnOk result (projected_cause options.now schema.now records.now ≡ None) }
+    ensures refused { IfErr result (IsFault (projected_cause options.now schema.now records.now)) }
+{
+    if is_nothing_read(places, records) {
         return Err(PolarsError::EmptyProjection);
     }
-    let plan = plan_of(options, schema, &read, null_values);
+    let plan = plan_of(options, schema, places, null_values);
     read_data(alloc, records, options, schema, &plan)
+}
+
+// Whether no column is read, and there is data.
+fn is_nothing_read(places: &[usize], records: &[u8]) -> bool
+    ensures { result ≡ (length places.now == 0 && nat_lt 0 (length records.now)) }
+{
+    places.is_empty() && !records.is_empty()
 }
 
 // How the projected columns are read, with the null values of the schema's columns.
@@ -147,6 +188,7 @@ fn plan_of<'a>(
     requires compiled { option_copied null_values ≡ option_map (λ values. compiled_for values schema.now) options.now.parse_options.null_values }
     ensures plan { IsPlanOf result options.now schema.now }
     ensures nulls { result.options.null_values ≡ null_values.entry }
+    ensures distinct { HaveDistinctNames schema.now }
 {
     let parse_options = &options.parse_options;
     RangePlan {
@@ -195,5 +237,57 @@ fn read_data(
         RangeEnd::Closed | RangeEnd::Open => {
             with_index(alloc, options.row_index.as_ref(), read.columns)
         }
+    }
+}
+
+#[cfg(test)]
+mod tests {
+    use super::*;
+    use pl_frame::column::Value;
+    use pl_frame::data_type::DataType;
+    use pl_frame::name::PlSmallStr;
+    use pl_infer::column_lists::ColumnPlaces;
+    use pl_infer::row_index::RowIndex;
+    use std::test::Fail;
+
+    // Puts a column at the end of a schema.
+    fn push(alloc: Global, schema: &mut Schema, name: &str, dtype: DataType) -> Result<(), Fail> {
+        schema.with_column(PlSmallStr::from_str(alloc, name)?, dtype)?;
+        Ok(())
+    }
+
+    // Asks for two places, two rows, and numbers of rows from 7 on.
+    fn ask(alloc: Global, options: &mut CsvReadOptions, places: [usize; 2]) -> Result<(), Fail> {
+        let name = PlSmallStr::from_str(alloc, "n")?;
+        options.has_header = false;
+        options.n_rows = Some(2);
+        options.row_index = Some(RowIndex { name, offset: 7 });
+        options.projection = Some(ColumnPlaces::new(places.to_vec(alloc)?));
+        Ok(())
+    }
+
+    // The numbers in the last row of a frame of two columns behind their row index.
+    fn last_row(frame: &DataFrame) -> Option<(Value<'_>, Value<'_>)> {
+        match frame.columns() {
+            [numbers, first, _] if numbers.len() == 2 && first.len() == 2 => Some((
+                numbers.get(1),
+                first.get(1),
+            )),
+            _ => None,
+        }
+    }
+
+    #[test]
+    fn two_columns_of_two_rows_behind_their_numbers(rt: HostRuntime) -> Result<(), Fail> {
+        let alloc = rt.alloc();
+        let mut schema = Schema::new(alloc);
+        push(alloc, &mut schema, "a", DataType::Int64)?;
+        push(alloc, &mut schema, "b", DataType::String)?;
+        push(alloc, &mut schema, "c", DataType::Int64)?;
+        let mut options = CsvReadOptions::new(alloc);
+        ask(alloc, &mut options, [2, 0])?;
+        let frame = read_frame(alloc, b"1,x\"y,2\n3,z,4\nx,,\n", &options, &schema)?;
+        assert_eq!(rt; last_row(&frame), Some((Value::Whole(8), Value::Whole(3))));
+        Ok(())
     }
 }

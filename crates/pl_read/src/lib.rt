@@ -2,7 +2,7 @@
 #![tactic(auto)]
 
 pub mod bytes_reader;
-mod checks;
+pub mod checks;
 mod indexing;
 pub mod laws;
 pub mod named_columns;

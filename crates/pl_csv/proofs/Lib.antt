@@ -1,6 +1,7 @@
 pub mod CountingLaws
 pub mod DueLaws
 pub mod FaultLaws
+pub mod OutcomeLaws
 pub mod RunLaws
 pub mod TellLaws
 pub mod TranscodeLaws

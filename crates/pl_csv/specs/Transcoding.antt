@@ -64,3 +64,20 @@ abbrev pub IsTranscodeFault : CsvReadOptions → CsvWriterOptions → List ℕ �
 IsTranscodeFault read write input before now error.IO = Rose before.faults now.faults × IsCutShort read write input before.received now.received
 IsTranscodeFault read write input before now error.OutOfMemory = (now ≡ before) ⊎ IsCutShort read write input before.received now.received
 IsTranscodeFault read write input before now fault = IsCause read (settled_schema read) input write fault × (now ≡ before)
+
+-- ---- laws
+
+-- an input has a frame that can be written, or a first cause against it; not both; and one such cause
+pub record HasOneOutcome (read : CsvReadOptions) (schema : List Entry) (input : List ℕ) (write : CsvWriterOptions) : Type 0 where
+  pub some : ((frame : List ColumnValue) × IsValidRead read schema input write frame) ⊎ ((first : PolarsError) × IsCause read schema input write first)
+  pub apart : (frame : List ColumnValue) (first : PolarsError) → IsValidRead read schema input write frame → IsCause read schema input write first → ⊥
+  pub one : (first other : PolarsError) → IsCause read schema input write first → IsCause read schema input write other → first ≡ other
+
+-- where an input means a frame that can be written, and no count of the sink rose, only memory can be wanting
+abbrev pub IsComplete : CsvReadOptions → CsvWriterOptions → List ℕ → Type 0
+IsComplete read write input =
+    (before now : SinkView) (frame : List ColumnValue) (fault : PolarsError)
+    → IsValidRead read (settled_schema read) input write frame
+    → IsTranscodeFault read write input before now fault
+    → ¬ Rose before.faults now.faults
+    → fault ≡ error.OutOfMemory

@@ -7,3 +7,5 @@ pub mod Steps
 pub mod BytesReader
 pub mod NamedColumns
 pub mod Slices
+pub mod CsvReader
+pub mod ReaderMakers

@@ -1,0 +1,139 @@
+//! The reader of frames.
+ghost use Rattle.std.specs.Prelude.{◌≡◌, ◌≤◌, ℕ, List, Result, Some, IsSome, IfOk, IfErr};
+ghost use Rattle.pl_frame.specs.Frame.{ColumnValue};
+ghost use Rattle.pl_frame.specs.declared.error.PolarsError.{PolarsError};
+ghost use Rattle.pl_infer.specs.Options.{default_read_options};
+ghost use Rattle.pl_read.specs.BytesReader.{input_of};
+ghost use Rattle.pl_read.specs.CsvReader.{Reader, OfInput, IsFinishFault, IsMeaning, AnswersUnlessFailed};
+ghost use Rattle.pl_read.specs.Options.{settled, settled_schema};
+ghost use Rattle.pl_read.specs.Reading.{IsRead};
+
+use crate::bytes_reader::{MmapBytesReader, lent_or_read, read_unlent};
+use crate::reading::read_frame;
+use pl_frame::error::PolarsResult;
+use pl_frame::frame::DataFrame;
+use pl_frame::schema::Schema;
+use pl_infer::read_options::CsvReadOptions;
+use std::alloc::Global;
+use std::marker::Model;
+
+/// What reads the input of a source into a frame.
+pub trait SerReader<R: MmapBytesReader> {
+    /// The source, and how it is read.
+    ghost state: { Self → Reader R };
+
+    /// A reader of a source, with default options. Takes no memory.
+    fn new(alloc: Global, reader: R) -> Self
+        ensures { state result ≡ record { source = reader; options = default_read_options } };
+
+    /// The reader as it is: a column lies in one piece, whatever is asked.
+    fn set_rechunk(self, rechunk: bool) -> Self
+        ensures { state result ≡ state self };
+
+    /// The frame that the input means under the options, which give a schema. The input is what the source lends, or else
+    /// what is left of it, which is read to its end first; the options stay.
+    ///
+    /// Refuses `IO` only where the source lends nothing and its count of faults rose, then the first cause against the input,
+    /// and want of memory, in which a source without end ends.
+    fn finish(&mut self) -> PolarsResult<DataFrame>
+        requires { IsSome (state self.old).options.schema }
+
+        // Each answer comes only by its cause.
+        ensures frame { IfOk result (λ frame. OfInput R.lent R.left (state self.old).source (state self.new).source (λ input.
+            IsRead (state self.old).options (settled_schema (state self.old).options) input frame)) }
+        ensures refused { IfErr result (IsFinishFault R.lent R.left R.faults (state self.old).source (state self.new).source
+            (state self.old).options (settled_schema (state self.old).options)) }
+
+        // And it comes where the source tells an input that means it, up to want of memory and a count that rose.
+        ensures complete { (input : List ℕ) (meaning : Result (List ColumnValue) PolarsError)
+            → input_of (R.lent (state self.old).source) (R.left (state self.old).source) ≡ Some input
+            → IsMeaning (state self.old).options (settled_schema (state self.old).options) input meaning
+            → AnswersUnlessFailed result meaning (R.faults (state self.old).source) (R.faults (state self.new).source) }
+
+        // A source that lends its bytes is not read.
+        ensures lent { IsSome (R.lent (state self.old).source) → (state self.new).source ≡ (state self.old).source }
+        ensures later { R.faults (state self.old).source ≤ R.faults (state self.new).source }
+        ensures options { (state self.new).options ≡ (state self.old).options };
+}
+
+/// A reader of frames, which owns its source. Contracts see the source and the options.
+#[derive(Drop)]
+pub struct CsvReader<R: MmapBytesReader> {
+    alloc: Global,
+    reader: R,
+    options: CsvReadOptions,
+}
+
+impl<R: MmapBytesReader> Model for CsvReader<R> {
+    ghost use Rattle.pl_read.specs.CsvReader.{Reader};
+
+    ghost Value = { Reader R };
+
+    ghost view = { λ it. record { source = it.reader; options = it.options } };
+}
+
+impl<R: MmapBytesReader> CsvReader<R> {
+    /// A reader of a source by these options. Takes no memory.
+    pub fn with_options(alloc: Global, reader: R, options: CsvReadOptions) -> Self
+        ensures { result ≡ record { source = reader; options = options } }
+    {
+        CsvReader {
+            alloc,
+            reader,
+            options,
+        }
+    }
+
+    /// How the source is read, without taking memory.
+    pub fn options(&self) -> &CsvReadOptions
+        ensures { result.now ≡ self.now.options }
+    {
+        &self.options
+    }
+
+    /// The source again, where the reads left it, without taking memory.
+    pub fn into_inner(self) -> R
+        ensures { result ≡ self.source }
+    {
+        self.reader
+    }
+}
+
+// The frame that the input of a source means under options and a schema.
+fn read_source<R: MmapBytesReader>(
+    alloc: Global,
+    reader: &mut R,
+    options: &CsvReadOptions,
+    schema: &Schema,
+) -> PolarsResult<DataFrame>
+    ensures frame { IfOk result (λ frame. OfInput R.lent R.left reader.old reader.new (λ input. IsRead options.now (settled options.now schema.now) input frame)) }
+    ensures refused { IfErr result (IsFinishFault R.lent R.left R.faults reader.old reader.new options.now (settled options.now schema.now)) }
+    ensures lent { IsSome (R.lent reader.old) → reader.new ≡ reader.old }
+    ensures later { R.faults reader.old ≤ R.faults reader.new }
+{
+    let read = match read_unlent(alloc, reader) {
+        Ok(read) => read,
+        Err(fault) => return Err(fault),
+    };
+    let input = lent_or_read(reader, read);
+    read_frame(alloc, input.bytes(), options, schema)
+}
+
+impl<R: MmapBytesReader> SerReader<R> for CsvReader<R> {
+    ghost state = { λ it. it };
+
+    fn new(alloc: Global, reader: R) -> Self {
+        CsvReader::with_options(alloc, reader, CsvReadOptions::new(alloc))
+    }
+
+    fn set_rechunk(self, _rechunk: bool) -> Self {
+        self
+    }
+
+    fn finish(&mut self) -> PolarsResult<DataFrame> {
+        let Some(schema) = &self.options.schema else {
+            unreachable!();
+        };
+        read_source(self.alloc, &mut self.reader, &self.options, schema)
+    }
+}

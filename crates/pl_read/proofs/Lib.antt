@@ -5,3 +5,4 @@ pub mod ProjectionLaws
 pub mod IndexingLaws
 pub mod SliceLaws
 pub mod DataLaws
+pub mod ReaderLaws

@@ -28,10 +28,10 @@ OfInput lent left before now P = (input : List ℕ) × IsInput (lent before) (le
 
 -- ---- the answer
 
--- why there is no frame: a fault of the source, whose count rose; want of memory, at any time; else the first cause against
--- the input
+-- why there is no frame: a fault of a source that lends nothing, whose count rose; want of memory, at any time; else the first
+-- cause against the input
 abbrev pub IsFinishFault : {R : Type 0} → (lent left : R → Option (List ℕ)) → (faults : R → ℕ) → (before now : R) → CsvReadOptions → List Entry → PolarsError → Type 0
-IsFinishFault lent left faults before now o schema error.IO = Rose (faults before) (faults now)
+IsFinishFault lent left faults before now o schema error.IO = IsNone (lent before) × Rose (faults before) (faults now)
 IsFinishFault lent left faults before now o schema error.OutOfMemory = Unit {0}
 IsFinishFault lent left faults before now o schema fault = OfInput lent left before now (λ input. IsRefusal o schema input fault)
 

@@ -5,14 +5,13 @@ ghost use Rattle.pl_frame.specs.declared.error.PolarsError.{PolarsError};
 ghost use Rattle.pl_infer.specs.Options.{default_read_options};
 ghost use Rattle.pl_read.specs.BytesReader.{input_of};
 ghost use Rattle.pl_read.specs.CsvReader.{Reader, OfInput, IsFinishFault, IsMeaning, AnswersUnlessFailed};
-ghost use Rattle.pl_read.specs.Options.{settled, settled_schema};
+ghost use Rattle.pl_read.specs.Options.{settled_schema};
 ghost use Rattle.pl_read.specs.Reading.{IsRead};
 
 use crate::bytes_reader::{MmapBytesReader, lent_or_read, read_unlent};
 use crate::reading::read_frame;
 use pl_frame::error::PolarsResult;
 use pl_frame::frame::DataFrame;
-use pl_frame::schema::Schema;
 use pl_infer::read_options::CsvReadOptions;
 use std::alloc::Global;
 use std::marker::Model;
@@ -99,18 +98,25 @@ impl<R: MmapBytesReader> CsvReader<R> {
     }
 }
 
-// The frame that the input of a source means under options and a schema.
+// The frame that the input of a source means under options that give a schema.
 fn read_source<R: MmapBytesReader>(
     alloc: Global,
     reader: &mut R,
     options: &CsvReadOptions,
-    schema: &Schema,
 ) -> PolarsResult<DataFrame>
-    ensures frame { IfOk result (λ frame. OfInput R.lent R.left reader.old reader.new (λ input. IsRead options.now (settled options.now schema.now) input frame)) }
-    ensures refused { IfErr result (IsFinishFault R.lent R.left R.faults reader.old reader.new options.now (settled options.now schema.now)) }
+    requires { IsSome options.now.schema }
+    ensures frame { IfOk result (λ frame. OfInput R.lent R.left reader.old reader.new (λ input. IsRead options.now (settled_schema options.now) input frame)) }
+    ensures refused { IfErr result (IsFinishFault R.lent R.left R.faults reader.old reader.new options.now (settled_schema options.now)) }
+    ensures complete { (input : List ℕ) (meaning : Result (List ColumnValue) PolarsError)
+        → input_of (R.lent reader.old) (R.left reader.old) ≡ Some input
+        → IsMeaning options.now (settled_schema options.now) input meaning
+        → AnswersUnlessFailed result meaning (R.faults reader.old) (R.faults reader.new) }
     ensures lent { IsSome (R.lent reader.old) → reader.new ≡ reader.old }
     ensures later { R.faults reader.old ≤ R.faults reader.new }
 {
+    let Some(schema) = &options.schema else {
+        unreachable!();
+    };
     let read = match read_unlent(alloc, reader) {
         Ok(read) => read,
         Err(fault) => return Err(fault),
@@ -131,9 +137,79 @@ impl<R: MmapBytesReader> SerReader<R> for CsvReader<R> {
     }
 
     fn finish(&mut self) -> PolarsResult<DataFrame> {
-        let Some(schema) = &self.options.schema else {
-            unreachable!();
-        };
-        read_source(self.alloc, &mut self.reader, &self.options, schema)
+        read_source(self.alloc, &mut self.reader, &self.options)
+    }
+}
+
+#[cfg(test)]
+mod tests {
+    use super::*;
+    use pl_frame::column::Column;
+    use pl_frame::data_type::DataType;
+    use pl_frame::error::PolarsError;
+    use pl_frame::name::PlSmallStr;
+    use pl_frame::schema::Schema;
+    use pl_frame::source::{MemSource, PipeSource, Source};
+    use std::test::Fail;
+
+    // Through the bound: a reader with default options.
+    fn fresh<R: MmapBytesReader, T: SerReader<R>>(alloc: Global, reader: R) -> T {
+        T::new(alloc, reader).set_rechunk(true)
+    }
+
+    // Through the bound: what a reader reads.
+    fn finish<R: MmapBytesReader, T: SerReader<R>>(reader: &mut T) -> PolarsResult<DataFrame>
+        requires { IsSome (T.state reader.old).options.schema }
+    {
+        reader.finish()
+    }
+
+    // A read of one column `a` of whole numbers.
+    fn one_column(alloc: Global) -> Result<CsvReadOptions, Fail>
+        ensures { IfOk result (λ options. IsSome options.schema) }
+    {
+        let mut schema = Schema::new(alloc);
+        schema.with_column(PlSmallStr::from_str(alloc, "a")?, DataType::Int64)?;
+        Ok(CsvReadOptions::new(alloc).with_schema(Some(schema)))
+    }
+
+    // The column `a` of 1.
+    fn one(alloc: Global) -> Result<DataFrame, Fail> {
+        let name = PlSmallStr::from_str(alloc, "a")?;
+        let column = Column::whole(alloc, name, DataType::Int64, vec![in alloc; Some(1)]?)?;
+        Ok(DataFrame::new(alloc, vec![in alloc; column]?)?)
+    }
+
+    #[test]
+    fn a_new_reader_has_default_options(rt: HostRuntime) {
+        let alloc = rt.alloc();
+        let reader: CsvReader<MemSource<'_>> = fresh(alloc, MemSource::new(b"ab"));
+        assert!(rt; *reader.options() == CsvReadOptions::new(alloc));
+        assert_eq!(rt; reader.into_inner().bytes(), b"ab".as_slice());
+    }
+
+    #[test]
+    fn a_source_is_read_from_where_it_stands(rt: HostRuntime) -> Result<(), Fail> {
+        let alloc = rt.alloc();
+        let mut source = PipeSource::new(b"xa\n1\n", 1, &[3]);
+        assert_eq!(rt; source.read(&mut [0u8; 1]), Ok(1));
+        let mut reader = CsvReader::with_options(alloc, source, one_column(alloc)?);
+        assert!(rt; matches!(finish(&mut reader), Err(PolarsError::IO)));
+        let mut source = PipeSource::new(b"xa\n1\n", 1, &[]);
+        assert_eq!(rt; source.read(&mut [0u8; 1]), Ok(1));
+        let mut reader = CsvReader::with_options(alloc, source, one_column(alloc)?);
+        assert!(rt; finish(&mut reader)? == one(alloc)?);
+        assert_eq!(rt; finish(&mut reader)?.height(), 0);
+        Ok(())
+    }
+
+    #[test]
+    fn memory_is_read_again(rt: HostRuntime) -> Result<(), Fail> {
+        let alloc = rt.alloc();
+        let source = MemSource::new(b"a\n1\n");
+        let mut reader = CsvReader::with_options(alloc, source, one_column(alloc)?);
+        assert!(rt; finish(&mut reader)? == one(alloc)?);
+        assert!(rt; finish(&mut reader)? == one(alloc)?);
+        Ok(())
     }
 }

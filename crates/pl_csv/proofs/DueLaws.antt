@@ -4,14 +4,18 @@ use Rattle.std.specs.Prelude.{◌≢◌, Option, None, Some, IfSome, IsSome, nat
 use Rattle.std.specs.List.{list_all}
 use Rattle.std.proofs.lemmas.Bool.Decides.{nat_tests}
 use Rattle.pl_frame.specs.Dialect.{Marks, IsMark, IsCommentPrefix, IsDialect}
-use Rattle.pl_csv.specs.declared.reading.Cause.{Cause}
-use Rattle.pl_csv.specs.declared.reading.Cause.TheVariants as cause
-use Rattle.pl_words.specs.declared.settings.Settings.{Settings}
-use Rattle.pl_csv.specs.Settings.{marks_of, comment_of}
-use Rattle.pl_csv.specs.Reading.{Tells, early_causes, late_causes, read_causes, all_causes, quote_cause, first_some, when, frame_of, IsCause, IsValidRead}
-use Rattle.pl_csv.specs.Run.{IsDue, HasOneDue, status_of_cause}
-use Rattle.pl_words.specs.Words.{settings_of_words}
-use Rattle.pl_csv.proofs.RunLaws.{none_some, same_some, due-words, due-long, due-read, due-invalid}
+use Rattle.pl_frame.specs.declared.error.ComputeFault.TheVariants as compute_fault
+use Rattle.pl_frame.specs.declared.error.PolarsError.{PolarsError}
+use Rattle.pl_frame.specs.declared.error.PolarsError.TheVariants as error
+use Rattle.pl_read.specs.Options.{marks_of, comment_of, settled_schema}
+use Rattle.pl_read.specs.Reading.{Tells, frame_of}
+use Rattle.pl_read.specs.Refusals.{when, first_some, early_causes, late_causes}
+use Rattle.pl_words.specs.declared.conversion.Conversion.{Conversion}
+use Rattle.pl_words.specs.Words.{conversion_of_words}
+use Rattle.pl_csv.specs.Run.{HasOneDue}
+use Rattle.pl_csv.specs.Telling.{status_of_fault}
+use Rattle.pl_csv.specs.Transcoding.{all_causes, quote_cause}
+use Rattle.pl_csv.proofs.RunLaws.{none_some, due-words, due-long, due-read, due-invalid, Valid, Cause}
 
 -- ---- whether marks are a dialect can be told
 
@@ -82,50 +86,53 @@ none_there (None ∷ early) q late e = none_there early q late e
 none_there (Some x ∷ early) q late e = absurd (none_some (Some x) x e refl)
 
 -- the quote is ASCII where it is no cause
-ascii : (quote : ℕ) → when (not (nat_lt quote 128)) cause.Quote ≡ None → quote < 128
+ascii : (quote : ℕ) → when (not (nat_lt quote 128)) (error.ComputeError compute_fault.Quote) ≡ None → quote < 128
 ascii quote none = by (nat_lt quote 128) refl
   where
     by : (t : Bool) → nat_lt quote 128 ≡ t → quote < 128
     by true e = grind (arith, nat_tests, e)
-    by false e = absurd (none_some (when (not (nat_lt quote 128)) cause.Quote) cause.Quote none (ap (λ t. when (not t) cause.Quote) e))
+    by false e = absurd (none_some (when (not (nat_lt quote 128)) (error.ComputeError compute_fault.Quote)) (error.ComputeError compute_fault.Quote) none (ap (λ t. when (not t) (error.ComputeError compute_fault.Quote)) e))
 
 -- ---- what is due
 
-due-settings : (words : List (List ℕ)) (input : List ℕ) (s : Settings) → settings_of_words words ≡ Some s → length input ≤ 2 ^ 36 → HasOneDue words input
-due-settings words input s meaning within = by_dialect (dialect (marks_of s) (comment_of s))
+due-conversion : (words : List (List ℕ)) (input : List ℕ) (c : Conversion) → conversion_of_words words ≡ Some c → length input ≤ 2 ^ 36 → HasOneDue words input
+due-conversion words input c meaning within = by_dialect (dialect (marks_of c.read.parse_options) (comment_of c.read.parse_options))
   where
-    by_first : (d : Bool) → Tells d (IsDialect (marks_of s) (comment_of s)) → (first : Option Cause) → first_some (all_causes s input d) ≡ first → HasOneDue words input
+    by_first : (d : Bool) → Tells d (IsDialect (marks_of c.read.parse_options) (comment_of c.read.parse_options)) → (first : Option PolarsError)
+        → first_some (all_causes c.read (settled_schema c.read) input c.write d) ≡ first → HasOneDue words input
     by_first d tells None none =
-        let quiet = none_there (early_causes d s) (quote_cause s) (late_causes s input) none in
-        let read : IsValidRead s input (frame_of s input) = (ascii s.write.serialize_options.quote_char quiet.0, (record { is_dialect = d; tells = tells; is = sym quiet.1 }, refl)) in (
+        let schema = settled_schema c.read in
+        let frame = frame_of c.read schema input in
+        let quiet = none_there (early_causes c.read d) (quote_cause c.write) (late_causes c.read schema input) none in
+        let read : Valid c input frame = (ascii c.write.serialize_options.quote_char quiet.0, (record { is_dialect = d; tells = tells; is = sym quiet.1 }, refl)) in (
           0,
-          inr (inr (inl (record { settings = s; meaning = meaning; within = within; frame = frame_of s input; read = read }, refl))),
-          λ other due. due-read words input other (record { settings = s; meaning = meaning; within = within }) (frame_of s input) read due,
+          inr (inr (inl (record { conversion = c; meaning = meaning; within = within; frame = frame; read = read }, refl))),
+          λ other due. due-read words input other c (record { meaning = meaning; within = within }) frame read due,
         )
     by_first d tells (Some first) some =
-        let is : IsCause s input first = record { is_dialect = d; tells = tells; is = sym some } in (
-          status_of_cause first,
-          inr (inr (inr (first, record { settings = s; meaning = meaning; within = within; is = is }, refl))),
-          λ other due. due-invalid words input other (record { settings = s; meaning = meaning; within = within }) first is due,
+        let is : Cause c input first = record { is_dialect = d; tells = tells; is = sym some } in (
+          status_of_fault first,
+          inr (inr (inr (first, record { conversion = c; meaning = meaning; within = within; is = is }, refl))),
+          λ other due. due-invalid words input other c (record { meaning = meaning; within = within }) first is due,
         )
 
-    by_dialect : Decided (IsDialect (marks_of s) (comment_of s)) → HasOneDue words input
-    by_dialect (d, tells) = by_first d tells (first_some (all_causes s input d)) refl
+    by_dialect : Decided (IsDialect (marks_of c.read.parse_options) (comment_of c.read.parse_options)) → HasOneDue words input
+    by_dialect (d, tells) = by_first d tells (first_some (all_causes c.read (settled_schema c.read) input c.write d)) refl
 
 some_is : {X : Type 0} (o : Option X) (x : X) → o ≡ Some x → IsSome o
 some_is {X = X} o x e = subst (λ (p : Option X). IsSome p) (sym e) refl
 
 -- words and an input have one status that is due
 pub one_due : (words : List (List ℕ)) (input : List ℕ) → HasOneDue words input
-one_due words input = by_words (settings_of_words words) refl
+one_due words input = by_words (conversion_of_words words) refl
   where
-    by_length : (s : Settings) → settings_of_words words ≡ Some s → (t : Bool) → nat_lt (2 ^ 36) (length input) ≡ t → HasOneDue words input
+    by_length : (s : Conversion) → conversion_of_words words ≡ Some s → (t : Bool) → nat_lt (2 ^ 36) (length input) ≡ t → HasOneDue words input
     by_length s meaning true e =
         let long : 2 ^ 36 < length input = grind (arith, nat_tests, e) in
-        let some = some_is (settings_of_words words) s meaning in
+        let some = some_is (conversion_of_words words) s meaning in
         (6, inr (inl (some, long, refl)), λ other due. due-long words input other some long due)
-    by_length s meaning false e = due-settings words input s meaning (grind (arith, nat_tests, e))
+    by_length s meaning false e = due-conversion words input s meaning (grind (arith, nat_tests, e))
 
-    by_words : (o : Option Settings) → settings_of_words words ≡ o → HasOneDue words input
+    by_words : (o : Option Conversion) → conversion_of_words words ≡ o → HasOneDue words input
     by_words None none = (2, inl (none, refl), λ other due. due-words words input other none due)
     by_words (Some s) meaning = by_length s meaning (nat_lt (2 ^ 36) (length input)) refl

@@ -1,6 +1,6 @@
 pub mod CountingLaws
 pub mod DueLaws
-pub mod PlaceLaws
-pub mod CauseLaws
+pub mod FaultLaws
 pub mod RunLaws
 pub mod TellLaws
+pub mod TranscodeLaws

@@ -6,7 +6,8 @@ use Rattle.pl_frame.specs.Causes.{Rose}
 use Rattle.pl_frame.proofs.Known.{Appends-more}
 use Rattle.pl_write.specs.Writing.{AppendsPrefix}
 use Rattle.pl_write.proofs.WriteLaws.{AppendsPrefix-from}
-use Rattle.pl_csv.specs.Run.{SinkView, IsTelling, IsTold}
+use Rattle.pl_csv.specs.Telling.{IsTelling, IsTold}
+use Rattle.pl_csv.specs.Views.{SinkView}
 
 -- a count that rose later has risen since earlier
 Rose-earlier : (f g h : ℕ) → f ≤ g → Rose g h → Rose f h

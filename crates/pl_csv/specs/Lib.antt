@@ -1,4 +1,5 @@
-pub mod Reading
-pub mod Settings
+pub mod Views
+pub mod Transcoding
+pub mod Telling
 pub mod Run
 pub mod Counting

@@ -5,10 +5,9 @@ pub mod adapters;
 pub mod counting;
 pub mod laws;
 pub mod read_all;
-mod readable;
-mod reading;
 pub mod run;
 #[cfg(test)]
 mod run_devices;
 mod telling;
+pub mod transcode;
 pub mod words;

@@ -1,17 +1,18 @@
 //! The top call: CSV from a source to a sink, by the words of a command line.
-ghost use Rattle.std.specs.Prelude.{◌≡◌, ◌≢◌, ◌≤◌, ◌⊎◌, ℕ, List, map, string_bytes, IfOk, IfErr, OnOk, None, Some};
-ghost use Rattle.pl_words.specs.Words.{settings_of_words};
-ghost use Rattle.pl_csv.specs.Run.{status_of, status_of_cause, IsDue, EndsAsDue, HasFrame, IsReadRefused, Converted, IsRefused, IsRefusedWith, source_view, sink_view, views};
+ghost use Rattle.std.specs.Prelude.{◌≡◌, ◌≢◌, ◌≤◌, ◌⊎◌, ℕ, List, map, string_bytes, IfOk, IfErr, OnOk, IsSome, None, Some};
+ghost use Rattle.pl_words.specs.Words.{conversion_of_words};
+ghost use Rattle.pl_csv.specs.Run.{HasRead, IsNotRead, Converted, IsRefused, IsRefusedWith, IsDue, EndsAsDue};
+ghost use Rattle.pl_csv.specs.Telling.{status_of, status_of_fault};
+ghost use Rattle.pl_csv.specs.Views.{source_view, sink_view, views};
 
 use crate::read_all::{LIMIT, ReadAllFault, read_all};
-use crate::reading::{Cause, ReadFault, read_frame};
 use crate::telling::tell_refusal;
-use pl_frame::frame::DataFrame;
-use pl_frame::sink::{Sink, SinkFault};
+use crate::transcode::transcode;
+use pl_frame::error::{ComputeFault, NamePlace, NoDataFault, OpFault, PolarsError};
+use pl_frame::sink::Sink;
 use pl_frame::source::Source;
+use pl_words::conversion::Conversion;
 use pl_words::words::{WordsFault, parse_words};
-use pl_write::options::CsvWriterOptions;
-use pl_write::writer::write_frame;
 use std::alloc::Global;
 
 /// Why a run ends with a status other than 0.
@@ -21,30 +22,35 @@ pub enum Refusal {
     Words,
     /// The source failed.
     Source,
-    /// The sink failed.
-    Sink,
-    OutOfMemory,
     /// The source gave more than the largest input.
     TooLong,
-    /// The input means no frame that can be written.
-    Input(Cause),
+    /// The input was not transcoded: for a cause against its frame, for a fault of the sink (`IO`), or for want of memory,
+    /// which may come before the input was read as well.
+    Polars(PolarsError),
 }
 
-impl Cause {
-    /// The status with which a run then ends.
-    pub fn status(&self) -> u8
-        ensures { result ≡ status_of_cause self.now }
-    {
-        match self {
-            Cause::Dialect => 11,
-            Cause::Option => 12,
-            Cause::Quote => 13,
-            Cause::Compressed => 14,
-            Cause::Dtype(_) => 18,
-            Cause::NotFound(_) => 19,
-            Cause::Skip => 20,
-            Cause::Record { .. } => 24,
-        }
+// The status of a fault for which an input was not transcoded.
+fn status_of_fault(fault: &PolarsError) -> u8
+    ensures { result ≡ status_of_fault fault.now }
+{
+    match fault {
+        PolarsError::IO => 4,
+        PolarsError::OutOfMemory => 5,
+        PolarsError::InvalidOperation(OpFault::Dialect) => 11,
+        PolarsError::InvalidOperation(OpFault::Option) => 12,
+        PolarsError::ComputeError(ComputeFault::Quote) => 13,
+        PolarsError::ComputeError(ComputeFault::Compressed) => 14,
+        PolarsError::NoData(NoDataFault::Empty) => 15,
+        PolarsError::Duplicate { at: NamePlace::Schema, .. } => 16,
+        PolarsError::InvalidOperation(OpFault::Overrides { .. }) => 17,
+        PolarsError::ComputeError(ComputeFault::Dtype { .. }) => 18,
+        PolarsError::ColumnNotFound(_) => 19,
+        PolarsError::NoData(NoDataFault::Skip) => 20,
+        PolarsError::OutOfBounds { .. } => 21,
+        PolarsError::Duplicate { at: NamePlace::Projection, .. } => 22,
+        PolarsError::EmptyProjection => 23,
+        PolarsError::ComputeError(ComputeFault::Record { .. }) => 24,
+        PolarsError::ComputeError(ComputeFault::Index { .. }) => 25,
     }
 }
 
@@ -56,39 +62,33 @@ impl Refusal {
         match self {
             Refusal::Words => 2,
             Refusal::Source => 3,
-            Refusal::Sink => 4,
-            Refusal::OutOfMemory => 5,
             Refusal::TooLong => 6,
-            Refusal::Input(cause) => cause.status(),
+            Refusal::Polars(fault) => status_of_fault(fault),
         }
     }
 }
 
-// The frame that the source's input means under the schema of the words, and how it is to be written.
-fn frame_of_source<So: Source>(
+// What the words mean, and the input that the source gives.
+fn read_input<So: Source>(
     alloc: Global,
     words: &[String],
     source: &mut So,
-) -> Result<(DataFrame, CsvWriterOptions), Refusal>
-    ensures frame { IfOk result (λ read. HasFrame (map string_bytes words.now) (So.left source.old) (So.left source.new) read.0 read.1) }
-    ensures refused { IfErr result (IsReadRefused (map string_bytes words.now) (source_view (So.left source.old) (So.faults source.old)) (source_view (So.left source.new) (So.faults source.new))) }
+) -> Result<(Conversion, Vec<u8>), Refusal>
+    ensures read { IfOk result (λ read. HasRead (map string_bytes words.now) (So.left source.old) (So.left source.new) read.0 read.1.items) }
+    ensures given { IfOk result (λ read. IsSome read.0.read.schema) }
+    ensures refused { IfErr result (IsNotRead (map string_bytes words.now) (source_view (So.left source.old) (So.faults source.old)) (source_view (So.left source.new) (So.faults source.new))) }
     ensures later { So.faults source.old ≤ So.faults source.new }
 {
-    let settings = match parse_words(alloc, words) {
-        Ok(settings) => settings,
+    let conversion = match parse_words(alloc, words) {
+        Ok(conversion) => conversion,
         Err(WordsFault::Words) => return Err(Refusal::Words),
-        Err(WordsFault::OutOfMemory) => return Err(Refusal::OutOfMemory),
+        Err(WordsFault::OutOfMemory) => return Err(Refusal::Polars(PolarsError::OutOfMemory)),
     };
-    let input = match read_all(alloc, source, LIMIT) {
-        Ok(input) => input,
-        Err(ReadAllFault::Source) => return Err(Refusal::Source),
-        Err(ReadAllFault::TooLong) => return Err(Refusal::TooLong),
-        Err(ReadAllFault::OutOfMemory) => return Err(Refusal::OutOfMemory),
-    };
-    match read_frame(alloc, &input, &settings) {
-        Ok(frame) => Ok((frame, settings.write)),
-        Err(ReadFault::Refused(cause)) => Err(Refusal::Input(cause)),
-        Err(ReadFault::OutOfMemory) => Err(Refusal::OutOfMemory),
+    match read_all(alloc, source, LIMIT) {
+        Ok(input) => Ok((conversion, input)),
+        Err(ReadAllFault::Source) => Err(Refusal::Source),
+        Err(ReadAllFault::TooLong) => Err(Refusal::TooLong),
+        Err(ReadAllFault::OutOfMemory) => Err(Refusal::Polars(PolarsError::OutOfMemory)),
     }
 }
 
@@ -106,14 +106,10 @@ fn convert<So: Source, Si: Sink>(
     ensures source_later { So.faults source.old ≤ So.faults source.new }
     ensures sink_later { Si.faults out.old ≤ Si.faults out.new }
 {
-    let (frame, options) = match frame_of_source(alloc, words, source) {
-        Ok(read) => read,
-        Err(refusal) => return Err(refusal),
-    };
-    match write_frame(alloc, frame.columns(), &options, out) {
-        Ok(()) => Ok(()),
-        Err(SinkFault::Device) => Err(Refusal::Sink),
-        Err(SinkFault::OutOfMemory) => Err(Refusal::OutOfMemory),
+    let (conversion, input) = read_input(alloc, words, source)?;
+    match transcode(alloc, &input, &conversion.read, &conversion.write, out) {
+        Ok(_) => Ok(()),
+        Err(fault) => Err(Refusal::Polars(fault)),
     }
 }
 
@@ -123,10 +119,9 @@ fn convert<So: Source, Si: Sink>(
 ///
 /// docs/command-line.md has the words. Another status has its cause: 2 words without a meaning; 3 a fault
 /// of the source; 4 one of `out`, which then received a prefix of the text; 5 want of memory, with a prefix of the text
-/// or nothing received; 6 an input of more than 2^36 bytes; 11 marks that are no dialect; 12 lines and rows that are both
-/// to be skipped; 13 a quote for the output that is not ASCII; 14 a compressed input; 18 a type that can't be read; 19 a name
-/// of null values that is no column's; 20 fewer items than are to be skipped; 24 a record with a fault. At 2, 3, 6 and from
-/// 11 on `out` received nothing. `err` receives the fault line of the status; a fault of `err` cuts it short, and changes neither status nor `out`.
+/// or nothing received; 6 an input of more than 2^36 bytes; and from 11 on the first cause against the frame that the input
+/// means, by the table of docs/command-line.md ("Statuses"). At 2, 3, 6 and from 11 on `out` received nothing. `err` receives
+/// the fault line of the status; a fault of `err` cuts it short, and changes neither status nor `out`.
 pub fn run<So: Source, Si: Sink, Se: Sink>(
     alloc: Global,
     words: &[String],
@@ -147,7 +142,7 @@ pub fn run<So: Source, Si: Sink, Se: Sink>(
         result }
 
     // The status that is due to the words and the input comes, up to want of memory and a count that rose.
-    ensures no_meaning { settings_of_words (map string_bytes words.now) ≡ None → (result ≡ 2) ⊎ (result ≡ 5) }
+    ensures no_meaning { conversion_of_words (map string_bytes words.now) ≡ None → (result ≡ 2) ⊎ (result ≡ 5) }
     ensures due { (input : List ℕ) (status : ℕ) → So.left source.old ≡ Some input → IsDue (map string_bytes words.now) input status → EndsAsDue status result
         (views (So.left source.old) (So.faults source.old) (Si.received out.old) (Si.faults out.old) (Si.wants out.old))
         (views (So.left source.new) (So.faults source.new) (Si.received out.new) (Si.faults out.new) (Si.wants out.new)) }

@@ -1,10 +1,10 @@
 //! The fault line, told to the sink of errors piece by piece, without taking memory.
 ghost use Rattle.std.specs.Prelude.{◌≡◌, ◌++◌, codes, decimal};
-ghost use Rattle.pl_csv.specs.Run.{kind_name, cause_name, place_text, cause_detail, refusal_name, refusal_detail, fault_line, sink_view, IsTold, IsTelling};
+ghost use Rattle.pl_csv.specs.Telling.{kind_name, fault_name, numbers_text, place_text, fault_detail, refusal_name, refusal_detail, fault_line, IsTold, IsTelling};
+ghost use Rattle.pl_csv.specs.Views.{sink_view};
 
-use crate::reading::Cause;
 use crate::run::Refusal;
-use pl_frame::error::FaultKind;
+use pl_frame::error::{ComputeFault, FaultKind, NamePlace, NoDataFault, OpFault, PolarsError};
 use pl_frame::sink::{Sink, write_all};
 
 // Tells a sink a text, and answers whether it took all of it. A fault of the sink cuts the text short, and is not passed on.
@@ -74,35 +74,64 @@ fn tell_place<Se: Sink>(sink: &mut Se, row: usize, column: usize, kind: FaultKin
     tell_column(sink, column, kind)
 }
 
-// Tells a sink the detail of a cause, if it has one.
-fn tell_detail<Se: Sink>(sink: &mut Se, cause: &Cause) -> bool
-    ensures { IsTelling result (cause_detail cause.now) (sink_view (Se.received sink.old) (Se.faults sink.old) (Se.wants sink.old)) (sink_view (Se.received sink.new) (Se.faults sink.new) (Se.wants sink.new)) }
+// Tells a sink two numbers, a blank before each.
+fn tell_numbers<Se: Sink>(sink: &mut Se, number: usize, other: usize) -> bool
+    ensures { IsTelling result (numbers_text number other) (sink_view (Se.received sink.old) (Se.faults sink.old) (Se.wants sink.old)) (sink_view (Se.received sink.new) (Se.faults sink.new) (Se.wants sink.new)) }
 {
-    match cause {
-        Cause::Dtype(column) => tell_counted(sink, " column ", *column),
-        Cause::NotFound(name) => tell_both(sink, " ", name.as_str()),
-        Cause::Record { row, column, kind } => tell_place(sink, *row, *column, *kind),
-        Cause::Dialect => true,
-        Cause::Option => true,
-        Cause::Quote => true,
-        Cause::Compressed => true,
-        Cause::Skip => true,
+    if !tell_counted(sink, " ", number) {
+        return false;
+    }
+    tell_counted(sink, " ", other)
+}
+
+// Tells a sink the detail of a fault, if it has one.
+fn tell_detail<Se: Sink>(sink: &mut Se, fault: &PolarsError) -> bool
+    ensures { IsTelling result (fault_detail fault.now) (sink_view (Se.received sink.old) (Se.faults sink.old) (Se.wants sink.old)) (sink_view (Se.received sink.new) (Se.faults sink.new) (Se.wants sink.new)) }
+{
+    match fault {
+        PolarsError::Duplicate { name, .. } => tell_both(sink, " ", name.as_str()),
+        PolarsError::InvalidOperation(OpFault::Overrides { given, columns }) => {
+            tell_numbers(sink, *given, *columns)
+        }
+        PolarsError::ComputeError(ComputeFault::Dtype { column }) => {
+            tell_counted(sink, " column ", *column)
+        }
+        PolarsError::ColumnNotFound(name) => tell_both(sink, " ", name.as_str()),
+        PolarsError::OutOfBounds { index, length } => tell_numbers(sink, *index, *length),
+        PolarsError::ComputeError(ComputeFault::Record { row, column, kind }) => {
+            tell_place(sink, *row, *column, *kind)
+        }
+        PolarsError::InvalidOperation(_) => true,
+        PolarsError::ComputeError(_) => true,
+        PolarsError::NoData(_) => true,
+        PolarsError::EmptyProjection => true,
+        PolarsError::IO => true,
+        PolarsError::OutOfMemory => true,
     }
 }
 
-// What a cause is called.
-fn cause_name(cause: &Cause) -> &'static str
-    ensures { result.now ≡ cause_name cause.now }
+// What a fault is called.
+fn fault_name(fault: &PolarsError) -> &'static str
+    ensures { result.now ≡ fault_name fault.now }
 {
-    match cause {
-        Cause::Dialect => "refusal 1 dialect",
-        Cause::Option => "refusal 2 option",
-        Cause::Quote => "refusal 3 quote",
-        Cause::Compressed => "refusal 4 compressed",
-        Cause::Dtype(_) => "refusal 8 dtype",
-        Cause::NotFound(_) => "refusal 9 not found",
-        Cause::Skip => "refusal 10 skip",
-        Cause::Record { .. } => "refusal 14 record",
+    match fault {
+        PolarsError::IO => "sink",
+        PolarsError::OutOfMemory => "memory",
+        PolarsError::InvalidOperation(OpFault::Dialect) => "refusal 1 dialect",
+        PolarsError::InvalidOperation(OpFault::Option) => "refusal 2 option",
+        PolarsError::ComputeError(ComputeFault::Quote) => "refusal 3 quote",
+        PolarsError::ComputeError(ComputeFault::Compressed) => "refusal 4 compressed",
+        PolarsError::NoData(NoDataFault::Empty) => "refusal 5 empty",
+        PolarsError::Duplicate { at: NamePlace::Schema, .. } => "refusal 6 duplicate",
+        PolarsError::InvalidOperation(OpFault::Overrides { .. }) => "refusal 7 overrides",
+        PolarsError::ComputeError(ComputeFault::Dtype { .. }) => "refusal 8 dtype",
+        PolarsError::ColumnNotFound(_) => "refusal 9 not found",
+        PolarsError::NoData(NoDataFault::Skip) => "refusal 10 skip",
+        PolarsError::OutOfBounds { .. } => "refusal 11 bounds",
+        PolarsError::Duplicate { at: NamePlace::Projection, .. } => "refusal 12 duplicate",
+        PolarsError::EmptyProjection => "refusal 13 projection",
+        PolarsError::ComputeError(ComputeFault::Record { .. }) => "refusal 14 record",
+        PolarsError::ComputeError(ComputeFault::Index { .. }) => "refusal 15 index",
     }
 }
 
@@ -113,10 +142,8 @@ fn refusal_name(refusal: &Refusal) -> &'static str
     match refusal {
         Refusal::Words => "words",
         Refusal::Source => "source",
-        Refusal::Sink => "sink",
-        Refusal::OutOfMemory => "memory",
         Refusal::TooLong => "too long",
-        Refusal::Input(cause) => cause_name(cause),
+        Refusal::Polars(fault) => fault_name(fault),
     }
 }
 
@@ -125,11 +152,9 @@ fn tell_refusal_detail<Se: Sink>(sink: &mut Se, refusal: &Refusal) -> bool
     ensures { IsTelling result (refusal_detail refusal.now) (sink_view (Se.received sink.old) (Se.faults sink.old) (Se.wants sink.old)) (sink_view (Se.received sink.new) (Se.faults sink.new) (Se.wants sink.new)) }
 {
     match refusal {
-        Refusal::Input(cause) => tell_detail(sink, cause),
+        Refusal::Polars(fault) => tell_detail(sink, fault),
         Refusal::Words => true,
         Refusal::Source => true,
-        Refusal::Sink => true,
-        Refusal::OutOfMemory => true,
         Refusal::TooLong => true,
     }
 }

@@ -1,7 +1,7 @@
 -- Laws of parts of frames, and of frames that are put together.
-use Rattle.std.proofs.Common.{◌≡◌, ◌≢◌, ℕ, pos, zero, suc, ◌+◌, ◌-◌, ◌<◌, ◌≤◌, Bool, true, false, ◌&&◌, min, nat_lt, List, [], ◌∷◌, ◌++◌, length, take, drop, map, get_or, slice_get, option_to_list, Option, None, Some, AllPairs, refl, sym, ◌∙◌, ap, subst, arith, append_assoc, true≢false}
+use Rattle.std.proofs.Common.{◌≡◌, ◌≢◌, ℕ, pos, zero, suc, ◌+◌, ◌-◌, ◌<◌, ◌≤◌, Bool, true, false, ◌&&◌, min, nat_lt, List, [], ◌∷◌, ◌++◌, length, take, drop, map, get_or, slice_get, option_to_list, Option, Some, AllPairs, refl, sym, ◌∙◌, ap, subst, arith, append_assoc, true≢false}
 use Rattle.std.specs.Bool.{Decides}
-use Rattle.std.specs.List.{AllByRecursion, list_any, range_with_len}
+use Rattle.std.specs.List.{AllByRecursion}
 use Rattle.std.specs.Str.{bytes_eq}
 use Rattle.std.specs.Cmp.Lexicographic.{pointwise, pointwise_decides, bytes_decides}
 use borrow.Author.Tests.{ltb-true, ltb-false}
@@ -10,13 +10,12 @@ use Rattle.std.proofs.lemmas.List.Folds.{list_any_at}
 use Rattle.std.proofs.lemmas.List.FromFn.{length-map-range_with_len}
 use Rattle.std.proofs.lemmas.List.Kept.{AllPairs-cons}
 use Rattle.std.proofs.lemmas.Option.{slice_get-get_or}
-use Rattle.pl_frame.specs.declared.data_type.DataType.{DataType}
 use Rattle.pl_frame.specs.declared.data_type.DataType.TheVariants as dtype
 use Rattle.pl_frame.specs.Equal.{types_equal, entries_equal}
 use Rattle.pl_frame.specs.EqualLaws.{types_decide}
 use Rattle.pl_frame.specs.Frame.{Scalar, Number, ColumnValue, IsFrame, HaveHeight, height_of, names_of}
 use Rattle.pl_frame.specs.FrameParts.{with_values, sliced, kept_of, filtered, schema_of, HaveSameColumns, stacked, empty_columns, columns_at, AreDistinctPlaces, AreWithin, has_name}
-use Rattle.pl_frame.specs.RowIndex.{row_numbers, row_index_column}
+use Rattle.pl_frame.specs.RowIndex.{row_index_column}
 use Rattle.pl_frame.specs.Schema.{Entry, names_in, HaveDistinctNames}
 use Rattle.pl_frame.proofs.AlikeLaws.{pointwise-map, pointwise-all, pointwise-differ}
 

@@ -1,5 +1,5 @@
 -- Laws of cells that are gathered for a column.
-use Rattle.std.proofs.Common.{◌≡◌, ℕ, ℤ, zero, suc, ◌+◌, ◌-◌, ◌<◌, ◌≤◌, Bool, true, false, not, ◌&&◌, if◌then◌else◌, List, [], ◌∷◌, ◌++◌, length, map, take, drop, replicate, get_or, nat_lt, slice_get, unwrap_or, Option, None, Some, is_some, position, refl, sym, ◌∙◌, ap, subst, arith, true≢false, append_assoc, append-nil}
+use Rattle.std.proofs.Common.{◌≡◌, ℕ, ℤ, zero, suc, ◌+◌, ◌-◌, ◌<◌, ◌≤◌, Bool, true, false, not, ◌&&◌, if◌then◌else◌, List, [], ◌∷◌, ◌++◌, length, map, take, drop, replicate, get_or, nat_lt, slice_get, unwrap_or, Option, None, Some, is_some, refl, sym, ◌∙◌, ap, subst, arith, true≢false, append_assoc}
 use Rattle.std.specs.Option.{option_map, option_map_or}
 use Rattle.std.specs.Str.{is_utf8}
 use borrow.Author.Tests.{ltb-true, ltb-false}
@@ -7,16 +7,14 @@ use Rattle.std.proofs.lemmas.List.{map_push, get_or_append_left, get_or_push, le
 use Rattle.std.proofs.lemmas.List.Folds.{list_any_at}
 use Rattle.pl_frame.specs.declared.data_type.DataType.{DataType}
 use Rattle.pl_frame.specs.declared.data_type.DataType.TheVariants as dtype
-use Rattle.pl_frame.specs.declared.gathered.Gathered.{Gathered}
-use Rattle.pl_frame.specs.declared.gathered.Gathered.TheVariants as gathered
 use Rattle.pl_frame.specs.Categories.{AreCodes, code_of, decoded, dictionary_of}
-use Rattle.pl_frame.specs.Columns.{number_cells, text_cells, text_in, is_boolean, is_number, is_enum, is_text_of, categories_of, dictionary, code_at, misfits, HoldsType}
+use Rattle.pl_frame.specs.Columns.{number_cells, text_cells, text_in, is_boolean, is_number, is_enum, categories_of, code_at, misfits, HoldsType}
 use Rattle.pl_frame.specs.Frame.{Scalar, Truth, Number, Letters, ColumnValue, cell_at}
 use Rattle.pl_frame.specs.FrameParts.{kept_of}
 use Rattle.pl_frame.specs.GatheredCells.{truth_in, whole_in, is_narrow_type}
 use Rattle.pl_frame.specs.Types.{Range, range_of, is_within, is_outside, is_narrow, signed_range}
 use Rattle.pl_frame.proofs.AlikeLaws.{cell_is}
-use Rattle.pl_frame.proofs.CastLaws.{NumbersOnly, numbers_only, utf8_of, place_cast, place_coded, cell_kept}
+use Rattle.pl_frame.proofs.CastLaws.{numbers_only, place_cast, cell_kept}
 use Rattle.pl_frame.proofs.CategoryLaws.{codes-push, decoded-push, text_for}
 use Rattle.pl_frame.proofs.CellLaws.{narrow_one}
 use Rattle.pl_frame.proofs.ColumnLaws.{position-nowhere, true_from_not}

@@ -1,5 +1,5 @@
 -- What equality takes for equal is the same.
-use Rattle.std.proofs.Common.{◌≡◌, Bool, true, false, List, Option, None, Some, refl, sym, ap, true≢false, subst}
+use Rattle.std.proofs.Common.{◌≡◌, Bool, true, List, Option, None, Some, refl, sym, ap, true≢false, subst}
 use Rattle.std.specs.Bool.{Decides}
 use Rattle.std.specs.Cmp.{IsEquivalence, first_so, second_so}
 use Rattle.std.specs.Option.{option_eq}

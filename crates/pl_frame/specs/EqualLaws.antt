@@ -1,5 +1,5 @@
 -- The laws of equality, which the traits ask for.
-use Rattle.std.proofs.Common.{◌&&◌, Option, None, Some, refl, subst, ◌≡◌, ℕ, ℤ, pos, Bool, true, false, List, [], sym, ap, true≢false}
+use Rattle.std.proofs.Common.{◌&&◌, None, Some, refl, subst, ◌≡◌, ℕ, ℤ, pos, Bool, true, false, List, [], sym, ap, true≢false}
 use Rattle.std.specs.Bool.{Decides}
 use Rattle.std.specs.Cmp.{IsEquivalence, and_equiv, on_equiv, decided, signed_Decides, booleans_Decides}
 use Rattle.std.specs.Cmp.Lexicographic.{nat_list_eq_equiv, lists_equiv, options_equiv, pointwise_decides, bytes_decides}

@@ -6,3 +6,5 @@ pub mod IndexingLaws
 pub mod SliceLaws
 pub mod DataLaws
 pub mod ReaderLaws
+pub mod LimitLaws
+pub mod SelectionLaws

@@ -9,3 +9,4 @@ pub mod NamedColumns
 pub mod Slices
 pub mod CsvReader
 pub mod ReaderMakers
+pub mod Laws

@@ -1,4 +1,4 @@
--- The reference read: the frame that an input means (docs/grammar.md, docs/types.md).
+-- The reference read: the frame that an input means (docs/grammar.md, docs/types.md, docs/options.md).
 use Rattle.std.specs.Prelude.{◌≡◌, ◌⊎◌, ℕ, Bool, true, false, List, [], Option, None, Some, unwrap_or}
 use Rattle.pl_frame.specs.Dialect.{IsDialect}
 use Rattle.pl_frame.specs.Frame.{ColumnValue}

@@ -34,10 +34,7 @@ fn past(offset: u64, rows: u64) -> Option<PolarsError>
     ensures { result ≡ when (nat_lt (2 ^ 32) (offset + rows)) (error.ComputeError (compute_fault.Index offset rows)) }
 {
     if rows > NUMBERS - offset {
-        return Some(PolarsError::ComputeError(ComputeFault::Index {
-            offset,
-            rows,
-        }));
+        return Some(PolarsError::ComputeError(ComputeFault::Index { offset, rows }));
     }
     None
 }

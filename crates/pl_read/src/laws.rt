@@ -1,7 +1,18 @@
 //! What holds of every input, as contracts of functions that do nothing.
 ghost use Rattle.pl_read.specs.Slices.{PartsAreTheSlice};
+ghost use Rattle.pl_read.specs.Laws.{LimitTakesFirstRows, ProjectionSelects};
 
 /// However the rows are divided into files: the parts that `split_slice_at_file` tells, joined, are the slice of all rows.
 pub fn parts_are_the_slice<T>()
     ensures { PartsAreTheSlice T }
+{}
+
+/// Where the unlimited read succeeds, the limited one is its first rows.
+pub fn limit_takes_first_rows()
+    ensures { LimitTakesFirstRows }
+{}
+
+/// Where the read of all columns succeeds, one of some of them gives these columns.
+pub fn projection_selects()
+    ensures { ProjectionSelects }
 {}

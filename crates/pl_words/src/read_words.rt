@@ -1,5 +1,5 @@
 //! How an input is read, as words give it.
-ghost use Rattle.std.specs.Prelude.{◌≡◌, None, Some, IfOk, IsErrOf};
+ghost use Rattle.std.specs.Prelude.{◌≡◌, None, Some, IsSome, IfOk, IsErrOf};
 ghost use Rattle.std.specs.Option.{option_and_then};
 ghost use Rattle.pl_words.specs.Defaults.{option_or};
 ghost use Rattle.pl_words.specs.OptionValues.{quote_of};
@@ -95,6 +95,7 @@ pub(crate) fn read_options_of(
     parts: &[Part<'_>],
 ) -> Result<CsvReadOptions, WordsFault>
     ensures options { IfOk result (λ options. read_options_of (part_texts parts.now) ≡ Some options) }
+    ensures given { IfOk result (λ options. IsSome options.schema) }
     ensures refused { IsErrOf result WordsFault.Words → read_options_of (part_texts parts.now) ≡ None }
 {
     let defaults = CsvReadOptions::new(alloc);

@@ -1,5 +1,5 @@
 //! The words of the command line.
-ghost use Rattle.std.specs.Prelude.{◌≡◌, None, Some, map, string_bytes, IfOk, IsErrOf};
+ghost use Rattle.std.specs.Prelude.{◌≡◌, None, Some, IsSome, map, string_bytes, IfOk, IsErrOf};
 ghost use Rattle.pl_words.specs.Parts.{part_texts};
 ghost use Rattle.pl_words.specs.Words.{conversion_of_parts, conversion_of_words};
 
@@ -20,6 +20,7 @@ pub enum WordsFault {
 // What parts mean. Refuses parts without a schema, values without a meaning, and want of memory.
 fn conversion_of_parts(alloc: Global, parts: &[Part<'_>]) -> Result<Conversion, WordsFault>
     ensures conversion { IfOk result (λ conversion. conversion_of_parts (part_texts parts.now) ≡ Some conversion) }
+    ensures given { IfOk result (λ conversion. IsSome conversion.read.schema) }
     ensures refused { IsErrOf result WordsFault.Words → conversion_of_parts (part_texts parts.now) ≡ None }
 {
     let read = read_options_of(alloc, parts)?;
@@ -28,9 +29,10 @@ fn conversion_of_parts(alloc: Global, parts: &[Part<'_>]) -> Result<Conversion, 
 }
 
 /// What the words mean: flags and options, each at most once, a schema among them (docs/command-line.md, "Words").
-/// Refuses `Words` only where they mean nothing, and want of memory.
+/// The conversion gives a schema. Refuses `Words` only where they mean nothing, and want of memory.
 pub fn parse_words(alloc: Global, words: &[String]) -> Result<Conversion, WordsFault>
     ensures conversion { IfOk result (λ conversion. conversion_of_words (map string_bytes words.now) ≡ Some conversion) }
+    ensures given { IfOk result (λ conversion. IsSome conversion.read.schema) }
     ensures refused { IsErrOf result WordsFault.Words → conversion_of_words (map string_bytes words.now) ≡ None }
 {
     let parts = cut_parts(alloc, words)?;

@@ -1,47 +1,16 @@
-use Rattle.std.proofs.Common.{List, refl, ap, subst, sym, inr}
-use Rattle.std.specs.Prelude.{Err}
-use Rattle.std.specs.Io.KnownBytes.{Appends}
-use Rattle.pl_frame.specs.Frame.{ColumnValue}
-use Rattle.pl_frame.specs.Text.{text_of_frame}
-use Rattle.pl_write.specs.Options.{frame_options}
-use Rattle.pl_write.specs.Writing.{AppendsPrefix}
-use Rattle.pl_write.specs.declared.options.CsvWriterOptions.{CsvWriterOptions}
+use Rattle.std.proofs.Common.{map, string_bytes, subst}
+use Rattle.pl_csv.specs.Transcoding.{IsTranscodeFault}
+use Rattle.pl_csv.specs.Views.{sink_view, views}
+use Rattle.pl_csv.proofs.RunLaws.{refused-fault}
 use Rattle.pl_csv.proofs.run.convert.Goals as goal
-
-pub returns-in-Ok-write_frame-clause-converted : goal.returns-in-Ok-write_frame-clause-converted
-returns-in-Ok-write_frame-clause-converted g c =
-    let frame = c.in-Ok.read.0 in
-    let has = c.in-Ok.ensures.frame in
-    let Writes : List ColumnValue → CsvWriterOptions → Type 0 = λ columns o. Appends (g.Si.Sink.received c.args.out.now) (g.Si.Sink.received c.write_frame.new.sink) (text_of_frame (frame_options o) columns) in
-    record {
-      read = has.read;
-      text = text_of_frame (frame_options has.read.settings.write) frame;
-      is = (frame, has.is, refl);
-      written = subst (λ columns. Writes columns has.read.settings.write) c.columns.ensures.columns (subst (Writes c.columns.result.now) (sym has.so) c.in-Ok-write_frame.ensures.text);
-    }
-
-pub returns-in-Err-Device-clause-refused : goal.returns-in-Err-Device-clause-refused
-returns-in-Err-Device-clause-refused g c =
-    let frame = c.in-Ok.read.0 in
-    let has = c.in-Ok.ensures.frame in
-    let Writes : List ColumnValue → CsvWriterOptions → Type 0 = λ columns o. AppendsPrefix (g.Si.Sink.received c.args.out.now) (g.Si.Sink.received c.write_frame.new.sink) (text_of_frame (frame_options o) columns) in (
-      c.in-Err-Device.ensures.device (ap Err c.in-Err-Device.field-0-is),
-      record {
-        read = has.read;
-        text = text_of_frame (frame_options has.read.settings.write) frame;
-        is = (frame, has.is, refl);
-        written = subst (λ columns. Writes columns has.read.settings.write) c.columns.ensures.columns (subst (Writes c.columns.result.now) (sym has.so) c.in-Err-Device.ensures.prefix);
-      },
-    )
 
 pub returns-clause-refused : goal.returns-clause-refused
 returns-clause-refused g c =
-    let frame = c.in-Ok.read.0 in
-    let has = c.in-Ok.ensures.frame in
-    let Writes : List ColumnValue → CsvWriterOptions → Type 0 = λ columns o. AppendsPrefix (g.Si.Sink.received c.args.out.now) (g.Si.Sink.received c.write_frame.new.sink) (text_of_frame (frame_options o) columns) in
-    inr (record {
-      read = has.read;
-      text = text_of_frame (frame_options has.read.settings.write) frame;
-      is = (frame, has.is, refl);
-      written = subst (λ columns. Writes columns has.read.settings.write) c.columns.ensures.columns (subst (Writes c.columns.result.now) (sym has.so) c.in-Err-OutOfMemory.ensures.prefix);
-    })
+    let words = map string_bytes c.args.words.now in
+    let conversion = c.in_ok-conversion.conversion in
+    let out = sink_view (g.Si.Sink.received c.args.out.now) (g.Si.Sink.faults c.args.out.now) (g.Si.Sink.wants c.args.out.now) in
+    let out_now = sink_view (g.Si.Sink.received c.transcode.new.sink) (g.Si.Sink.faults c.transcode.new.sink) (g.Si.Sink.wants c.transcode.new.sink) in
+    let before = views (g.So.Source.left c.args.source.now) (g.So.Source.faults c.args.source.now) (g.Si.Sink.received c.args.out.now) (g.Si.Sink.faults c.args.out.now) (g.Si.Sink.wants c.args.out.now) in
+    let now = views (g.So.Source.left c.read_input.new.source) (g.So.Source.faults c.read_input.new.source) (g.Si.Sink.received c.transcode.new.sink) (g.Si.Sink.faults c.transcode.new.sink) (g.Si.Sink.wants c.transcode.new.sink) in
+    refused-fault words before now conversion c.in_ok-conversion.input.items c.in-Err.fault c.in_ok-conversion.ensures.read
+    (subst (λ bytes. IsTranscodeFault conversion.read conversion.write bytes out out_now c.in-Err.fault) c.deref.ensures.value c.in-Err.ensures.refused)

@@ -1,5 +1,6 @@
 use Rattle.std.proofs.Common.{map, string_bytes, sym, subst}
-use Rattle.pl_csv.specs.Run.{views, EndsAsDue}
+use Rattle.pl_csv.specs.Run.{EndsAsDue}
+use Rattle.pl_csv.specs.Views.{views}
 use Rattle.pl_csv.proofs.RunLaws.{due-converted, due-refused, refusal-not_zero}
 use Rattle.pl_csv.proofs.run.run.Goals as goal
 

@@ -1,4 +1,4 @@
-use Rattle.pl_csv.specs.Run.{sink_view}
+use Rattle.pl_csv.specs.Views.{sink_view}
 use Rattle.pl_csv.proofs.TellLaws.{telling-cut, telling-then}
 use Rattle.pl_csv.proofs.telling.tell_both.Goals as goal
 

@@ -1,7 +1,8 @@
 use Rattle.std.specs.Prelude.{◌++◌, codes, decimal}
-use Rattle.pl_csv.specs.Run.{kind_name}
+use Rattle.pl_csv.specs.Telling.{kind_name}
 use Rattle.std.proofs.Common.{subst}
-use Rattle.pl_csv.specs.Run.{sink_view, IsTelling}
+use Rattle.pl_csv.specs.Telling.{IsTelling}
+use Rattle.pl_csv.specs.Views.{sink_view}
 use Rattle.pl_csv.proofs.TellLaws.{telling-cut, telling-then}
 use Rattle.pl_csv.proofs.telling.tell_column.Goals as goal
 

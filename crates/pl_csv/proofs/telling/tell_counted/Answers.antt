@@ -1,5 +1,5 @@
 use Rattle.std.specs.Prelude.{decimal}
-use Rattle.pl_csv.specs.Run.{sink_view}
+use Rattle.pl_csv.specs.Views.{sink_view}
 use Rattle.pl_csv.proofs.TellLaws.{telling-cut, telling-then}
 use Rattle.pl_csv.proofs.telling.tell_counted.Goals as goal
 

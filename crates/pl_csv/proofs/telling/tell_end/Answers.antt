@@ -1,6 +1,6 @@
 use Rattle.std.specs.Prelude.{codes}
-use Rattle.pl_csv.specs.Run.{refusal_detail}
-use Rattle.pl_csv.specs.Run.{sink_view}
+use Rattle.pl_csv.specs.Telling.{refusal_detail}
+use Rattle.pl_csv.specs.Views.{sink_view}
 use Rattle.pl_csv.proofs.TellLaws.{telling-cut, telling-then}
 use Rattle.pl_csv.proofs.telling.tell_end.Goals as goal
 

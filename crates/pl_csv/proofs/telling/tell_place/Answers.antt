@@ -1,6 +1,6 @@
 use Rattle.std.specs.Prelude.{◌++◌, codes, decimal}
-use Rattle.pl_csv.specs.Run.{kind_name}
-use Rattle.pl_csv.specs.Run.{sink_view}
+use Rattle.pl_csv.specs.Telling.{kind_name}
+use Rattle.pl_csv.specs.Views.{sink_view}
 use Rattle.pl_csv.proofs.TellLaws.{telling-cut, telling-then}
 use Rattle.pl_csv.proofs.telling.tell_place.Goals as goal
 

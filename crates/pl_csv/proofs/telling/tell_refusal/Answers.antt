@@ -1,6 +1,7 @@
 use Rattle.std.proofs.Common.{true, subst}
 use Rattle.std.specs.Prelude.{◌++◌, false, codes}
-use Rattle.pl_csv.specs.Run.{refusal_name, refusal_detail, sink_view, IsTelling}
+use Rattle.pl_csv.specs.Telling.{refusal_name, refusal_detail, IsTelling}
+use Rattle.pl_csv.specs.Views.{sink_view}
 use Rattle.pl_csv.proofs.TellLaws.{telling-cut, telling-then, telling-told}
 use Rattle.pl_csv.proofs.telling.tell_refusal.Goals as goal
 

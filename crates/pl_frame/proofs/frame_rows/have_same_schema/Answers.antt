@@ -1,4 +1,4 @@
-use Rattle.std.proofs.Common.{◌≡◌, ◌<◌, length, sym, ◌∙◌, arith}
+use Rattle.std.proofs.Common.{◌∙◌, arith}
 use Rattle.pl_frame.proofs.AlikeLaws.{each_more}
 use Rattle.pl_frame.proofs.FramePartLaws.{entries_all, entries_differ, entry_told}
 use Rattle.pl_frame.proofs.frame_rows.have_same_schema.Goals as goal

@@ -42,6 +42,7 @@ returns-in-Ok-clause-sound c =
     let single : doubled (asked o schema) (length schema) ≡ None =
     sym (doubled-is o schema c.args.places.now c.len-width.result c.deref.result.now c.requires c.len-width.ensures.len (c.deref.ensures.value ∙ c.in_ok-times.ensures.times)) ∙ sym c.find_doubled.ensures ∙ c.in_default-find_doubled.is in
     projection-sound o schema none single c.in-Ok.ensures.sound
+
 pub returns-clause-refused : goal.returns-clause-refused
 returns-clause-refused c =
     let o = c.args.options.now in
@@ -50,7 +51,6 @@ returns-clause-refused c =
     let single : doubled (asked o schema) (length schema) ≡ None =
     sym (doubled-is o schema c.args.places.now c.len-width.result c.deref.result.now c.requires c.len-width.ensures.len (c.deref.ensures.value ∙ c.in_ok-times.ensures.times)) ∙ sym c.find_doubled.ensures ∙ c.in_default-find_doubled.is in
     projection-taken o schema c.in-Err.fault none single c.in-Err.ensures.refused
-
 
 pub returns-in-Ok-clause-places : goal.returns-in-Ok-clause-places
 returns-in-Ok-clause-places c =

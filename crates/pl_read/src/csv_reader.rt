@@ -188,18 +188,27 @@ mod tests {
         assert_eq!(rt; reader.into_inner().bytes(), b"ab".as_slice());
     }
 
+    // What stands behind the first byte of a source that fails at these calls.
+    fn pipe(fails: &[usize]) -> PipeSource<'_> {
+        let mut source = PipeSource::new(b"xa\n1\n", 1, fails);
+        let _ = source.read(&mut [0u8; 1]);
+        source
+    }
+
     #[test]
-    fn a_source_is_read_from_where_it_stands(rt: HostRuntime) -> Result<(), Fail> {
+    fn a_pipe_is_read_from_where_it_stands(rt: HostRuntime) -> Result<(), Fail> {
         let alloc = rt.alloc();
-        let mut source = PipeSource::new(b"xa\n1\n", 1, &[3]);
-        assert_eq!(rt; source.read(&mut [0u8; 1]), Ok(1));
-        let mut reader = CsvReader::with_options(alloc, source, one_column(alloc)?);
-        assert!(rt; matches!(finish(&mut reader), Err(PolarsError::IO)));
-        let mut source = PipeSource::new(b"xa\n1\n", 1, &[]);
-        assert_eq!(rt; source.read(&mut [0u8; 1]), Ok(1));
-        let mut reader = CsvReader::with_options(alloc, source, one_column(alloc)?);
+        let mut reader = CsvReader::with_options(alloc, pipe(&[]), one_column(alloc)?);
         assert!(rt; finish(&mut reader)? == one(alloc)?);
         assert_eq!(rt; finish(&mut reader)?.height(), 0);
+        Ok(())
+    }
+
+    #[test]
+    fn a_pipe_that_fails_is_a_fault(rt: HostRuntime) -> Result<(), Fail> {
+        let alloc = rt.alloc();
+        let mut reader = CsvReader::with_options(alloc, pipe(&[3]), one_column(alloc)?);
+        assert!(rt; matches!(finish(&mut reader), Err(PolarsError::IO)));
         Ok(())
     }
 

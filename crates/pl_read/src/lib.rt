@@ -2,7 +2,7 @@
 #![tactic(auto)]
 
 pub mod bytes_reader;
-mod checks;
+pub mod checks;
 pub mod csv_reader;
 mod indexing;
 pub mod laws;

@@ -12,6 +12,7 @@ ghost use Rattle.pl_frame.specs.Outside.{RisesAtErr};
 use pl_frame::opener::Opener;
 use pl_frame::sink::{Sink, SinkFault};
 use pl_frame::source::{Failed, Source};
+use pl_read::bytes_reader::MmapBytesReader;
 use std::fs;
 use std::fs::Files;
 use std::io::{Read, Write};
@@ -62,6 +63,14 @@ impl<R: Read> Source for ReadSource<R> {
                 Err(Failed)
             }
         }
+    }
+}
+
+impl<R: Read> MmapBytesReader for ReadSource<R> {
+    ghost lent = { λ _. None };
+
+    fn to_bytes(&self) -> Option<&[u8]> {
+        None
     }
 }
 

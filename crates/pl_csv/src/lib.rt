@@ -3,6 +3,8 @@
 
 pub mod adapters;
 pub mod counting;
+#[cfg(test)]
+mod examples;
 pub mod laws;
 pub mod read_all;
 pub mod run;

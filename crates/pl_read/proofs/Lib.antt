@@ -5,6 +5,7 @@ pub mod ProjectionLaws
 pub mod IndexingLaws
 pub mod SliceLaws
 pub mod DataLaws
+pub mod ReaderLaws
 pub mod LimitLaws
 pub mod SelectionLaws
 pub mod PrefixLaws

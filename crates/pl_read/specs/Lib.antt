@@ -7,4 +7,6 @@ pub mod Steps
 pub mod BytesReader
 pub mod NamedColumns
 pub mod Slices
+pub mod CsvReader
+pub mod ReaderMakers
 pub mod Laws

@@ -3,11 +3,13 @@
 
 pub mod bytes_reader;
 pub mod checks;
+pub mod csv_reader;
 mod indexing;
 pub mod laws;
 pub mod named_columns;
 mod nulls;
 mod projecting;
+pub mod reader_makers;
 pub mod reading;
 mod settling;
 pub mod slices;

@@ -1,0 +1,224 @@
+//! The reader of frames.
+ghost use Rattle.std.specs.Prelude.{◌≡◌, ◌≤◌, ℕ, List, Result, Some, IsSome, IfOk, IfErr};
+ghost use Rattle.pl_frame.specs.Frame.{ColumnValue};
+ghost use Rattle.pl_frame.specs.declared.error.PolarsError.{PolarsError};
+ghost use Rattle.pl_infer.specs.Options.{default_read_options};
+ghost use Rattle.pl_read.specs.BytesReader.{input_of};
+ghost use Rattle.pl_read.specs.CsvReader.{Reader, OfInput, IsFinishFault, IsMeaning, AnswersUnlessFailed};
+ghost use Rattle.pl_read.specs.Options.{settled_schema};
+ghost use Rattle.pl_read.specs.Reading.{IsRead};
+
+use crate::bytes_reader::{MmapBytesReader, lent_or_read, read_unlent};
+use crate::reading::read_frame;
+use pl_frame::error::PolarsResult;
+use pl_frame::frame::DataFrame;
+use pl_infer::read_options::CsvReadOptions;
+use std::alloc::Global;
+use std::marker::Model;
+
+/// What reads the input of a source into a frame.
+pub trait SerReader<R: MmapBytesReader> {
+    /// The source, and how it is read.
+    ghost state: { Self → Reader R };
+
+    /// A reader of a source, with default options. Takes no memory.
+    fn new(alloc: Global, reader: R) -> Self
+        ensures { state result ≡ record { source = reader; options = default_read_options } };
+
+    /// The reader as it is: a column lies in one piece, whatever is asked.
+    fn set_rechunk(self, rechunk: bool) -> Self
+        ensures { state result ≡ state self };
+
+    /// The frame that the input means under the options, which give a schema. The input is what the source lends, or else
+    /// what is left of it, which is read to its end first; the options stay.
+    ///
+    /// Refuses `IO` only where the source lends nothing and its count of faults rose, then the first cause against the input,
+    /// and want of memory, in which a source without end ends.
+    fn finish(&mut self) -> PolarsResult<DataFrame>
+        requires { IsSome (state self.old).options.schema }
+
+        // Each answer comes only by its cause.
+        ensures frame { IfOk result (λ frame. OfInput R.lent R.left (state self.old).source (state self.new).source (λ input.
+            IsRead (state self.old).options (settled_schema (state self.old).options) input frame)) }
+        ensures refused { IfErr result (IsFinishFault R.lent R.left R.faults (state self.old).source (state self.new).source
+            (state self.old).options (settled_schema (state self.old).options)) }
+
+        // And it comes where the source tells an input that means it, up to want of memory and a count that rose.
+        ensures complete { (input : List ℕ) (meaning : Result (List ColumnValue) PolarsError)
+            → input_of (R.lent (state self.old).source) (R.left (state self.old).source) ≡ Some input
+            → IsMeaning (state self.old).options (settled_schema (state self.old).options) input meaning
+            → AnswersUnlessFailed result meaning (R.faults (state self.old).source) (R.faults (state self.new).source) }
+
+        // A source that lends its bytes is not read.
+        ensures lent { IsSome (R.lent (state self.old).source) → (state self.new).source ≡ (state self.old).source }
+        ensures later { R.faults (state self.old).source ≤ R.faults (state self.new).source }
+        ensures options { (state self.new).options ≡ (state self.old).options };
+}
+
+/// A reader of frames, which owns its source. Contracts see the source and the options.
+#[derive(Drop)]
+pub struct CsvReader<R: MmapBytesReader> {
+    alloc: Global,
+    reader: R,
+    options: CsvReadOptions,
+}
+
+impl<R: MmapBytesReader> Model for CsvReader<R> {
+    ghost use Rattle.pl_read.specs.CsvReader.{Reader};
+
+    ghost Value = { Reader R };
+
+    ghost view = { λ it. record { source = it.reader; options = it.options } };
+}
+
+impl<R: MmapBytesReader> CsvReader<R> {
+    /// A reader of a source by these options. Takes no memory.
+    pub fn with_options(alloc: Global, reader: R, options: CsvReadOptions) -> Self
+        ensures { result ≡ record { source = reader; options = options } }
+    {
+        CsvReader {
+            alloc,
+            reader,
+            options,
+        }
+    }
+
+    /// How the source is read, without taking memory.
+    pub fn options(&self) -> &CsvReadOptions
+        ensures { result.now ≡ self.now.options }
+    {
+        &self.options
+    }
+
+    /// The source again, where the reads left it, without taking memory.
+    pub fn into_inner(self) -> R
+        ensures { result ≡ self.source }
+    {
+        self.reader
+    }
+}
+
+// The frame that the input of a source means under options that give a schema.
+fn read_source<R: MmapBytesReader>(
+    alloc: Global,
+    reader: &mut R,
+    options: &CsvReadOptions,
+) -> PolarsResult<DataFrame>
+    requires { IsSome options.now.schema }
+    ensures frame { IfOk result (λ frame. OfInput R.lent R.left reader.old reader.new (λ input. IsRead options.now (settled_schema options.now) input frame)) }
+    ensures refused { IfErr result (IsFinishFault R.lent R.left R.faults reader.old reader.new options.now (settled_schema options.now)) }
+    ensures complete { (input : List ℕ) (meaning : Result (List ColumnValue) PolarsError)
+        → input_of (R.lent reader.old) (R.left reader.old) ≡ Some input
+        → IsMeaning options.now (settled_schema options.now) input meaning
+        → AnswersUnlessFailed result meaning (R.faults reader.old) (R.faults reader.new) }
+    ensures lent { IsSome (R.lent reader.old) → reader.new ≡ reader.old }
+    ensures later { R.faults reader.old ≤ R.faults reader.new }
+{
+    let Some(schema) = &options.schema else {
+        unreachable!();
+    };
+    let read = match read_unlent(alloc, reader) {
+        Ok(read) => read,
+        Err(fault) => return Err(fault),
+    };
+    let input = lent_or_read(reader, read);
+    read_frame(alloc, input.bytes(), options, schema)
+}
+
+impl<R: MmapBytesReader> SerReader<R> for CsvReader<R> {
+    ghost state = { λ it. it };
+
+    fn new(alloc: Global, reader: R) -> Self {
+        CsvReader::with_options(alloc, reader, CsvReadOptions::new(alloc))
+    }
+
+    fn set_rechunk(self, _rechunk: bool) -> Self {
+        self
+    }
+
+    fn finish(&mut self) -> PolarsResult<DataFrame> {
+        read_source(self.alloc, &mut self.reader, &self.options)
+    }
+}
+
+#[cfg(test)]
+mod tests {
+    use super::*;
+    use pl_frame::column::Column;
+    use pl_frame::data_type::DataType;
+    use pl_frame::error::PolarsError;
+    use pl_frame::name::PlSmallStr;
+    use pl_frame::schema::Schema;
+    use pl_frame::source::{MemSource, PipeSource, Source};
+    use std::test::Fail;
+
+    // Through the bound: a reader with default options.
+    fn fresh<R: MmapBytesReader, T: SerReader<R>>(alloc: Global, reader: R) -> T {
+        T::new(alloc, reader).set_rechunk(true)
+    }
+
+    // Through the bound: what a reader reads.
+    fn finish<R: MmapBytesReader, T: SerReader<R>>(reader: &mut T) -> PolarsResult<DataFrame>
+        requires { IsSome (T.state reader.old).options.schema }
+        ensures { (T.state reader.new).options ≡ (T.state reader.old).options }
+    {
+        reader.finish()
+    }
+
+    // A read of one column `a` of whole numbers.
+    fn one_column(alloc: Global) -> Result<CsvReadOptions, Fail>
+        ensures { IfOk result (λ options. IsSome options.schema) }
+    {
+        let mut schema = Schema::new(alloc);
+        schema.with_column(PlSmallStr::from_str(alloc, "a")?, DataType::Int64)?;
+        Ok(CsvReadOptions::new(alloc).with_schema(Some(schema)))
+    }
+
+    // The column `a` of 1.
+    fn one(alloc: Global) -> Result<DataFrame, Fail> {
+        let name = PlSmallStr::from_str(alloc, "a")?;
+        let column = Column::whole(alloc, name, DataType::Int64, vec![in alloc; Some(1)]?)?;
+        Ok(DataFrame::new(alloc, vec![in alloc; column]?)?)
+    }
+
+    #[test]
+    fn a_new_reader_has_default_options(rt: HostRuntime) {
+        let alloc = rt.alloc();
+        let reader: CsvReader<MemSource<'_>> = fresh(alloc, MemSource::new(b"ab"));
+        assert!(rt; *reader.options() == CsvReadOptions::new(alloc));
+        assert_eq!(rt; reader.into_inner().bytes(), b"ab".as_slice());
+    }
+
+    // What stands behind the first byte of a source that fails at these calls.
+    fn pipe(fails: &[usize]) -> PipeSource<'_> {
+        let mut source = PipeSource::new(b"xa\n1\n", 1, fails);
+        let _ = source.read(&mut [0u8; 1]);
+        source
+    }
+
+    #[test]
+    fn a_pipe_is_read_from_where_it_stands(rt: HostRuntime) -> Result<(), Fail> {
+        let alloc = rt.alloc();
+        let mut reader = CsvReader::with_options(alloc, pipe(&[]), one_column(alloc)?);
+        assert!(rt; finish(&mut reader)? == one(alloc)?);
+        Ok(())
+    }
+
+    #[test]
+    fn a_pipe_that_fails_is_a_fault(rt: HostRuntime) -> Result<(), Fail> {
+        let alloc = rt.alloc();
+        let mut reader = CsvReader::with_options(alloc, pipe(&[3]), one_column(alloc)?);
+        assert!(rt; matches!(finish(&mut reader), Err(PolarsError::IO)));
+        Ok(())
+    }
+
+    #[test]
+    fn memory_is_read_again(rt: HostRuntime) -> Result<(), Fail> {
+        let alloc = rt.alloc();
+        let source = MemSource::new(b"a\n1\n");
+        let mut reader = CsvReader::with_options(alloc, source, one_column(alloc)?);
+        let first = finish(&mut reader)?;
+        assert!(rt; finish(&mut reader)? == first);
+        Ok(())
+    }
+}

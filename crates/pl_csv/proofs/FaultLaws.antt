@@ -1,6 +1,6 @@
 -- No cause against a frame is a fault of the device.
 use Rattle.std.proofs.Common.{◌≡◌, ℕ, Bool, true, false, List, [], ◌∷◌, length, map, sym}
-use Rattle.std.specs.Prelude.{Option, None, Some, not, nat_lt, is_none}
+use Rattle.std.specs.Prelude.{Option, None, Some}
 use Rattle.std.specs.Option.{option_map, option_and_then}
 use Rattle.std.specs.List.{AllByRecursion}
 use Rattle.pl_frame.specs.declared.error.PolarsError.{PolarsError}

@@ -22,7 +22,7 @@ use Rattle.pl_csv.specs.declared.run.Refusal.{Refusal}
 use Rattle.pl_csv.specs.declared.run.Refusal.TheVariants as refusal
 use Rattle.pl_csv.specs.Run.{HasRead, HasCause, IsRefused, IsDue, EndsAsDue, Converted}
 use Rattle.pl_csv.specs.Telling.{status_of, status_of_fault}
-use Rattle.pl_csv.specs.Transcoding.{all_causes, quote_cause, HasAsciiQuote, IsCause, IsValidRead, IsTranscodeFault}
+use Rattle.pl_csv.specs.Transcoding.{all_causes, HasAsciiQuote, IsCause, IsValidRead, IsTranscodeFault}
 use Rattle.pl_csv.specs.Views.{Views}
 use Rattle.pl_csv.proofs.TranscodeLaws.{quote_none}
 

@@ -1,5 +1,5 @@
 -- An input is read where no cause stands against its frame, and else the first is told.
-use Rattle.std.proofs.Common.{◌≡◌, ℕ, ◌<◌, Bool, true, false, List, [], ◌∷◌, ◌++◌, refl, sym, ◌∙◌, ap, subst, arith, inl, inr}
+use Rattle.std.proofs.Common.{◌≡◌, ℕ, Bool, true, false, List, [], ◌∷◌, refl, sym, ◌∙◌, ap, subst, arith, inl, inr}
 use Rattle.std.specs.Prelude.{Option, None, Some, Result, Ok, Err, IfOk, OnOk, IfErr, MatchResult, not, nat_lt, unwrap_or}
 use Rattle.std.proofs.lemmas.Bool.Decides.{nat_tests}
 use Rattle.pl_frame.specs.declared.error.PolarsError.{PolarsError}
@@ -10,11 +10,11 @@ use Rattle.pl_frame.specs.Schema.{Entry}
 use Rattle.pl_infer.specs.declared.read_options.CsvReadOptions.{CsvReadOptions}
 use Rattle.pl_read.specs.Options.{settled, settled_schema}
 use Rattle.pl_read.specs.Reading.{IsFirstCause, frame_of}
-use Rattle.pl_read.specs.Refusals.{when, first_some, early_causes, late_causes}
+use Rattle.pl_read.specs.Refusals.{when, early_causes, late_causes}
 use Rattle.pl_read.specs.Steps.{MayRead, late_cause, IsFault}
 use Rattle.pl_read.proofs.CauseLaws.{first_some-early, first_some-late, first_some-here, first_some-behind}
 use Rattle.pl_write.specs.declared.options.CsvWriterOptions.{CsvWriterOptions}
-use Rattle.pl_csv.specs.Transcoding.{quote_cause, HasAsciiQuote, IsCause, IsValidRead, IsUnread, IsTranscodeFault}
+use Rattle.pl_csv.specs.Transcoding.{quote_cause, HasAsciiQuote, IsValidRead, IsUnread, IsTranscodeFault}
 use Rattle.pl_csv.specs.Views.{SinkView}
 use Rattle.pl_csv.proofs.FaultLaws.{cause-not_io}
 

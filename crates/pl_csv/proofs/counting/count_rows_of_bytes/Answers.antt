@@ -1,5 +1,5 @@
 use Rattle.std.proofs.Common.{refl, sym, ◌∙◌}
-use Rattle.pl_csv.proofs.CountingLaws.{counted-plain, counted-mark}
+use Rattle.pl_csv.proofs.CountingLaws.{counted-plain}
 use Rattle.pl_csv.proofs.counting.count_rows_of_bytes.Goals as goal
 
 pub returns : goal.returns

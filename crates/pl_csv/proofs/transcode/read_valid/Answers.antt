@@ -1,4 +1,4 @@
-use Rattle.std.proofs.Common.{arith, rules}
+use Rattle.std.proofs.Common.{rules}
 use Rattle.pl_csv.specs.Transcoding.{HasAsciiQuote}
 use Rattle.pl_csv.proofs.TranscodeLaws.{valid-or-unread}
 use Rattle.pl_csv.proofs.transcode.read_valid.Goals as goal

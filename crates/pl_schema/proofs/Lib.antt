@@ -1,0 +1,5 @@
+pub mod FieldTypeLaws
+pub mod SchemaLaws
+pub mod NameLaws
+mod SampleLaws
+mod ColumnTypeLaws

@@ -1,0 +1,132 @@
+//! What inference gives.
+ghost use Rattle.std.specs.Prelude.{◌≡◌, IfOk, IsOkUnless};
+ghost use Rattle.pl_frame.specs.declared.error.PolarsError.TheVariants as error;
+ghost use Rattle.pl_infer.specs.declared.read_options.CsvReadOptions.{CsvReadOptions};
+ghost use Rattle.pl_schema.specs.InferenceResult.{empty_result, estimated_rows};
+
+use pl_frame::error::PolarsResult;
+use pl_frame::schema::Schema;
+use pl_infer::read_options::CsvReadOptions;
+use std::alloc::Global;
+
+/// What inference gives: a schema, and how much was read for it.
+#[derive(Debug, Drop)]
+pub struct SchemaInferenceResult {
+    /// The names and types of all columns.
+    pub inferred_schema: Schema,
+    /// How many items types were inferred from.
+    pub rows_read: usize,
+    /// How many bytes stand up to the end of the last of them.
+    pub bytes_read: usize,
+    /// How many bytes there are.
+    pub bytes_total: usize,
+    /// How many workers are to read; `None` means four.
+    pub n_threads: Option<usize>,
+}
+
+impl SchemaInferenceResult {
+    /// A result without columns, rows and bytes. Takes no memory.
+    pub fn new(alloc: Global) -> Self
+        ensures { result ≡ empty_result }
+    {
+        SchemaInferenceResult {
+            inferred_schema: Schema::new(alloc),
+            rows_read: 0,
+            bytes_read: 0,
+            bytes_total: 0,
+            n_threads: None,
+        }
+    }
+
+    /// An equal result. Refuses only want of memory.
+    pub fn try_clone(&self) -> PolarsResult<SchemaInferenceResult>
+        ensures equal { IfOk result (λ copy. copy ≡ self.now) }
+        ensures refused { IsOkUnless result error.OutOfMemory }
+    {
+        Ok(SchemaInferenceResult {
+            inferred_schema: self.inferred_schema.try_clone()?,
+            rows_read: self.rows_read,
+            bytes_read: self.bytes_read,
+            bytes_total: self.bytes_total,
+            n_threads: self.n_threads,
+        })
+    }
+
+    /// Sets the schema, and keeps the rest. Takes no memory.
+    pub fn with_inferred_schema(mut self, inferred_schema: Schema) -> Self
+        ensures { result ≡ record self { inferred_schema = inferred_schema } }
+    {
+        self.inferred_schema = inferred_schema;
+        self
+    }
+
+    /// The schema, without taking memory.
+    pub fn get_inferred_schema(&self) -> &Schema
+        ensures { result.now ≡ self.now.inferred_schema }
+    {
+        &self.inferred_schema
+    }
+
+    /// How many rows the input has, if the bytes that were not read have as many as those that were: the rows times the total
+    /// bytes divided by the bytes read, and 0 where nothing was read. Where that does not fit, the largest `usize`.
+    pub fn get_estimated_n_rows(&self) -> usize
+        ensures { result ≡ estimated_rows self.now.rows_read self.now.bytes_read self.now.bytes_total }
+    {
+        if self.bytes_read == 0 {
+            return 0;
+        }
+        let rows = (self.rows_read as u128) * (self.bytes_total as u128);
+        let estimate = rows / (self.bytes_read as u128);
+        if estimate < u64::MAX as u128 {
+            estimate as usize
+        } else {
+            usize::MAX
+        }
+    }
+}
+
+/// Options that can be brought up to date with what inference gives.
+pub trait UpdateWithInferenceResult {
+    /// The options, which contracts see.
+    ghost options: { Self → CsvReadOptions };
+
+    /// Sets how many workers read to what inference leaves of that number, and keeps the rest.
+    fn update_with_inference_result(&mut self, si_result: &SchemaInferenceResult)
+        ensures { options self.new ≡ record (options self.old) { n_threads = si_result.now.n_threads } };
+}
+
+impl UpdateWithInferenceResult for CsvReadOptions {
+    ghost options = { λ it. it };
+
+    fn update_with_inference_result(&mut self, si_result: &SchemaInferenceResult) {
+        self.n_threads = si_result.n_threads;
+    }
+}
+
+#[cfg(test)]
+mod tests {
+    use super::*;
+    use pl_frame::data_type::DataType;
+    use pl_frame::name::PlSmallStr;
+    use std::test::Fail;
+
+    #[test]
+    fn a_result_estimates_rows_and_sets_workers(rt: HostRuntime) -> Result<(), Fail> {
+        let alloc = rt.alloc();
+        let mut schema = Schema::new(alloc);
+        schema.with_column(PlSmallStr::from_str(alloc, "a")?, DataType::Int64)?;
+        let mut read = SchemaInferenceResult::new(alloc).with_inferred_schema(schema);
+        assert_eq!(rt; read.get_estimated_n_rows(), 0);
+        read.rows_read = 1;
+        read.bytes_read = 7;
+        read.bytes_total = 8;
+        read.n_threads = Some(1);
+        let copy = read.try_clone()?;
+        assert!(rt; copy.get_inferred_schema() == read.get_inferred_schema());
+        assert_eq!(rt; copy.get_estimated_n_rows(), 1);
+        let mut options = CsvReadOptions::new(alloc);
+        options.update_with_inference_result(&copy);
+        assert_eq!(rt; options.n_threads, Some(1));
+        Ok(())
+    }
+}

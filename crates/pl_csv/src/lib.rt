@@ -5,6 +5,8 @@ pub mod adapters;
 pub mod counting;
 #[cfg(test)]
 mod examples;
+#[cfg(test)]
+mod file_readers;
 pub mod laws;
 pub mod read_all;
 pub mod run;

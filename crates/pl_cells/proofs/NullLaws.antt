@@ -1,5 +1,5 @@
 -- Texts under names, one entry after another.
-use Rattle.std.proofs.Common.{◌≡◌, ℕ, zero, suc, ◌+◌, ◌<◌, List, [], ◌∷◌, ◌++◌, length, take, get_or, refl, ◌∙◌, ap}
+use Rattle.std.proofs.Common.{◌≡◌, ℕ, zero, suc, ◌+◌, ◌<◌, List, [], ◌∷◌, ◌++◌, length, take, get_or, refl, sym, ◌∙◌, ap}
 use Rattle.std.specs.Prelude.{Some, slice_get, if◌then◌else◌}
 use Rattle.std.specs.Str.{bytes_eq}
 use Rattle.std.proofs.lemmas.List.{take_more}
@@ -24,3 +24,13 @@ column_texts-more entries [] k name type at = cc
 column_texts-more entries (e ∷ schema) zero name type at =
     let same : e ≡ (name, type) = cc in ap (λ (c : Entry). text_under [] entries c.0 ∷ []) same
 column_texts-more entries (e ∷ schema) (suc k) name type at = ap (λ l. text_under [] entries e.0 ∷ l) (column_texts-more entries schema k name type at)
+
+-- one name more, at the end
+names_texts-push : (entries : NamedTexts) (names : List (List ℕ)) (name : List ℕ) → column_texts entries (names ++ name ∷ []) ≡ column_texts entries names ++ text_under [] entries name ∷ []
+names_texts-push entries [] name = refl
+names_texts-push entries (first ∷ names) name = ap (λ l. text_under [] entries first ∷ l) (names_texts-push entries names name)
+
+pub names_texts-more : (entries : NamedTexts) (names : List (List ℕ)) (k : ℕ) (name : List ℕ) → k < length names → name ≡ get_or names k name
+    → column_texts entries (take (k + 1) names) ≡ column_texts entries (take k names) ++ text_under [] entries name ∷ []
+names_texts-more entries names k name l is =
+    ap (column_texts entries) (take_more names k name l ∙ ap (λ x. take k names ++ x ∷ []) (sym is)) ∙ names_texts-push entries (take k names) name

@@ -36,11 +36,15 @@ text_under other (entry ∷ entries) name = text_under (if bytes_eq name entry.0
 abbrev pub column_texts : NamedTexts → List (List ℕ) → List (List ℕ)
 column_texts entries names = map (text_under [] entries) names
 
+-- null values with columns of these names in place of names
+abbrev pub compiled_under : NullValues → List (List ℕ) → NullValuesCompiled
+compiled_under (values.AllColumnsSingle text) names = compiled.AllColumnsSingle text
+compiled_under (values.AllColumns texts) names = compiled.AllColumns texts
+compiled_under (values.Named entries) names = compiled.Columns (column_texts entries names)
+
 -- null values with the columns of a schema in place of names
 abbrev pub compiled_for : NullValues → List Entry → NullValuesCompiled
-compiled_for (values.AllColumnsSingle text) schema = compiled.AllColumnsSingle text
-compiled_for (values.AllColumns texts) schema = compiled.AllColumns texts
-compiled_for (values.Named entries) schema = compiled.Columns (column_texts entries (names_in schema))
+compiled_for null_values schema = compiled_under null_values (names_in schema)
 
 -- a schema doesn't have the name of an entry
 abbrev pub is_unknown : List Entry → List ℕ × List ℕ → Bool

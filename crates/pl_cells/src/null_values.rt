@@ -7,7 +7,7 @@ ghost use Rattle.std.specs.List.{list_any};
 ghost use Rattle.std.specs.Str.{bytes_eq};
 ghost use Rattle.pl_frame.specs.Schema.{names_in, place_of};
 ghost use Rattle.pl_frame.specs.declared.error.PolarsError.TheVariants as error;
-ghost use Rattle.pl_cells.specs.NullValues.{text_under, column_texts, compiled_for, unknown_among, unknown_name, IsNameFault, entries_equal, entries_equiv, is_null_text, HasColumns};
+ghost use Rattle.pl_cells.specs.NullValues.{text_under, column_texts, compiled_under, compiled_for, unknown_among, unknown_name, IsNameFault, entries_equal, entries_equiv, is_null_text, HasColumns};
 
 use pl_frame::error::{PolarsError, PolarsResult};
 use pl_frame::name::PlSmallStr;
@@ -207,6 +207,27 @@ impl NullValues {
             }
         }
     }
+
+    /// The null values of columns of these names. An entry for another name is passed over. Refuses only want of memory.
+    pub fn compile_for_names(
+        &self,
+        alloc: Global,
+        names: &[PlSmallStr],
+    ) -> PolarsResult<NullValuesCompiled>
+        ensures compiled { IfOk result (λ compiled. compiled ≡ compiled_under self.now names.now) }
+        ensures refused { IsOkUnless result error.OutOfMemory }
+    {
+        Ok(match self {
+            NullValues::AllColumnsSingle(text) => {
+                NullValuesCompiled::AllColumnsSingle(text.try_clone()?)
+            }
+            NullValues::AllColumns(texts) => NullValuesCompiled::AllColumns(texts.try_clone()?),
+            NullValues::Named(texts) => {
+                let texts = texts_under(alloc, texts.entries(), names)?;
+                NullValuesCompiled::Columns(NullTexts::new(texts))
+            }
+        })
+    }
 }
 
 // Whether the schema has a name.
@@ -282,6 +303,23 @@ fn texts_of_columns(
         let Some((name, _)) = schema.get_at_index(place) else {
             unreachable!();
         };
+        let text = PlSmallStr::from_str(alloc, text_under(entries, name.as_str()))?;
+        push(&mut texts, text)?;
+    }
+    Ok(texts)
+}
+
+// The text of each of these names. Refuses only want of memory.
+fn texts_under(
+    alloc: Global,
+    entries: &[(PlSmallStr, PlSmallStr)],
+    names: &[PlSmallStr],
+) -> PolarsResult<Vec<PlSmallStr>>
+    ensures texts { IfOk result (λ texts. texts.items ≡ column_texts entries.now names.now) }
+    ensures refused { IsOkUnless result error.OutOfMemory }
+{
+    let mut texts = Vec::new(alloc);
+    for name in names {
         let text = PlSmallStr::from_str(alloc, text_under(entries, name.as_str()))?;
         push(&mut texts, text)?;
     }

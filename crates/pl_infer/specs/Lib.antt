@@ -1,3 +1,5 @@
+pub mod Causes
 pub mod ColumnLists
 pub mod Options
 pub mod ReaderBytes
+pub mod Text

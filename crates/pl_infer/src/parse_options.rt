@@ -1,13 +1,18 @@
 //! How bytes are cut into fields, and what their texts mean.
 ghost use Rattle.std.specs.Prelude.{◌≡◌, IfOk, IsOkUnless};
 ghost use Rattle.pl_frame.specs.declared.error.PolarsError.TheVariants as error;
+ghost use Rattle.pl_frame.specs.Dialect.{IsDialect};
+ghost use Rattle.pl_scan.specs.Dialect as scan;
+ghost use Rattle.pl_infer.specs.Causes.{Tells};
 ghost use Rattle.pl_infer.specs.Options.{default_parse_options};
+ghost use Rattle.pl_infer.specs.Text.{marks_of, comment_of};
 
 use crate::try_clone::copy_optional;
 use pl_cells::null_values::NullValues;
 use pl_cells::utf8::CsvEncoding;
 use pl_frame::error::PolarsResult;
 use pl_scan::comment::CommentPrefix;
+use pl_scan::dialect::Dialect;
 
 /// How bytes are cut into fields, and what their texts mean (docs/options.md). Each `with_` call sets the option that it
 /// names, keeps the others and takes no memory.
@@ -69,6 +74,26 @@ impl CsvParseOptions {
             comment_prefix: copy_optional(&self.comment_prefix)?,
             try_parse_dates: self.try_parse_dates,
         })
+    }
+
+    /// The bytes that cut a text, without taking memory.
+    pub fn dialect(&self) -> Dialect<'_>
+        ensures marks { scan.marks_of result ≡ marks_of self.now }
+        ensures comment { scan.comment_of result ≡ comment_of self.now }
+    {
+        Dialect {
+            separator: self.separator,
+            quote_char: self.quote_char,
+            eol_char: self.eol_char,
+            comment_prefix: self.comment_prefix.as_ref(),
+        }
+    }
+
+    /// Whether the bytes that cut a text make a dialect (docs/grammar.md, "Dialect"). Takes no memory.
+    pub fn has_dialect(&self) -> bool
+        ensures { Tells result (IsDialect (marks_of self.now) (comment_of self.now)) }
+    {
+        self.dialect().is_valid()
     }
 
     /// Sets what stands between two fields.

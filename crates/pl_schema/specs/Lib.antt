@@ -6,3 +6,5 @@ pub mod InferenceResult
 pub mod ReadNames
 pub mod Sample
 pub mod SampleSteps
+pub mod Inference
+pub mod InferenceOptions

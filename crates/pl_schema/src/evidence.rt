@@ -27,7 +27,7 @@ pub struct EvidenceRules<'a> {
 
 /// The types that the fields of a column showed.
 #[derive(Debug, Drop)]
-pub enum ShownTypes {
+pub(crate) enum ShownTypes {
     Nothing,
     One(DataType),
     Several,
@@ -35,7 +35,7 @@ pub enum ShownTypes {
 
 /// What is known of a column by its fields so far.
 #[derive(Debug, Drop)]
-pub struct Seen {
+pub(crate) struct Seen {
     pub types: ShownTypes,
     /// Whether a quoted text has more than eight line ends.
     pub has_long_text: bool,
@@ -119,7 +119,7 @@ fn add_field(seen: &mut Seen, field: &[u8], column: usize, rules: &EvidenceRules
 }
 
 /// Adds what the fields of a record show of their columns, without taking memory.
-pub fn add_record(columns: &mut [Seen], bytes: &[u8], rules: &EvidenceRules<'_>)
+pub(crate) fn add_record(columns: &mut [Seen], bytes: &[u8], rules: &EvidenceRules<'_>)
     requires apart { AreDistinct (marks_of rules.now.dialect) }
     requires texts { HaveTexts rules.now.null_values (length columns.old) }
     ensures { columns.new ≡ with_record rules.now columns.old bytes.now }

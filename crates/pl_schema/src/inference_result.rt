@@ -1,12 +1,18 @@
 //! What inference gives.
-ghost use Rattle.std.specs.Prelude.{◌≡◌, IfOk, IsOkUnless};
+ghost use Rattle.std.specs.Prelude.{◌≡◌, None, IfOk, IfErr, OnOk, IsOkUnless};
 ghost use Rattle.pl_frame.specs.declared.error.PolarsError.TheVariants as error;
 ghost use Rattle.pl_infer.specs.declared.read_options.CsvReadOptions.{CsvReadOptions};
+ghost use Rattle.pl_infer.specs.Causes.{IsFirstCause};
+ghost use Rattle.pl_infer.specs.ReaderBytes.{bytes_in};
+ghost use Rattle.pl_schema.specs.Inference.{inference_of, inference_result, file_causes, IsInferenceFault};
 ghost use Rattle.pl_schema.specs.InferenceResult.{empty_result, estimated_rows};
 
+use crate::inference::infer_checked;
+use crate::inference_options::InferenceOptions;
 use pl_frame::error::PolarsResult;
 use pl_frame::schema::Schema;
 use pl_infer::read_options::CsvReadOptions;
+use pl_infer::reader_bytes::ReaderBytes;
 use std::alloc::Global;
 
 /// What inference gives: a schema, and how much was read for it.
@@ -35,6 +41,23 @@ impl SchemaInferenceResult {
             bytes_read: 0,
             bytes_total: 0,
             n_threads: None,
+        }
+    }
+
+    /// What inference gives of an input under the options of a reader, as `infer_file_schema` does, which says what is refused.
+    pub fn try_from_reader_bytes_and_options(
+        alloc: Global,
+        reader_bytes: &ReaderBytes<'_>,
+        options: &CsvReadOptions,
+    ) -> PolarsResult<Self>
+        ensures inferred { IfOk result (λ found. found ≡ inference_result (inference_of options.now) options.now.n_threads (bytes_in reader_bytes.now)) }
+        ensures sound { OnOk result (IsFirstCause (file_causes (inference_of options.now) (bytes_in reader_bytes.now)) options.now.parse_options None) }
+        ensures refused { IfErr result (IsInferenceFault (inference_of options.now) (bytes_in reader_bytes.now)) }
+    {
+        let inference = InferenceOptions::of(options);
+        match infer_checked(alloc, reader_bytes.bytes(), &inference, options.n_threads) {
+            Ok(found) => Ok(found),
+            Err(fault) => Err(fault),
         }
     }
 

@@ -1,9 +1,12 @@
 //! The schema of an input for which none is given: names of columns, and their types by a sample.
 #![tactic(auto)]
 
+mod columns;
 pub mod evidence;
 pub mod field_types;
 pub mod header;
+pub mod inference;
+pub mod inference_options;
 pub mod inference_result;
 pub mod sample;
 pub mod schemas;

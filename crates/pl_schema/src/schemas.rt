@@ -82,8 +82,8 @@ fn type_for(schema: &Schema, place: usize, other: &Schema) -> PolarsResult<DataT
     }
 }
 
-// The type under a name.
-fn find_type<'a>(schema: &'a Schema, name: &str) -> Option<&'a DataType>
+/// The type under a name.
+pub(crate) fn find_type<'a>(schema: &'a Schema, name: &str) -> Option<&'a DataType>
     ensures { option_map (λ found. found.now) result ≡ type_of name.now schema.now }
 {
     let place = schema.index_of(name)?;
@@ -91,8 +91,8 @@ fn find_type<'a>(schema: &'a Schema, name: &str) -> Option<&'a DataType>
     Some(dtype)
 }
 
-// The name and the type at a place.
-fn entry_at(schema: &Schema, place: usize) -> (&PlSmallStr, &DataType)
+/// The name and the type at a place.
+pub(crate) fn entry_at(schema: &Schema, place: usize) -> (&PlSmallStr, &DataType)
     requires { place < length schema.now }
     ensures { slice_get schema.now place ≡ Some (result.0.now, result.1.now) }
 {

@@ -102,8 +102,8 @@ pub(crate) fn entry_at(schema: &Schema, place: usize) -> (&PlSmallStr, &DataType
     }
 }
 
-// The least column whose type can't be read.
-fn find_unreadable(schema: &Schema) -> Option<usize>
+/// The least column whose type can't be read, without taking memory.
+pub fn find_unreadable(schema: &Schema) -> Option<usize>
     ensures { result ≡ first_unreadable schema.now }
 {
     for place in 0..schema.len() {

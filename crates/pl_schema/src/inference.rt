@@ -79,7 +79,7 @@ fn names_of(
     options: &InferenceOptions<'_>,
 ) -> PolarsResult<ColumnNames>
     requires { AreDistinct (marks_of options.now.parse_options.now) }
-    ensures names { IfOk result (λ names. names ≡ option_map_or (header.column_names options.now.has_header (marks_of options.now.parse_options.now)) (option_copied record) []) }
+    ensures names { IfOk result (λ names. names ≡ option_map_or (header.column_names options.now.has_header (marks_of options.now.parse_options.now)) (option_copied record.entry) []) }
     ensures refused { IsOkUnless result error.OutOfMemory }
 {
     let parse_options = options.parse_options;
@@ -142,12 +142,12 @@ fn settled_schema(
     other: Option<&Schema>,
 ) -> PolarsResult<Schema>
     requires { length types.now ≡ length names.now }
-    ensures schema { IfOk result (λ schema. schema ≡ overwritten_columns (unwrap_or (option_copied other) []) names.now types.now) }
-    ensures distinct { OnOk result (repeated (overwritten_columns (unwrap_or (option_copied other) []) names.now types.now) ≡ None) }
-    ensures refused { IfErr result (IsFault (repeated (overwritten_columns (unwrap_or (option_copied other) []) names.now types.now))) }
+    ensures schema { IfOk result (λ schema. schema ≡ overwritten_columns (unwrap_or (option_copied other.entry) []) names.now types.now) }
+    ensures distinct { OnOk result (repeated (overwritten_columns (unwrap_or (option_copied other.entry) []) names.now types.now) ≡ None) }
+    ensures refused { IfErr result (IsFault (repeated (overwritten_columns (unwrap_or (option_copied other.entry) []) names.now types.now))) }
 {
     let columns = overwritten_columns(alloc, names, types, other)?;
-    schema_of(alloc, columns)
+    schema_of(alloc, &columns)
 }
 
 // How many bytes stand between the skipped lines and the place just behind the last sampled item; 0 where none is sampled.
@@ -208,7 +208,10 @@ fn infer_types(
     let sample = sample_of(alloc, data, names, options)?;
     let bytes_read = sampled_bytes(bytes, data, &sample, options);
     let types = sample.types.dtypes();
-    let inferred_schema = settled_schema(alloc, names, types, options.schema_overwrite)?;
+    let inferred_schema = match settled_schema(alloc, names, types, options.schema_overwrite) {
+        Ok(schema) => schema,
+        Err(fault) => return Err(fault),
+    };
     Ok(SchemaInferenceResult {
         inferred_schema,
         rows_read: sample.items,

@@ -329,13 +329,14 @@ mod tests {
     // The schema of two columns.
     fn two_columns(
         alloc: Global,
-        names: [&str; 2],
-        types: [DataType; 2],
+        name: &str,
+        dtype: DataType,
+        other: &str,
+        other_dtype: DataType,
     ) -> Result<Schema, Fail> {
-        let [first, second] = types;
         let mut schema = Schema::new(alloc);
-        schema.with_column(PlSmallStr::from_str(alloc, names[0])?, first)?;
-        schema.with_column(PlSmallStr::from_str(alloc, names[1])?, second)?;
+        schema.with_column(PlSmallStr::from_str(alloc, name)?, dtype)?;
+        schema.with_column(PlSmallStr::from_str(alloc, other)?, other_dtype)?;
         Ok(schema)
     }
 
@@ -366,8 +367,8 @@ mod tests {
     fn names_and_types_are_inferred(rt: HostRuntime) -> Result<(), Fail> {
         let alloc = rt.alloc();
         let (schema, items, bytes) = infer(alloc, b"a,b\n1,x\n", None, true, &mut None)?;
-        let types = [DataType::Int64, DataType::String];
-        assert!(rt; schema == two_columns(alloc, ["a", "b"], types)?);
+        let wanted = two_columns(alloc, "a", DataType::Int64, "b", DataType::String)?;
+        assert!(rt; schema == wanted);
         assert_eq!(rt; (items, bytes), (1, 7));
         Ok(())
     }
@@ -384,14 +385,14 @@ mod tests {
     #[test]
     fn a_schema_overwrites_by_place_or_by_name(rt: HostRuntime) -> Result<(), Fail> {
         let alloc = rt.alloc();
-        let other = two_columns(alloc, ["x", "y"], [DataType::Int8, DataType::Int8])?;
+        let other = two_columns(alloc, "x", DataType::Int8, "y", DataType::Int8)?;
         let (schema, _, _) = infer(alloc, b"a,b\n", Some(&other), true, &mut None)?;
         assert!(rt; schema == other);
         let mut other = Schema::new(alloc);
         other.with_column(PlSmallStr::from_str(alloc, "b")?, DataType::Int8)?;
         let (schema, _, _) = infer(alloc, b"a,b\n1,2\n", Some(&other), true, &mut None)?;
-        let types = [DataType::Int64, DataType::Int8];
-        assert!(rt; schema == two_columns(alloc, ["a", "b"], types)?);
+        let wanted = two_columns(alloc, "a", DataType::Int64, "b", DataType::Int8)?;
+        assert!(rt; schema == wanted);
         Ok(())
     }
 

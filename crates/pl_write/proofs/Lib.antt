@@ -10,4 +10,5 @@ mod LineLaws
 mod PaddedLaws
 mod SpecialLaws
 mod TimeLaws
+mod WordLaws
 pub mod WriteLaws

@@ -8,6 +8,7 @@ pub mod KeptLaws
 mod LeftLaws
 mod LineLaws
 mod PaddedLaws
+mod PointLaws
 mod SpecialLaws
 mod TimeLaws
 mod WordLaws

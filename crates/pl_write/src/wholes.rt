@@ -20,7 +20,7 @@ fn digit_count(n: u64) -> usize
 
 // How many digits a number below 10^8 has.
 #[inline]
-fn short_digit_count(n: u32) -> usize
+pub(crate) fn short_digit_count(n: u32) -> usize
     requires { n < 100000000 }
     ensures count { result ≡ length (decimal n) }
     ensures some { 1 ≤ result }
@@ -31,7 +31,11 @@ fn short_digit_count(n: u32) -> usize
 
 // Appends the first bytes of eight: all are copied, and those behind are cut.
 #[inline]
-fn push_front(block: &mut Vec<u8>, bytes: [u8; 8], count: usize) -> Result<(), AllocError>
+pub(crate) fn push_front(
+    block: &mut Vec<u8>,
+    bytes: [u8; 8],
+    count: usize,
+) -> Result<(), AllocError>
     requires { count ≤ 8 }
     ensures text { OnOk result (block.new.items ≡ block.old.items ++ take count bytes) }
     ensures unchanged { OnErr result (block.new.items ≡ block.old.items) }
@@ -44,7 +48,7 @@ fn push_front(block: &mut Vec<u8>, bytes: [u8; 8], count: usize) -> Result<(), A
 
 // Appends the digits of a number below 10^8.
 #[inline]
-fn push_short(block: &mut Vec<u8>, n: u32) -> Result<(), AllocError>
+pub(crate) fn push_short(block: &mut Vec<u8>, n: u32) -> Result<(), AllocError>
     requires { n < 100000000 }
     ensures text { OnOk result (block.new.items ≡ block.old.items ++ decimal n) }
     ensures unchanged { OnErr result (block.new.items ≡ block.old.items) }

@@ -126,7 +126,7 @@ fn push_minus(block: &mut Vec<u8>, number: i64) -> Result<(), AllocError>
 // Appends a number of 64 bits.
 #[tactic(auto, using(crate::proofs::KeptLaws::keeping))]
 #[inline]
-fn push_narrow(block: &mut Vec<u8>, number: i64) -> Result<(), AllocError>
+pub(crate) fn push_narrow(block: &mut Vec<u8>, number: i64) -> Result<(), AllocError>
     ensures text { OnOk result (block.new.items ≡ block.old.items ++ signed_decimal number) }
     ensures kept { StaysInFront block.old.items block.new.items }
 {

@@ -1,11 +1,11 @@
 -- The number of a decimal text, digit by digit.
-use Rattle.std.proofs.Common.{◌≡◌, ℕ, zero, suc, ◌+◌, ◌-◌, ◌*◌, ◌^◌, ◌<◌, ◌≤◌, Bool, true, false, cond, ◌&&◌, ◌==◌, ltb, List, [], ◌∷◌, ◌++◌, length, take, drop, get_or, replicate, length-append, length-take, ℤ, pos, neg_ℤ, rules, Option, Some, None, refl, sym, ◌∙◌, ap, subst, append_assoc, arith, lit<}
+use Rattle.std.proofs.Common.{◌≡◌, ℕ, zero, suc, ◌+◌, ◌-◌, ◌*◌, ◌^◌, ◌<◌, ◌≤◌, Bool, true, false, cond, ◌&&◌, ◌==◌, ltb, List, [], ◌∷◌, ◌++◌, length, take, drop, get_or, replicate, length-append, length-take, length-drop, ℤ, pos, neg_ℤ, rules, Option, Some, None, refl, sym, ◌∙◌, ap, subst, append_assoc, arith, lit<}
 use Rattle.std.proofs.Math.Nat.{pow-le-pow_right, mul-le-mul_left}
 use Rattle.std.specs.Prelude.{SomeIff, slice_index_or, nat_lt, unwrap_or}
 use Rattle.pl_frame.specs.Types.{is_readable_decimal, from_to, decimal_range}
 use Rattle.std.specs.Str.{all_ascii_digits}
 use Rattle.std.specs.Char.{is_ascii_digit}
-use Rattle.std.proofs.lemmas.List.{take-append-drop}
+use Rattle.std.proofs.lemmas.List.{take-append-drop, take_all}
 use Rattle.std.proofs.lemmas.Bool.Decides.{nat_tests}
 use Rattle.memchr.specs.Find.{Nowhere, Passes, is_byte}
 use Rattle.pl_cells.specs.Integers.{is_digits, number_after, number_of, only_within, signed}
@@ -229,3 +229,60 @@ decimal_of-found precision scale negative whole fraction n r e is = by (is_decim
     by true decimal =
         let same : n ≡ scaled scale whole fraction = grind (arith, decimal, e, nat_tests) in
         rw (decimal, ← same) is
+
+-- ---- as many digits behind the point as the scale says
+
+-- digits are no point
+before_digits : (xs ys : List ℕ) → all_ascii_digits xs ≡ true → before_point (xs ++ 46 ∷ ys) ≡ xs
+before_digits [] ys digits = refl
+before_digits (x ∷ xs) ys digits =
+    let parts = and_true (is_ascii_digit x) (all_ascii_digits xs) digits in
+    let other : (x == 46) ≡ false = grind (arith, nat_tests, parts.0) in
+    rw (other, before_point) (ap (λ l. x ∷ l) (before_digits xs ys parts.1))
+
+behind_digits : (xs ys : List ℕ) → all_ascii_digits xs ≡ true → behind_point (xs ++ 46 ∷ ys) ≡ ys
+behind_digits [] ys digits = refl
+behind_digits (x ∷ xs) ys digits =
+    let parts = and_true (is_ascii_digit x) (all_ascii_digits xs) digits in
+    let other : (x == 46) ≡ false = grind (arith, nat_tests, parts.0) in
+    rw (other, behind_point) (behind_digits xs ys parts.1)
+
+split_at : (at : ℕ) (text : List ℕ) → at < length text → get_or text at 0 ≡ 46 → text ≡ take at text ++ 46 ∷ drop (at + 1) text
+split_at at [] inside point = absurd (omega arith)
+split_at zero (x ∷ xs) inside point = ap (λ y. y ∷ xs) point
+split_at (suc at) (x ∷ xs) inside point =
+    let next : suc at + 1 ≡ suc (at + 1) = omega arith in
+    rw next (ap (λ l. x ∷ l) (split_at at xs (omega arith) point))
+
+dropped : (k : ℕ) (xs : List ℕ) → length xs ≤ k → are_zeros (drop k xs) ≡ true
+dropped k [] few = rw (drop_none k) refl
+  where
+    drop_none : (k : ℕ) → drop {A = ℕ} k [] ≡ []
+    drop_none zero = refl
+    drop_none (suc k) = refl
+dropped zero (x ∷ xs) few = absurd (omega arith)
+dropped (suc k) (x ∷ xs) few = dropped k xs (omega arith)
+
+-- what was read of the digits before the point and of those behind it is the number times ten to the scale
+parts-few : (limit scale m n : ℕ) (whole fraction : List ℕ) → 0 < length whole → length fraction ≡ scale → n < limit
+    → Some m ≡ read_on limit 0 whole → Some n ≡ read_on limit m fraction → Some n ≡ scaled_below limit scale whole fraction
+parts-few limit scale m n whole fraction some long fits first last =
+    let kept : take scale fraction ≡ fraction = take_all _ _ (omega arith) in
+    let both : Some n ≡ read_on limit 0 (whole ++ take scale fraction) = last ∙ read_on-both limit 0 m whole fraction first ∙ ap (λ l. read_on limit 0 (whole ++ l)) (sym kept) in
+    let none : scale - scale ≡ 0 = omega arith in
+    let same : n * 10 ^ (scale - scale) ≡ n = ap (λ k. n * 10 ^ k) none ∙ omega arith in
+    scaled-found limit scale whole fraction n scale (Some n) (omega arith) (dropped scale fraction (omega arith)) both (sym (ap length kept ∙ long))
+    (omega (arith, same, fits), sym same)
+
+pub scaled-few : (scale at n m : ℕ) (text : List ℕ) → at + scale + 1 ≡ length text → 0 < at → get_or text at 0 ≡ 46 → n < 2 ^ 128
+    → Some m ≡ read_on (2 ^ 128) 0 (take at text) → Some n ≡ read_on (2 ^ 128) m (drop (at + 1) text)
+    → Some n ≡ scaled_below (2 ^ 128) scale (before_point text) (behind_point text)
+scaled-few scale at n m text all some point fits first last =
+    let told = read_on-tells (2 ^ 128) 0 (take at text) m first in
+    let split = split_at at text (omega arith) point in
+    let before : before_point text ≡ take at text = ap before_point split ∙ before_digits (take at text) (drop (at + 1) text) told.0 in
+    let behind : behind_point text ≡ drop (at + 1) text = ap behind_point split ∙ behind_digits (take at text) (drop (at + 1) text) told.0 in
+    let many : 0 < length (take at text) = omega (arith, length-take at text) in
+    let few : length (drop (at + 1) text) ≡ scale = omega (arith, length-drop (at + 1) text) in
+    parts-few (2 ^ 128) scale m n (take at text) (drop (at + 1) text) many few fits first last
+    ∙ sym (ap (λ w. scaled_below (2 ^ 128) scale w (behind_point text)) before ∙ ap (λ f. scaled_below (2 ^ 128) scale (take at text) f) behind)

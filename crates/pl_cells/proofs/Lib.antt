@@ -1,3 +1,4 @@
+mod AsciiLaws
 pub mod BufferLaws
 pub mod CastLaws
 pub mod CutLaws

@@ -1,5 +1,5 @@
 //! Decimal numbers from text. No call takes memory.
-ghost use Rattle.std.specs.Prelude.{◌≡◌, ◌+◌, ◌++◌, ◌^◌, ◌≤◌, ◌-◌, length, neg_ℤ, pos, true, IfSome, unwrap_or, nat_lt, take, drop, Some};
+ghost use Rattle.std.specs.Prelude.{◌≡◌, ◌+◌, ◌++◌, ◌^◌, ◌<◌, ◌≤◌, ◌-◌, length, neg_ℤ, pos, true, IfSome, unwrap_or, nat_lt, take, drop, Some};
 ghost use Rattle.pl_frame.specs.Types.{is_readable_decimal, from_to, is_within, decimal_range};
 ghost use Rattle.pl_cells.specs.Integers.{is_negative, without_sign, signed, only_within};
 ghost use Rattle.pl_cells.specs.DecimalParts as parts;
@@ -204,6 +204,55 @@ fn limit_of(precision: Option<u32>, scale: u32) -> u128
     power_of_ten(precision.unwrap_or(38) as usize)
 }
 
+// The number of the digits that follow those of a number, where so few stand before them that 64 bits hold all.
+#[inline]
+fn read_few(number: u64, digits: &[u8], before: usize) -> Option<u64>
+    requires small { number < 10 ^ before }
+    requires few { before + length digits.now ≤ 18 }
+    ensures small { IfSome result (λ n. n < 10 ^ (before + length digits.now)) }
+    ensures is { IfSome result (λ n. Some n ≡ parts.read_on (2 ^ 128) number digits.now) }
+{
+    let mut all = number;
+    for byte in digits {
+        if !byte.is_ascii_digit() {
+            return None;
+        }
+        all = all * 10 + u64::from(*byte - b'0');
+    }
+    Some(all)
+}
+
+// The number of at most 18 digits, as many of which as the scale says stand behind the point. Other texts are left to
+// `scaled`.
+#[inline]
+fn scaled_few(digits: &[u8], scale: usize) -> Option<u64>
+    requires { scale ≤ 38 }
+    ensures { IfSome result (λ n. Some n ≡ scaled_below (2 ^ 128) scale (before_point digits.now) (behind_point digits.now)) }
+{
+    if digits.len() > 19 || digits.len() < scale + 2 {
+        return None;
+    }
+    let at = digits.len() - scale - 1;
+    if digits[at] != b'.' {
+        return None;
+    }
+    let number = read_few(0, &digits[..at], 0)?;
+    read_few(number, &digits[at + 1..], at)
+}
+
+// The number of digits with at most one point among them, times ten to the scale, where it fits 128 bits.
+#[inline]
+fn scaled_of(digits: &[u8], scale: usize) -> Option<u128>
+    requires { scale ≤ 38 }
+    ensures { result ≡ scaled_below (2 ^ 128) scale (before_point digits.now) (behind_point digits.now) }
+{
+    if let Some(number) = scaled_few(digits, scale) {
+        return Some(u128::from(number));
+    }
+    let (whole, fraction) = split_point(digits);
+    scaled(whole, fraction, scale)
+}
+
 /// The number that a text writes times ten to the scale: an optional sign and digits with at most one point among them, at
 /// least one digit in all. Digits past the scale must be zeros, and the result is below ten to the precision in size, or
 /// below 10^38 where that is not set.
@@ -215,8 +264,7 @@ pub fn parse_decimal(text: &[u8], precision: Option<u32>, scale: u32) -> Option<
     ensures within { IfSome result (λ n. is_within (decimal_range precision) n ≡ true) }
 {
     let (negative, digits) = split_sign(text);
-    let (whole, fraction) = split_point(digits);
-    let number = scaled(whole, fraction, scale as usize)?;
+    let number = scaled_of(digits, scale as usize)?;
     with_sign(negative, number, limit_of(precision, scale))
 }
 

@@ -8,6 +8,7 @@ pub mod Compression
 pub mod Dialect
 pub mod Equal
 pub mod EqualLaws
+pub mod Flags
 pub mod Frame
 pub mod FrameParts
 pub mod GatheredCells

@@ -254,9 +254,9 @@ impl Column {
         }
     }
 
-    // The numbers, where they are kept in 64 bits.
+    /// The numbers, where they are kept in 64 bits, without taking memory.
     #[inline]
-    pub(crate) fn narrow_numbers(&self) -> Option<&Numbers<i64>>
+    pub fn narrow_numbers(&self) -> Option<&Numbers<i64>>
         ensures { IfSome result (λ numbers. number_cells numbers.now ≡ self.now.values) }
     {
         match &self.kept {

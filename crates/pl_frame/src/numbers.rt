@@ -10,20 +10,23 @@ use std::marker::Model;
 pub struct Numbers<T> {
     values: Vec<T>,
     present: Vec<bool>,
+    /// Whether a null was put in. Where none was, every flag is set, and none is read.
+    has_null: bool,
 }
 
 impl<T> Model for Numbers<T> {
-    ghost use Rattle.std.specs.Prelude.{◌≡◌, List, Option, length};
+    ghost use Rattle.std.specs.Prelude.{List, Option};
+    ghost use Rattle.pl_frame.specs.Flags.{AreFlagged};
     ghost use Rattle.pl_frame.specs.Optional.{flagged};
 
     ghost Value = { List (Option T) };
 
     ghost view = { λ n. flagged n.values.items n.present.items };
 
-    ghost invariant = { λ n. length n.values.items ≡ length n.present.items };
+    ghost invariant = { λ n. AreFlagged n.values.items n.present.items n.has_null };
 }
 
-#[tactic(auto, using(crate::proofs::OptionalLaws::flags))]
+#[tactic(auto, using(crate::proofs::OptionalLaws::all_flags))]
 impl<T: Copy + Default> Numbers<T> {
     /// No numbers, without taking memory.
     pub fn new(alloc: Global) -> Self
@@ -32,6 +35,7 @@ impl<T: Copy + Default> Numbers<T> {
         Numbers {
             values: Vec::new(alloc),
             present: Vec::new(alloc),
+            has_null: false,
         }
     }
 
@@ -82,6 +86,7 @@ impl<T: Copy + Default> Numbers<T> {
         self.present.reserve(1)?;
         self.values.push_reserved(T::default());
         self.present.push_reserved(false);
+        self.has_null = true;
         Ok(())
     }
 
@@ -102,6 +107,7 @@ impl<T: Copy + Default> Numbers<T> {
         Ok(Numbers {
             values: copy_of(alloc, &self.values)?,
             present: copy_of(alloc, &self.present)?,
+            has_null: self.has_null,
         })
     }
 
@@ -111,7 +117,7 @@ impl<T: Copy + Default> Numbers<T> {
         requires { i < length self.now }
         ensures { slice_get self.now i ≡ Some result }
     {
-        if self.present[i] {
+        if !self.has_null || self.present[i] {
             Some(self.values[i])
         } else {
             None

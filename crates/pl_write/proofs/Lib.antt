@@ -8,6 +8,8 @@ pub mod KeptLaws
 mod LeftLaws
 mod LineLaws
 mod PaddedLaws
+mod PointLaws
 mod SpecialLaws
 mod TimeLaws
+mod WordLaws
 pub mod WriteLaws

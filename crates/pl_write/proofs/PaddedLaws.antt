@@ -1,6 +1,7 @@
 -- Numbers in a fixed number of digits.
-use Rattle.std.proofs.Common.{◌≡◌, ℕ, zero, suc, ◌+◌, ◌-◌, ◌/◌, ◌%◌, ◌^◌, ◌<◌, ◌≤◌, nat_le, Bool, true, false, List, [], ◌∷◌, ◌++◌, length, replicate, refl, sym, ◌∙◌, ap, arith, append_assoc, length-append}
+use Rattle.std.proofs.Common.{◌≡◌, ℕ, zero, suc, ◌+◌, ◌-◌, ◌/◌, ◌%◌, ◌^◌, ◌<◌, ◌≤◌, nat_le, Bool, true, false, List, [], ◌∷◌, ◌++◌, length, replicate, drop, refl, sym, ◌∙◌, ap, arith, append_assoc, length-append}
 use Rattle.std.specs.Prelude.{decimal}
+use Rattle.std.proofs.lemmas.List.{drop-append-le, drop-replicate, length-replicate}
 use Rattle.std.proofs.lemmas.Fmt.{decimal_digit, decimal_step, decimal_by_steps_wide}
 use Rattle.std.proofs.lemmas.Bool.Decides.{nat_tests}
 use Rattle.pl_frame.specs.Printed.{padded}
@@ -88,3 +89,35 @@ padded-nine n small =
 -- a number has a digit
 pub decimal_some : (n : ℕ) → n < 10 ^ 64 → 0 < length (decimal n)
 decimal_some n bound = decimal_by_steps_wide (λ k ds. 0 < length ds) (λ k small. omega (arith)) (λ k ds large some. omega (arith, some, length-append ds ((48 + k % 10) ∷ []))) n bound
+
+-- without some of the zeros in front
+pub padded-drop : (k w n : ℕ) → length (decimal n) + k ≤ w → drop k (padded w n) ≡ padded (w - k) n
+padded-drop k w n h =
+    let inside : k ≤ length (replicate (w - length (decimal n)) 48) = omega (arith, length-replicate {A = ℕ} (w - length (decimal n)) 48) in
+    let fewer : w - length (decimal n) - k ≡ w - k - length (decimal n) = omega arith in
+    drop-append-le k (replicate (w - length (decimal n)) 48) (decimal n) inside
+    ∙ ap (λ l. l ++ decimal n) (drop-replicate k (w - length (decimal n)) 48 ∙ ap (λ j. replicate j 48) fewer)
+
+-- no zeros in front
+pub padded-bare : (w n : ℕ) → w ≤ length (decimal n) → padded w n ≡ decimal n
+padded-bare w n h = let none : w - length (decimal n) ≡ 0 = omega arith in ap (λ j. replicate j 48 ++ decimal n) none
+
+-- the last digits of a number, and those in front of them
+pub decimal-onto_four : (n : ℕ) → n < 2 ^ 64 → 10000 ≤ n → decimal n ≡ decimal (n / 10000) ++ padded 4 (n % 10000)
+decimal-onto_four n bound large =
+    let one = decimal_step n (omega (arith, large)) bound in
+    let two = decimal_step (n / 10) (omega (arith, large)) (omega (arith, bound)) in
+    let three = decimal_step (n / 10 / 10) (omega (arith, large)) (omega (arith, bound)) in
+    let four = decimal_step (n / 10 / 10 / 10) (omega (arith, large)) (omega (arith, bound)) in
+    let front : n / 10 / 10 / 10 / 10 ≡ n / 10000 = omega arith in
+    let a : n % 10000 / 1000 ≡ n / 10 / 10 / 10 % 10 = omega arith in
+    let b : n % 10000 / 100 % 10 ≡ n / 10 / 10 % 10 = omega arith in
+    let d : n % 10000 / 10 % 10 ≡ n / 10 % 10 = omega arith in
+    let e : n % 10000 % 10 ≡ n % 10 = omega arith in
+    one ∙ ap (λ l. l ++ (48 + n % 10) ∷ []) (two ∙ ap (λ l. l ++ (48 + n / 10 % 10) ∷ []) (three ∙ ap (λ l. l ++ (48 + n / 10 / 10 % 10) ∷ []) four))
+    ∙ four_behind (decimal (n / 10 / 10 / 10 / 10)) (48 + n / 10 / 10 / 10 % 10) (48 + n / 10 / 10 % 10) (48 + n / 10 % 10) (48 + n % 10)
+    ∙ ap (λ k. decimal k ++ (48 + n / 10 / 10 / 10 % 10) ∷ (48 + n / 10 / 10 % 10) ∷ (48 + n / 10 % 10) ∷ (48 + n % 10) ∷ []) front
+    ∙ ap (λ l. decimal (n / 10000) ++ l) (sym (padded-four (n % 10000) (omega arith) ∙ rw (a, b, d, e) refl))
+  where
+    four_behind : (x : List ℕ) (a b c d : ℕ) → (((x ++ a ∷ []) ++ b ∷ []) ++ c ∷ []) ++ d ∷ [] ≡ x ++ a ∷ b ∷ c ∷ d ∷ []
+    four_behind x a b c d = simp append_assoc

@@ -1,10 +1,10 @@
 -- How the cells of a column are written, settled once for the column.
-use Rattle.std.specs.Prelude.{◌≡◌, ℤ, List, [], ◌∷◌}
+use Rattle.std.specs.Prelude.{◌≡◌, ℕ, ℤ, List, [], ◌∷◌, Option, None, Some}
 use Rattle.std.specs.Fmt.{signed_decimal}
 use Rattle.pl_frame.specs.declared.data_type.DataType.{DataType}
 use Rattle.pl_frame.specs.Frame.{ColumnValue}
 use Rattle.pl_frame.specs.Printed.{number_text}
-use Rattle.pl_frame.specs.Text.{WriteOptions, written_value}
+use Rattle.pl_frame.specs.Text.{WriteOptions, written_null, written_value}
 use Rattle.pl_frame.specs.Types.{is_numeric}
 use Rattle.pl_write.specs.declared.cell_form.CellForm.{CellForm}
 use Rattle.pl_write.specs.declared.cell_form.CellForm.TheVariants as form
@@ -21,3 +21,8 @@ HaveForms o [] [] = Unit {0}
 HaveForms o [] (form ∷ forms) = ⊥
 HaveForms o (column ∷ columns) [] = ⊥
 HaveForms o (column ∷ columns) (form ∷ forms) = FitsForm form o column.dtype × HaveForms o columns forms
+
+-- the digits of a number, or what stands for a null
+abbrev pub digits_or_null : WriteOptions → Option ℤ → List ℕ
+digits_or_null o None = written_null o
+digits_or_null o (Some n) = signed_decimal n

@@ -43,17 +43,6 @@ pub(crate) fn four_digits(n: u32) -> [u8; 4]
     ]
 }
 
-/// A number below a million in six digits.
-#[inline]
-pub(crate) fn six_digits(n: u32) -> [u8; 6]
-    requires { n < 1000000 }
-    ensures { result ≡ padded 6 n }
-{
-    let [a, b, c] = three_digits(n / 1000);
-    let [d, e, f] = three_digits(n % 1000);
-    [a, b, c, d, e, f]
-}
-
 /// A number below a thousand million in nine digits.
 #[inline]
 pub(crate) fn nine_digits(n: u32) -> [u8; 9]

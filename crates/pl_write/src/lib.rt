@@ -6,6 +6,7 @@ pub mod cells;
 pub mod csv_writer;
 mod dates;
 mod decimals;
+mod digit_words;
 mod digits;
 pub mod options;
 pub mod serializer;

@@ -7,7 +7,9 @@ ghost use Rattle.pl_frame.specs.Printed.{padded, clock_text, time_text, places_o
 ghost use Rattle.pl_write.specs.Writing.{StaysInFront};
 
 use crate::dates::push_date;
-use crate::digits::{nine_digits, six_digits, three_digits, two_digits};
+use crate::digit_words::{bytes_from, eight_digits};
+use crate::digits::{nine_digits, three_digits, two_digits};
+use crate::wholes::push_front;
 use pl_frame::data_type::TimeUnit;
 use std::alloc::AllocError;
 
@@ -98,6 +100,17 @@ fn push_second(block: &mut Vec<u8>, second: i64) -> Result<(), AllocError>
     push_clock(block, second_of_day(second))
 }
 
+// Appends a number in six digits.
+#[tactic(auto, using(crate::proofs::KeptLaws::keeping))]
+#[inline]
+fn push_six(block: &mut Vec<u8>, n: u32) -> Result<(), AllocError>
+    requires { n < 1000000 }
+    ensures text { OnOk result (block.new.items ≡ block.old.items ++ padded 6 n) }
+    ensures kept { StaysInFront block.old.items block.new.items }
+{
+    push_front(block, bytes_from(eight_digits(n), 2), 6)
+}
+
 // Appends what is less than a second.
 #[tactic(auto, using(crate::proofs::KeptLaws::keeping))]
 #[inline]
@@ -108,7 +121,7 @@ fn push_places(block: &mut Vec<u8>, unit: TimeUnit, rest: u32) -> Result<(), All
 {
     match unit {
         TimeUnit::Milliseconds => block.extend_from_slice(&three_digits(rest)),
-        TimeUnit::Microseconds => block.extend_from_slice(&six_digits(rest)),
+        TimeUnit::Microseconds => push_six(block, rest),
         TimeUnit::Nanoseconds => block.extend_from_slice(&nine_digits(rest)),
     }
 }
@@ -126,12 +139,16 @@ fn units_of(unit: TimeUnit) -> i64
     }
 }
 
-// The second at or below a count of units.
+// The second at or below a count of units. Each unit has an arm of its own, in which the divisor is known.
 #[inline]
 fn second_of(unit: TimeUnit, count: i64) -> i64
     ensures { result ≡ int_div_euclid count (pos (units_in_second unit)) }
 {
-    count.div_euclid(units_of(unit))
+    match unit {
+        TimeUnit::Milliseconds => count.div_euclid(1_000),
+        TimeUnit::Microseconds => count.div_euclid(1_000_000),
+        TimeUnit::Nanoseconds => count.div_euclid(1_000_000_000),
+    }
 }
 
 // The units of a count behind that second.
@@ -140,7 +157,11 @@ fn rest_of(unit: TimeUnit, count: i64) -> u32
     ensures value { result ≡ unsigned_abs (int_rem_euclid count (pos (units_in_second unit))) }
     ensures bound { result < units_in_second unit }
 {
-    count.rem_euclid(units_of(unit)) as u32
+    match unit {
+        TimeUnit::Milliseconds => count.rem_euclid(1_000) as u32,
+        TimeUnit::Microseconds => count.rem_euclid(1_000_000) as u32,
+        TimeUnit::Nanoseconds => count.rem_euclid(1_000_000_000) as u32,
+    }
 }
 
 // Appends a datetime whose count fits 64 bits.

@@ -1,5 +1,5 @@
 //! The text of a frame, written in blocks.
-ghost use Rattle.std.specs.Prelude.{◌≡◌, true, ◌<◌, ◌++◌, ◌≤◌, [], length, OnOk, IsErrOf, if◌then◌else◌};
+ghost use Rattle.std.specs.Prelude.{◌≡◌, true, ◌<◌, ◌++◌, ◌≤◌, [], length, None, unwrap_or, slice_get, OnOk, IsErrOf, if◌then◌else◌};
 ghost use Rattle.std.specs.Io.KnownBytes.{Appends};
 ghost use Rattle.pl_frame.specs.Causes.{Rose};
 ghost use Rattle.pl_frame.specs.Columns.{is_number_of};
@@ -8,7 +8,7 @@ ghost use Rattle.pl_frame.specs.Frame.{cell_at, HaveHeight, height_of, names_of}
 ghost use Rattle.pl_frame.specs.Printed.{number_text};
 ghost use Rattle.pl_frame.specs.Text.{written_cell, written_value, written_text, row_line, header_line, head_text, byte_order_mark, text_of_frame};
 ghost use Rattle.pl_write.specs.Options.{cell_options, frame_options};
-ghost use Rattle.pl_write.specs.CellForms.{FitsForm, HaveForms};
+ghost use Rattle.pl_write.specs.CellForms.{FitsForm, HaveForms, digits_or_null};
 ghost use Rattle.pl_write.specs.declared.cell_form.CellForm.TheVariants as CellForm;
 ghost use Rattle.pl_write.specs.Writing.{separator_before, HasRow, AppendsPrefix, StaysInFront};
 
@@ -16,9 +16,10 @@ use crate::cell_form::{CellForm, forms_of};
 use crate::options::{CsvWriterOptions, SerializeOptions};
 use crate::texts::{push_as_needed, push_null, push_text};
 use crate::values::{push_number_cell, push_truth_cell};
-use crate::wholes::push_whole;
+use crate::wholes::{push_narrow, push_whole};
 use pl_frame::column::{Column, Value};
 use pl_frame::data_type::DataType;
+use pl_frame::numbers::Numbers;
 use pl_frame::sink::{Sink, SinkFault, write_all};
 use std::alloc::{AllocError, Global};
 
@@ -67,10 +68,10 @@ fn push_number_in(
     }
 }
 
-// Appends the text of a cell, in the form of its column.
+// Appends the text of a cell of any column, in its form.
 #[tactic(auto, using(crate::proofs::KeptLaws::keeping))]
 #[inline]
-pub(crate) fn push_cell(
+fn push_value(
     block: &mut Vec<u8>,
     scratch: &mut Vec<u8>,
     column: &Column,
@@ -91,6 +92,47 @@ pub(crate) fn push_cell(
             push_number_in(block, scratch, column.dtype(), form, number, options)
         }
     }
+}
+
+// Appends the digits of a number kept in 64 bits, or what stands for a null.
+#[tactic(auto, using(crate::proofs::KeptLaws::keeping))]
+#[inline]
+fn push_narrow_cell(
+    block: &mut Vec<u8>,
+    numbers: &Numbers<i64>,
+    row: usize,
+    options: &SerializeOptions,
+) -> Result<(), AllocError>
+    requires { row < length numbers.now }
+    ensures text { OnOk result (block.new.items ≡ block.old.items ++ digits_or_null (cell_options options.now) (unwrap_or (slice_get numbers.now row) None)) }
+    ensures kept { StaysInFront block.old.items block.new.items }
+{
+    match numbers.get(row) {
+        Some(number) => push_narrow(block, number),
+        None => push_null(block, options),
+    }
+}
+
+// Appends the text of a cell, in the form of its column.
+#[tactic(auto, using(crate::proofs::KeptLaws::keeping))]
+#[inline]
+pub(crate) fn push_cell(
+    block: &mut Vec<u8>,
+    scratch: &mut Vec<u8>,
+    column: &Column,
+    form: CellForm,
+    row: usize,
+    options: &SerializeOptions,
+) -> Result<(), AllocError>
+    requires row { row < length column.now.values }
+    requires form { FitsForm form (cell_options options.now) column.now.dtype }
+    ensures text { OnOk result (block.new.items ≡ block.old.items ++ written_cell (cell_options options.now) column.now.dtype (cell_at column.now row)) }
+    ensures kept { StaysInFront block.old.items block.new.items }
+{
+    if let (CellForm::Digits, Some(numbers)) = (form, column.narrow_numbers()) {
+        return push_narrow_cell(block, numbers, row, options);
+    }
+    push_value(block, scratch, column, form, row, options)
 }
 
 // Appends a separator, but before the first of a line.

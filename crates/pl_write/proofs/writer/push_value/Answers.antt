@@ -4,7 +4,7 @@ use Rattle.std.proofs.lemmas.Int.{to_z-of_z}
 use Rattle.pl_write.specs.Options.{cell_options}
 use Rattle.pl_write.specs.CellForms.{FitsForm}
 use Rattle.pl_write.proofs.HeldLaws.{held_number}
-use Rattle.pl_write.proofs.writer.push_cell.Goals as goal
+use Rattle.pl_write.proofs.writer.push_value.Goals as goal
 
 pub push_number_in-requires-clause-range : goal.push_number_in-requires-clause-range
 push_number_in-requires-clause-range c =

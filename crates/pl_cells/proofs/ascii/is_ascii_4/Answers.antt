@@ -1,0 +1,6 @@
+use Rattle.std.proofs.Common.{arith}
+use Rattle.pl_cells.proofs.AsciiLaws.{ascii_from_lanes}
+use Rattle.pl_cells.proofs.ascii.is_ascii_4.Goals as goal
+
+pub returns : goal.returns
+returns c = ascii_from_lanes c.args.text.now c.args.at 4 c.requires (omega arith)

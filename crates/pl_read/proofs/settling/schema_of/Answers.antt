@@ -1,0 +1,23 @@
+use Rattle.std.proofs.Common.{◌≡◌, sym, ◌∙◌, subst}
+use Rattle.std.specs.Prelude.{IfOk, OnOk, IfErr, None}
+use Rattle.pl_infer.specs.Causes.{IsFault}
+use Rattle.pl_read.proofs.DataLaws.{may-apart}
+use Rattle.pl_read.proofs.SettlingLaws.{schema-given, cause-given, schema-inferred, cause-inferred}
+use Rattle.pl_read.proofs.settling.schema_of.Goals as goal
+
+pub inferred_schema-requires : goal.inferred_schema-requires
+inferred_schema-requires c = may-apart c.args.options.now c.requires
+
+pub returns-in-Some : goal.returns-in-Some
+returns-in-Some c = ?
+
+pub returns-in-None : goal.returns-in-None
+returns-in-None c =
+    let o = c.args.options.now in
+    let input = c.args.input.now in
+    let result = c.inferred_schema.result in
+    record {
+      schema = subst (λ is. IfOk result (λ schema. schema ≡ is)) (sym (schema-inferred o input c.in-None.is)) c.inferred_schema.ensures.inferred;
+      sound = subst (λ is. OnOk result (is ≡ None)) (sym (cause-inferred o input c.in-None.is)) c.inferred_schema.ensures.sound;
+      refused = subst (λ is. IfErr result (IsFault is)) (sym (cause-inferred o input c.in-None.is)) c.inferred_schema.ensures.refused;
+    }

@@ -1,6 +1,6 @@
 -- The settled schema, and what stands against it.
-use Rattle.std.proofs.Common.{◌≡◌, ℕ, zero, suc, ◌<◌, ◌≤◌, List, [], ◌∷◌, length, take, get_or, refl, sym, ◌∙◌, ap, subst, arith, nat_lt, true, false}
-use Rattle.std.specs.Prelude.{Option, None, Some, slice_get, unwrap_or}
+use Rattle.std.proofs.Common.{◌≡◌, ℕ, zero, suc, ◌<◌, ◌≤◌, List, [], ◌∷◌, length, take, get_or, refl, sym, ◌∙◌, ap, subst, inr, arith, nat_lt, true, false}
+use Rattle.std.specs.Prelude.{Option, None, Some, Result, Ok, Err, IfOk, OnOk, IfErr, IsOkUnless, slice_get, unwrap_or}
 use Rattle.std.specs.Option.{option_map}
 use Rattle.std.proofs.lemmas.Bool.{lt-ltb, le-ltb}
 use Rattle.pl_frame.specs.declared.data_type.DataType.{DataType}
@@ -71,6 +71,19 @@ schema-given o input given is = ap (λ (s : Option (List Entry)). unwrap_or s (i
 pub cause-given : (o : CsvReadOptions) (input : List ℕ) (given : List Entry) → o.schema ≡ Some given → schema_cause o input ≡ None
 cause-given o input given is =
     ap (λ (s : Option (List Entry)). first_some (unless_given s (empty (inference_of o) input) ∷ unless_given s (repeated (schema_of o input)) ∷ [])) is
+
+-- a copy of it, or want of memory
+pub copy-schema : (o : CsvReadOptions) (input : List ℕ) (given : List Entry) (result : Result (List Entry) PolarsError) → o.schema ≡ Some given → IfOk result (λ copy. copy ≡ given) → IfOk result (λ schema. schema ≡ schema_of o input)
+copy-schema o input given (Ok copy) is same = same ∙ sym (schema-given o input given is)
+copy-schema o input given (Err fault) is same = tt
+
+pub copy-sound : (o : CsvReadOptions) (input : List ℕ) (given : List Entry) (result : Result (List Entry) PolarsError) → o.schema ≡ Some given → OnOk result (schema_cause o input ≡ None)
+copy-sound o input given (Ok copy) is = cause-given o input given is
+copy-sound o input given (Err fault) is = tt
+
+pub copy-refused : (cause : Option PolarsError) (result : Result (List Entry) PolarsError) → IsOkUnless result error.OutOfMemory → IfErr result (IsFault cause)
+copy-refused cause (Ok copy) wanting = tt
+copy-refused cause (Err fault) wanting = inr wanting
 
 -- or none
 pub schema-inferred : (o : CsvReadOptions) (input : List ℕ) → o.schema ≡ None → schema_of o input ≡ inferred (inference_of o) input

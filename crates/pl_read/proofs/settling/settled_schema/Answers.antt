@@ -6,7 +6,7 @@ use Rattle.pl_read.proofs.SettlingLaws.{settling-early, settling-late}
 use Rattle.pl_read.proofs.settling.settled_schema.Goals as goal
 
 pub returns-in_err-schema : goal.returns-in_err-schema
-returns-in_err-schema c = ?
+returns-in_err-schema c = record { settled = tt; sound = tt; refused = settling-early c.args.options.now c.args.input.now _ c.in_err-schema.ensures.refused }
 
 pub returns : goal.returns
 returns c =

@@ -7,8 +7,8 @@ use Rattle.pl_schema.specs.Inference.{Inference, inferred, inference_causes}
 use Rattle.pl_schema.specs.declared.inference_result.SchemaInferenceResult.{SchemaInferenceResult}
 use Rattle.pl_read.proofs.settling.inferred_schema.Goals as goal
 
-pub infer_schema-requires-clause-apart : goal.infer_schema-requires-clause-apart
-infer_schema-requires-clause-apart c = subst (λ (i : Inference). AreDistinct (marks_of i.parse)) (sym c.of-inference.ensures) c.requires
+pub infer_schema-requires : goal.infer_schema-requires
+infer_schema-requires c = record { apart = subst (λ (i : Inference). AreDistinct (marks_of i.parse)) (sym c.of-inference.ensures) c.requires }
 
 pub returns-in-Ok : goal.returns-in-Ok
 returns-in-Ok c =

@@ -57,6 +57,7 @@ record-none i record_there e = ap (λ (r : Option (List ℕ)). length (option_ma
 
 -- as many columns as names
 length-inferred : (i : Inference) (input : List ℕ) → length (inferred i input) ≡ length (names_of i input)
+unfolding inferred
 length-inferred i input = length-columns i.overwrite (names_of i input) (types_of_names i (names_of i input) (data_in i input))
 
 length-settled : (o : CsvReadOptions) (input : List ℕ) → o.schema ≡ None → length (settled_schema o input) ≡ length (names_of (inference_of o) input)

@@ -80,6 +80,7 @@ module _ (i : Inference) (rules : EvidenceRules) (names : List (List ℕ)) (reco
 -- the columns of the names and the types of an input
 pub columns-are : (i : Inference) (input : List ℕ) (names : List (List ℕ)) (types : List DataType) (records : List ℕ) → names ≡ names_of i input → records ≡ data_in i input → types ≡ types_of_names i names records
     → overwritten_columns i.overwrite names types ≡ inferred i input
+unfolding inferred
 columns-are i input names types records names_are records_are types_are =
     ap (overwritten_columns i.overwrite names) types_are
     ∙ ap (λ left. overwritten_columns i.overwrite names (types_of_names i names left)) records_are

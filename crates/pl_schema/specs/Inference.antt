@@ -107,7 +107,7 @@ abbrev pub overwritten_columns : List Entry → List (List ℕ) → List DataTyp
 overwritten_columns other names types = map (overwritten_at other names types) (range_with_len 0 (length names))
 
 -- the columns of an input, by their first record and their sample
-abbrev pub inferred : Inference → List ℕ → List Entry
+unfoldable pub inferred : Inference → List ℕ → List Entry
 inferred i input =
     let names = names_of i input in
     overwritten_columns i.overwrite names (types_of_names i names (data_in i input))

@@ -1,5 +1,5 @@
 //! The examples of docs/library.md, word for word.
-ghost use Rattle.std.specs.Prelude.{◌≡◌, None, IfOk, IsSome};
+ghost use Rattle.std.specs.Prelude.{◌≡◌, None, IfOk};
 
 #[cfg(test)]
 mod tests {
@@ -13,7 +13,7 @@ mod tests {
     use pl_frame::source::MemSource;
     use pl_infer::column_lists::ColumnNames;
     use pl_infer::read_options::CsvReadOptions;
-    use pl_read::csv_reader::SerReader;
+    use pl_read::csv_reader::{CsvReader, SerReader};
     use pl_read::reader_makers::ReaderMakers;
     use pl_write::csv_writer::{CsvWriter, SerWriter};
     use std::alloc::Global;
@@ -22,8 +22,7 @@ mod tests {
 
     // A read of the columns `id`, `name` and `amount`.
     fn orders(alloc: Global) -> Result<CsvReadOptions, Fail>
-        ensures schema { IfOk result (λ options. IsSome options.schema) }
-        ensures path { IfOk result (λ options. options.path ≡ None) }
+        ensures { IfOk result (λ options. options.path ≡ None) }
     {
         let mut schema = Schema::new(alloc);
         schema.with_column(PlSmallStr::from_str(alloc, "id")?, DataType::Int64)?;
@@ -53,6 +52,19 @@ mod tests {
         let frame = reader.finish()?;
         fs::remove_file(&rt, "/tmp/pl_csv_orders.csv")?;
         assert_eq!(rt; (frame.height(), frame.width()), (2, 3));
+        Ok(())
+    }
+
+    #[test]
+    fn read_without_a_schema(rt: HostRuntime) -> Result<(), Fail> {
+        let alloc = rt.alloc();
+        let source = MemSource::new(b"id,name\n1,Anna\n2,\n");
+        let mut reader = CsvReader::new(alloc, source);
+        let frame = reader.finish()?;
+        for (column, name) in frame.columns().iter().zip(["id", "name"]) {
+            assert_eq!(rt; column.name(), name);
+        }
+        assert_eq!(rt; (frame.height(), frame.width()), (2, 2));
         Ok(())
     }
 

@@ -4,9 +4,10 @@ use Rattle.std.specs.Prelude.{Option, None, Some}
 use Rattle.pl_frame.specs.declared.error.PolarsError.{PolarsError}
 use Rattle.pl_frame.specs.Schema.{Entry}
 use Rattle.pl_infer.specs.declared.read_options.CsvReadOptions.{CsvReadOptions}
-use Rattle.pl_read.specs.Reading.{IsFirstCause, IsRefusal, IsReadFault}
-use Rattle.pl_read.specs.Refusals.{first_some, early_causes, late_causes, read_causes}
-use Rattle.pl_read.specs.Steps.{IsFault, MayRead, late_cause}
+use Rattle.pl_infer.specs.Causes.{IsFirstCause, first_some, IsFault}
+use Rattle.pl_read.specs.Reading.{IsRefusal, IsReadFault}
+use Rattle.pl_read.specs.Refusals.{early_causes, late_causes, read_causes}
+use Rattle.pl_read.specs.Steps.{MayRead, late_cause}
 
 -- of one cause
 pub first_some-one : {X : Type 0} (x : Option X) → first_some (x ∷ []) ≡ x

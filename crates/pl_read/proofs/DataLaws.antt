@@ -40,11 +40,13 @@ use Rattle.pl_rows.specs.Rows.{Row, rows, first_faulty}
 use Rattle.pl_rows.proofs.FrameLaws.{IsFrame-rows}
 use Rattle.pl_rows.proofs.RangeLaws.{rows-nil}
 use Rattle.pl_rows.proofs.WholeLaws.{judged-last, sound-all, none-first, fault-first}
-use Rattle.pl_read.specs.Options.{marks_of, comment_of, rules_of}
+use Rattle.pl_infer.specs.Causes.{when, first_some, Tells}
+use Rattle.pl_infer.specs.Text.{marks_of, comment_of}
+use Rattle.pl_schema.specs.Schemas.{first_unreadable}
+use Rattle.pl_read.specs.Options.{rules_of}
 use Rattle.pl_read.specs.Projection.{projected, has_projected, taken_name}
-use Rattle.pl_read.specs.Refusals.{when, first_some, early_causes, first_unreadable, nothing_read, faulty_record, index_past}
+use Rattle.pl_read.specs.Refusals.{early_causes, nothing_read, faulty_record, index_past}
 use Rattle.pl_read.specs.Rows.{columns_read, rows_in, data_columns, with_index, data_frame}
-use Rattle.pl_read.specs.Reading.{Tells}
 use Rattle.pl_read.specs.Steps.{data_cause, IsPlanOf, MayRead}
 use Rattle.pl_read.proofs.PlaceLaws.{readable_at}
 use Rattle.pl_read.proofs.ProjectionLaws.{taken}

@@ -9,3 +9,4 @@ pub mod ReaderLaws
 pub mod LimitLaws
 pub mod SelectionLaws
 pub mod PrefixLaws
+pub mod EmptyLaws

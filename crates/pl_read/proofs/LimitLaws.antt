@@ -26,9 +26,12 @@ use Rattle.pl_rows.specs.Columns.{read_column, entries_in, frame_of_rows}
 use Rattle.pl_rows.specs.Plan.{Columns}
 use Rattle.pl_rows.specs.Ranges.{limited}
 use Rattle.pl_rows.specs.Rows.{Row, rows, field_at, first_fault, first_faulty}
-use Rattle.pl_read.specs.Options.{marks_of, comment_of, data_of, rules_of}
+use Rattle.pl_infer.specs.Causes.{when, first_some}
+use Rattle.pl_infer.specs.Text.{marks_of, comment_of}
+use Rattle.pl_schema.specs.Schemas.{is_categorical}
+use Rattle.pl_read.specs.Options.{data_of, rules_of}
 use Rattle.pl_read.specs.Projection.{projected}
-use Rattle.pl_read.specs.Refusals.{when, first_some, numbers_past, is_categorical, codes_past, index_past, faulty_record, read_causes}
+use Rattle.pl_read.specs.Refusals.{numbers_past, codes_past, index_past, faulty_record, read_causes}
 use Rattle.pl_read.specs.Rows.{columns_read, rows_in, data_columns, with_index}
 use Rattle.pl_read.specs.Laws.{unlimited, LimitTakesFirstRows}
 use Rattle.pl_read.proofs.CauseLaws.{first_some-late, first_some-front, first_some-rest, first_some-behind}
@@ -150,7 +153,7 @@ index_past-fewer index rules n given columns none =
 
 -- the causes that stand before the rows
 abbrev before_rows : CsvReadOptions → List Entry → List ℕ → Bool → List (Option PolarsError)
-before_rows o schema input is_dialect = take 10 (read_causes o schema input is_dialect)
+before_rows o schema input is_dialect = take 12 (read_causes o schema input is_dialect)
 
 -- the causes that stand in the rows
 abbrev in_rows : CsvReadOptions → List Entry → Option (List ℕ) → List (Option PolarsError)

@@ -12,7 +12,7 @@ use Rattle.pl_frame.proofs.ColumnLaws.{position-found, position-nowhere}
 use Rattle.pl_frame.proofs.SchemaLaws.{none_passes}
 use Rattle.pl_cells.specs.InitBuffers.{entry_at, empty_buffer, empty_buffers, IsTypeFault}
 use Rattle.pl_cells.specs.InitBuffers as cells
-use Rattle.pl_read.specs.Refusals.{types_of, first_unreadable}
+use Rattle.pl_schema.specs.Schemas.{types_of, first_unreadable}
 
 -- none of the numbers passes
 find-range : (p : ℕ → Bool) (a n : ℕ) → ((k : ℕ) → k < n → p (a + k) ≡ false) → find p (range_with_len a n) ≡ None

@@ -1,6 +1,6 @@
 -- What a limited read depends on.
-use Rattle.std.proofs.Common.{◌≡◌, ℕ, zero, suc, ◌<◌, Bool, true, false, ◌&&◌, ◌==◌, List, [], ◌∷◌, ◌++◌, length, take, refl, sym, ◌∙◌, ap, subst, arith, nat_lt, length-append}
-use Rattle.std.specs.Prelude.{◌≢◌, ◌↔◌, Option, None, Some, unwrap_or, is_none}
+use Rattle.std.proofs.Common.{◌≡◌, ℕ, zero, suc, ◌<◌, Bool, true, false, ◌&&◌, ◌==◌, List, [], ◌∷◌, ◌++◌, length, take, drop, refl, sym, ◌∙◌, ap, subst, arith, nat_lt, length-append}
+use Rattle.std.specs.Prelude.{◌≢◌, ◌↔◌, Option, None, Some, IsSome, unwrap_or, is_none}
 use Rattle.std.specs.List.{filter_map}
 use Rattle.std.specs.Option.{option_map, option_and_then}
 use Rattle.std.proofs.lemmas.Bool.Decides.{nat_tests}
@@ -26,10 +26,14 @@ use Rattle.pl_rows.specs.Columns.{entries_in, frame_of_rows}
 use Rattle.pl_rows.specs.Ranges.{limited}
 use Rattle.pl_rows.specs.Rows.{Row, row_of, rows, first_faulty}
 use Rattle.pl_read.specs.Laws.{HoldsLines, behind_line, Decides, LimitedReadDependsOnPrefix}
-use Rattle.pl_read.specs.Options.{marks_of, comment_of, skips_of, keeps_ends, data_of, rules_of}
+use Rattle.pl_infer.specs.Causes.{Tells, IsFirstCause, when, first_some}
+use Rattle.pl_infer.specs.Text.{marks_of, comment_of, skips_of}
+use Rattle.pl_schema.specs.Schemas.{unreadable}
+use Rattle.pl_read.specs.Options.{keeps_ends, data_of, rules_of}
 use Rattle.pl_read.specs.Projection.{projected}
-use Rattle.pl_read.specs.Reading.{Tells, IsFirstCause, IsRead, frame_of}
-use Rattle.pl_read.specs.Refusals.{when, first_some, overrides, unreadable, unknown, out_of_bounds, duplicate, nothing_read, faulty_record, index_past, early_causes, read_causes}
+use Rattle.pl_read.specs.Reading.{IsRead, frame_of}
+use Rattle.pl_schema.specs.Inference.{inference_of, empty, repeated}
+use Rattle.pl_read.specs.Refusals.{unless_given, late_causes, overrides, unknown, out_of_bounds, duplicate, nothing_read, faulty_record, index_past, early_causes, read_causes}
 use Rattle.pl_read.specs.Rows.{columns_read, rows_in, data_columns, with_index, data_frame}
 
 -- ---- rows
@@ -94,11 +98,13 @@ rows-decided o n b rest is dialect decides =
 
 -- ---- the causes
 
--- the causes against a read, given whether the marks are a dialect, whether the input begins with the mark of a compressed
--- stream, and what is left as data
+-- the causes against a read whose schema is given: whether the marks are a dialect, whether the input begins with the mark of a
+-- compressed stream, and what is left as data
 abbrev causes_by : CsvReadOptions → List Entry → Bool → Bool → Option (List ℕ) → List (Option PolarsError)
 causes_by o schema is_dialect compressed some =
     early_causes o is_dialect ++ (when compressed (error.ComputeError compute_fault.Compressed)
+    ∷ None
+    ∷ None
     ∷ overrides o schema
     ∷ unreadable schema
     ∷ unknown o schema
@@ -114,6 +120,8 @@ causes_by o schema is_dialect compressed some =
 abbrev causes_in : CsvReadOptions → List Entry → Bool → Bool → Bool → List Row → List (Option PolarsError)
 causes_in o schema is_dialect compressed some given =
     early_causes o is_dialect ++ (when compressed (error.ComputeError compute_fault.Compressed)
+    ∷ None
+    ∷ None
     ∷ overrides o schema
     ∷ unreadable schema
     ∷ unknown o schema
@@ -132,15 +140,29 @@ more-bytes records rest some =
     let long : nat_lt 0 (length (records ++ rest)) ≡ true = grind (arith, nat_tests) in
     long ∙ sym now
 
-causes-decided : (o : CsvReadOptions) (n : ℕ) (schema : List Entry) (b rest : List ℕ) (d : Bool) → o.n_rows ≡ Some n → IsDialect (marks_of o.parse_options) (comment_of o.parse_options) → Decides o n b
+-- those of such a read
+causes-given : (o : CsvReadOptions) (schema : List Entry) (input : List ℕ) (d : Bool) → IsSome o.schema → read_causes o schema input d ≡ causes_by o schema d (is_compressed input) (data_of o input)
+causes-given o schema input d given = by o.schema refl given
+  where
+    by : (s : Option (List Entry)) → o.schema ≡ s → IsSome s → read_causes o schema input d ≡ causes_by o schema d (is_compressed input) (data_of o input)
+    by None e some = absurd (cc)
+    by (Some entries) e some =
+        ap (λ (s : Option (List Entry)). early_causes o d ++ (when (is_compressed input) (error.ComputeError compute_fault.Compressed)
+        ∷ unless_given s (empty (inference_of o) input)
+        ∷ unless_given s (repeated schema)
+        ∷ drop 3 (late_causes o schema input))) e
+
+causes-decided : (o : CsvReadOptions) (n : ℕ) (schema : List Entry) (b rest : List ℕ) (d : Bool) → IsSome o.schema → o.n_rows ≡ Some n → IsDialect (marks_of o.parse_options) (comment_of o.parse_options) → Decides o n b
     → is_compressed (b ++ rest) ≡ is_compressed b → read_causes o schema (b ++ rest) d ≡ read_causes o schema b d
-causes-decided o n schema b rest d is dialect decides compressed =
+causes-decided o n schema b rest d given is dialect decides compressed =
     let records : List ℕ = decides.records in
-    ap (λ t. causes_by o schema d t (data_of o (b ++ rest))) compressed
+    causes-given o schema (b ++ rest) d given
+    ∙ ap (λ t. causes_by o schema d t (data_of o (b ++ rest))) compressed
     ∙ ap (causes_by o schema d (is_compressed b)) (data-append o n b rest dialect decides)
     ∙ ap (λ t. causes_in o schema d (is_compressed b) t (rows_in o (records ++ rest))) (more-bytes records rest (some-records o n b decides))
     ∙ ap (causes_in o schema d (is_compressed b) (nat_lt 0 (length records))) (rows-decided o n b rest is dialect decides)
     ∙ ap (causes_by o schema d (is_compressed b)) (sym decides.start)
+    ∙ sym (causes-given o schema b d given)
 
 frame-decided : (o : CsvReadOptions) (n : ℕ) (schema : List Entry) (b rest : List ℕ) → o.n_rows ≡ Some n → IsDialect (marks_of o.parse_options) (comment_of o.parse_options) → Decides o n b
     → frame_of o schema (b ++ rest) ≡ frame_of o schema b
@@ -164,10 +186,10 @@ dialect-read o schema input first = by first.is_dialect first.tells first.is
 
 -- a read of an input that begins with a text that decides it
 pub limited-prefix : LimitedReadDependsOnPrefix
-limited-prefix o n schema b rest is decides compressed = (read, λ refusal. (forth (Some refusal), back (Some refusal)))
+limited-prefix o n schema b rest given is decides compressed = (read, λ refusal. (forth (Some refusal), back (Some refusal)))
   where
     by : (d : Bool) → Tells d (IsDialect (marks_of o.parse_options) (comment_of o.parse_options)) → first_some (read_causes o schema (b ++ rest) d) ≡ first_some (read_causes o schema b d)
-    by true dialect = ap first_some (causes-decided o n schema b rest true is dialect decides compressed)
+    by true dialect = ap first_some (causes-decided o n schema b rest true given is dialect decides compressed)
     by false other = refl
 
     forth : (first : Option PolarsError) → IsFirstCause (read_causes o schema b) o.parse_options first → IsFirstCause (read_causes o schema (b ++ rest)) o.parse_options first

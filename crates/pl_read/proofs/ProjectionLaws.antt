@@ -22,7 +22,8 @@ use Rattle.pl_rows.specs.Plan.{AreRising}
 use Rattle.pl_rows.proofs.PlanLaws.{places-more, rising-below}
 use Rattle.pl_read.specs.declared.projecting.Times.TheVariants as times
 use Rattle.pl_read.specs.Projection.{greater, greatest, asked, doubled, doubled_name, outside, projected, has_projected, taken_name, times_asked}
-use Rattle.pl_read.specs.Steps.{IsFault, once_more, is_asked, is_more, times_of, all_times, projection_cause}
+use Rattle.pl_infer.specs.Causes.{IsFault}
+use Rattle.pl_read.specs.Steps.{once_more, is_asked, is_more, times_of, all_times, projection_cause}
 use Rattle.pl_read.specs.Refusals.{out_of_bounds, duplicate}
 use Rattle.pl_read.proofs.CauseLaws.{first_some-one, first_some-behind, first_some-here}
 

@@ -25,9 +25,10 @@ use Rattle.pl_rows.specs.Columns.{read_column, entries_in, columns_in, frame_of_
 use Rattle.pl_rows.specs.Plan.{Columns}
 use Rattle.pl_rows.specs.Rows.{Row, column_fault, excess_fault, passes_excess, first_or, first_fault, first_faulty}
 use Rattle.pl_read.specs.Laws.{unprojected, selected, ProjectionSelects}
+use Rattle.pl_infer.specs.Causes.{when, first_some}
 use Rattle.pl_read.specs.Options.{data_of, rules_of}
 use Rattle.pl_read.specs.Projection.{times_asked, asked, projected, unknown_column, doubled, doubled_name, has_projected, taken_name}
-use Rattle.pl_read.specs.Refusals.{when, first_some, unknown, out_of_bounds, duplicate, nothing_read, faulty_record, numbers_past, codes_past, index_past, read_causes}
+use Rattle.pl_read.specs.Refusals.{unknown, out_of_bounds, duplicate, nothing_read, faulty_record, numbers_past, codes_past, index_past, read_causes}
 use Rattle.pl_read.specs.Rows.{rows_in, data_columns, with_index}
 use Rattle.pl_read.proofs.CauseLaws.{first_some-one, first_some-behind, first_some-front, first_some-rest}
 use Rattle.pl_read.proofs.ProjectionLaws.{greatest-none, asked-below, none-passing}
@@ -305,6 +306,7 @@ projection-selects o schema input frame is (first, frame_is) =
     let rules : RowRules = rules_of o schema in
     let causes = each-none (read_causes (unprojected o) schema input first.is_dialect) (sym first.is) in
     let late = causes.1.1 in
+    let types = late.1.1.1 in
     let within : out_of_bounds o schema ≡ None = ap (option_map (λ place. error.OutOfBounds place (length schema))) is.within in
     let full : projected o schema ≢ [] = some-projected (asked o schema) (length schema) is.some (greatest-none (filter (nat_le (length schema)) (asked o schema)) is.within) in (
       record {
@@ -312,7 +314,7 @@ projection-selects o schema input frame is (first, frame_is) =
         tells = first.tells;
         is = sym (none-first (read_causes o schema input first.is_dialect) (
           causes.0,
-          (causes.1.0, (late.0, (late.1.0, (late.1.1.0, (unknown-kept o schema is.known late.1.1.1.0, (late.1.1.1.1.0, (within, (duplicate-kept o schema is.once late.1.1.1.1.1.1.0, (something-read o schema (data_of o input) full, (faulty-kept o schema (data_of o input) late.1.1.1.1.1.1.1.1.0, (index-kept o schema (data_of o input) late.1.1.1.1.1.1.1.1.1.0, tt))))))))))),
+          (causes.1.0, (late.0, (late.1.0, (late.1.1.0, (types.0, (types.1.0, (unknown-kept o schema is.known types.1.1.0, (types.1.1.1.0, (within, (duplicate-kept o schema is.once types.1.1.1.1.1.0, (something-read o schema (data_of o input) full, (faulty-kept o schema (data_of o input) types.1.1.1.1.1.1.1.0, (index-kept o schema (data_of o input) types.1.1.1.1.1.1.1.1.0, tt))))))))))))),
         ));
       },
       ap (selected o.row_index (projected o schema)) (frame_is ∙ ap (λ places. with_index o.row_index (length given) (frame_of_rows rules (entries_in schema places) given)) (all-projected o schema))

@@ -1,16 +1,23 @@
--- Types in place of the first ones of a schema.
-use Rattle.std.proofs.Common.{◌≡◌, ℕ, zero, suc, ◌<◌, ◌≤◌, List, [], ◌∷◌, length, take, get_or, refl, sym, ◌∙◌, ap, arith, nat_lt, true, false}
-use Rattle.std.specs.Prelude.{Option, None, Some, slice_get, unwrap_or}
+-- The settled schema, and what stands against it.
+use Rattle.std.proofs.Common.{◌≡◌, ℕ, zero, suc, ◌<◌, ◌≤◌, List, [], ◌∷◌, length, take, get_or, refl, sym, ◌∙◌, ap, subst, inr, arith, nat_lt, true, false}
+use Rattle.std.specs.Prelude.{Option, None, Some, Result, Ok, Err, IfOk, OnOk, IfErr, IsOkUnless, slice_get, unwrap_or}
+use Rattle.std.specs.Option.{option_map}
 use Rattle.std.proofs.lemmas.Bool.{lt-ltb, le-ltb}
 use Rattle.pl_frame.specs.declared.data_type.DataType.{DataType}
 use Rattle.pl_frame.specs.declared.error.PolarsError.TheVariants as error
 use Rattle.pl_frame.specs.declared.error.OpFault.TheVariants as op_fault
-use Rattle.pl_frame.specs.Schema.{Entry, with_type_at}
+use Rattle.pl_frame.specs.declared.error.NamePlace.TheVariants as name_place
+use Rattle.pl_frame.specs.declared.error.PolarsError.{PolarsError}
+use Rattle.pl_frame.specs.Names.{repeated_name}
+use Rattle.pl_frame.specs.Schema.{Entry, names_in, with_type_at}
+use Rattle.pl_infer.specs.Causes.{first_some, IsFault}
+use Rattle.pl_schema.specs.Inference.{inference_of, inferred, inference_causes, empty, repeated}
 use Rattle.pl_infer.specs.declared.read_options.CsvReadOptions.{CsvReadOptions}
-use Rattle.pl_read.specs.Options.{with_types, settled}
-use Rattle.pl_read.specs.Refusals.{unreadable, overrides}
-use Rattle.pl_read.specs.Steps.{settling_cause}
-use Rattle.pl_read.proofs.CauseLaws.{first_some-one, first_some-behind, first_some-here}
+use Rattle.pl_schema.specs.Schemas.{unreadable}
+use Rattle.pl_read.specs.Options.{with_types, schema_of, settled, settled_schema}
+use Rattle.pl_read.specs.Refusals.{unless_given, no_record, repeats, overrides}
+use Rattle.pl_read.specs.Steps.{schema_cause, types_cause, settling_cause}
+use Rattle.pl_read.proofs.CauseLaws.{first_some-one, first_some-behind, first_some-here, first_some-late, fault-early}
 
 -- behind the first entry
 type_at-behind : (entry : Entry) (entries : List Entry) (i : ℕ) (type : DataType) → with_type_at (entry ∷ entries) (suc i) type ≡ entry ∷ with_type_at entries i type
@@ -37,9 +44,9 @@ length-with_types (type ∷ types) [] = refl
 length-with_types (type ∷ types) (entry ∷ schema) = omega (arith, length-with_types types schema)
 
 -- more types than columns
-pub settling-overrides : (o : CsvReadOptions) (given : List Entry) → length given < length (unwrap_or o.dtype_overwrite [])
-    → settling_cause o given ≡ Some (error.InvalidOperation (op_fault.Overrides (length (unwrap_or o.dtype_overwrite [])) (length given)))
-settling-overrides o given more =
+pub types-overrides : (o : CsvReadOptions) (given : List Entry) → length given < length (unwrap_or o.dtype_overwrite [])
+    → types_cause o given ≡ Some (error.InvalidOperation (op_fault.Overrides (length (unwrap_or o.dtype_overwrite [])) (length given)))
+types-overrides o given more =
     let types = unwrap_or o.dtype_overwrite [] in
     let same : length (settled o given) ≡ length given = length-with_types types given in
     let test : nat_lt (length given) (length types) ≡ true = lt-ltb (length given) (length types) more in
@@ -47,10 +54,72 @@ settling-overrides o given more =
     first_some-here (overrides o (settled o given)) (unreadable (settled o given) ∷ []) _ is
 
 -- no more types than columns
-pub settling-types : (o : CsvReadOptions) (given : List Entry) → length (unwrap_or o.dtype_overwrite []) ≤ length given → settling_cause o given ≡ unreadable (settled o given)
-settling-types o given few =
+pub types-few : (o : CsvReadOptions) (given : List Entry) → length (unwrap_or o.dtype_overwrite []) ≤ length given → types_cause o given ≡ unreadable (settled o given)
+types-few o given few =
     let types = unwrap_or o.dtype_overwrite [] in
     let same : length (settled o given) ≡ length given = length-with_types types given in
     let test : nat_lt (length given) (length types) ≡ false = le-ltb (length given) (length types) few in
     let none : overrides o (settled o given) ≡ None = rw (same, test) refl in
     first_some-behind (overrides o (settled o given)) (unreadable (settled o given) ∷ []) none ∙ first_some-one (unreadable (settled o given))
+
+-- ---- the schema before its types are settled
+
+-- one that is given
+pub schema-given : (o : CsvReadOptions) (input : List ℕ) (given : List Entry) → o.schema ≡ Some given → schema_of o input ≡ given
+schema-given o input given is = ap (λ (s : Option (List Entry)). unwrap_or s (inferred (inference_of o) input)) is
+
+pub cause-given : (o : CsvReadOptions) (input : List ℕ) (given : List Entry) → o.schema ≡ Some given → schema_cause o input ≡ None
+cause-given o input given is =
+    ap (λ (s : Option (List Entry)). first_some (unless_given s (empty (inference_of o) input) ∷ unless_given s (repeated (schema_of o input)) ∷ [])) is
+
+-- a copy of it, or want of memory
+pub copy-schema : (o : CsvReadOptions) (input : List ℕ) (given : List Entry) (result : Result (List Entry) PolarsError) → o.schema ≡ Some given → IfOk result (λ copy. copy ≡ given) → IfOk result (λ schema. schema ≡ schema_of o input)
+copy-schema o input given (Ok copy) is same = same ∙ sym (schema-given o input given is)
+copy-schema o input given (Err fault) is same = tt
+
+pub copy-sound : (o : CsvReadOptions) (input : List ℕ) (given : List Entry) (result : Result (List Entry) PolarsError) → o.schema ≡ Some given → OnOk result (schema_cause o input ≡ None)
+copy-sound o input given (Ok copy) is = cause-given o input given is
+copy-sound o input given (Err fault) is = tt
+
+pub copy-refused : (cause : Option PolarsError) (result : Result (List Entry) PolarsError) → IsOkUnless result error.OutOfMemory → IfErr result (IsFault cause)
+copy-refused cause (Ok copy) wanting = tt
+copy-refused cause (Err fault) wanting = inr wanting
+
+-- or none
+pub schema-inferred : (o : CsvReadOptions) (input : List ℕ) → o.schema ≡ None → schema_of o input ≡ inferred (inference_of o) input
+schema-inferred o input is = ap (λ (s : Option (List Entry)). unwrap_or s (inferred (inference_of o) input)) is
+
+pub cause-inferred : (o : CsvReadOptions) (input : List ℕ) → o.schema ≡ None → schema_cause o input ≡ first_some (inference_causes (inference_of o) input)
+cause-inferred o input is =
+    ap (λ (s : Option (List Entry)). first_some (unless_given s (empty (inference_of o) input) ∷ unless_given s (repeated (schema_of o input)) ∷ [])) is
+    ∙ ap (λ (schema : List Entry). first_some (empty (inference_of o) input ∷ repeated schema ∷ [])) (schema-inferred o input is)
+
+-- ---- all of it
+
+-- other types leave the names
+names-settled : (types : List DataType) (schema : List Entry) → names_in (with_types types schema) ≡ names_in schema
+names-settled [] schema = refl
+names-settled (type ∷ types) [] = refl
+names-settled (type ∷ types) (entry ∷ schema) = ap (λ names. entry.0 ∷ names) (names-settled types schema)
+
+repeats-settled : (o : CsvReadOptions) (schema : List Entry) → repeats o (settled o schema) ≡ repeats o schema
+repeats-settled o schema =
+    ap (λ (names : List (List ℕ)). unless_given o.schema (option_map (λ (name : List ℕ). error.Duplicate name name_place.Schema) (repeated_name names)))
+    (names-settled (unwrap_or o.dtype_overwrite []) schema)
+
+front-settled : (o : CsvReadOptions) (input : List ℕ) → first_some (no_record o input ∷ repeats o (settled_schema o input) ∷ []) ≡ schema_cause o input
+front-settled o input = ap (λ (cause : Option PolarsError). first_some (no_record o input ∷ cause ∷ [])) (repeats-settled o (schema_of o input))
+
+-- a fault of the schema before its types are settled
+pub settling-early : (o : CsvReadOptions) (input : List ℕ) (fault : PolarsError) → IsFault (schema_cause o input) fault → IsFault (settling_cause o input) fault
+settling-early o input fault is =
+    let schema : List Entry = settled_schema o input in
+    fault-early (no_record o input ∷ repeats o schema ∷ []) (overrides o schema ∷ unreadable schema ∷ []) fault
+    (subst (λ (cause : Option PolarsError). IsFault cause fault) (sym (front-settled o input)) is)
+
+-- where there is none
+pub settling-late : (o : CsvReadOptions) (input : List ℕ) (given : List Entry) → given ≡ schema_of o input → schema_cause o input ≡ None → types_cause o given ≡ settling_cause o input
+settling-late o input given is none =
+    let schema : List Entry = settled_schema o input in
+    ap (types_cause o) is
+    ∙ sym (first_some-late (no_record o input ∷ repeats o schema ∷ []) (overrides o schema ∷ unreadable schema ∷ []) (front-settled o input ∙ none))

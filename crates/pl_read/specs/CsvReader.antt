@@ -3,11 +3,11 @@ use Rattle.std.specs.Prelude.{◌≡◌, ℕ, ◌⊎◌, List, Option, Result, E
 use Rattle.std.specs.Io.KnownBytes.{IsAtEnd}
 use Rattle.pl_frame.specs.Causes.{Rose}
 use Rattle.pl_frame.specs.Frame.{ColumnValue}
-use Rattle.pl_frame.specs.Schema.{Entry}
 use Rattle.pl_frame.specs.declared.error.PolarsError.{PolarsError}
 use Rattle.pl_frame.specs.declared.error.PolarsError.TheVariants as error
 use Rattle.pl_infer.specs.declared.read_options.CsvReadOptions.{CsvReadOptions}
 use Rattle.pl_read.specs.BytesReader.{input_of}
+use Rattle.pl_read.specs.Options.{settled_schema}
 use Rattle.pl_read.specs.Reading.{IsRead, IsRefusal}
 
 -- a reader of frames: its source, and how that is read
@@ -29,15 +29,17 @@ OfInput lent left before now P = (input : List ℕ) × IsInput (lent before) (le
 -- ---- the answer
 
 -- why there is no frame: a fault of a source that lends nothing, whose count rose; want of memory, at any time; else the first
--- cause against the input
-abbrev pub IsFinishFault : {R : Type 0} → (lent left : R → Option (List ℕ)) → (faults : R → ℕ) → (before now : R) → CsvReadOptions → List Entry → PolarsError → Type 0
-IsFinishFault lent left faults before now o schema error.IO = IsNone (lent before) × Rose (faults before) (faults now)
-IsFinishFault lent left faults before now o schema error.OutOfMemory = Unit {0}
-IsFinishFault lent left faults before now o schema fault = OfInput lent left before now (λ input. IsRefusal o schema input fault)
+-- cause against the input under its settled schema
+abbrev pub IsFinishFault : {R : Type 0} → (lent left : R → Option (List ℕ)) → (faults : R → ℕ) → (before now : R) → CsvReadOptions → PolarsError → Type 0
+IsFinishFault lent left faults before now o error.IO = IsNone (lent before) × Rose (faults before) (faults now)
+IsFinishFault lent left faults before now o error.OutOfMemory = Unit {0}
+IsFinishFault lent left faults before now o fault = OfInput lent left before now (λ input. IsRefusal o (settled_schema o input) input fault)
 
--- what an input means under a settled schema: a frame, or the first cause against it
-abbrev pub IsMeaning : CsvReadOptions → List Entry → List ℕ → Result (List ColumnValue) PolarsError → Type 0
-IsMeaning o schema input meaning = MatchResult meaning (IsRead o schema input) (IsRefusal o schema input)
+-- what an input means under its settled schema: a frame, or the first cause against it
+abbrev pub IsMeaning : CsvReadOptions → List ℕ → Result (List ColumnValue) PolarsError → Type 0
+IsMeaning o input meaning =
+    let schema = settled_schema o input in
+    MatchResult meaning (IsRead o schema input) (IsRefusal o schema input)
 
 -- this answer, or want of memory, or a fault of the source, whose count rose
 abbrev pub AnswersUnlessFailed : (result expected : Result (List ColumnValue) PolarsError) → (before now : ℕ) → Type 0

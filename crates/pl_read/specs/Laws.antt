@@ -1,5 +1,5 @@
 -- Laws of the reference read (docs/options.md, "What a limit and a projection give").
-use Rattle.std.specs.Prelude.{◌≡◌, ◌≢◌, ◌↔◌, ℕ, zero, suc, ◌+◌, ◌≤◌, false, not, ◌==◌, List, [], ◌∷◌, ◌++◌, length, drop, Option, None, Some}
+use Rattle.std.specs.Prelude.{◌≡◌, ◌≢◌, ◌↔◌, ℕ, zero, suc, ◌+◌, ◌≤◌, false, not, ◌==◌, List, [], ◌∷◌, ◌++◌, length, drop, Option, None, Some, IsSome}
 use Rattle.std.specs.List.{prefix_len}
 use Rattle.pl_frame.specs.Compression.{is_compressed}
 use Rattle.pl_frame.specs.Frame.{ColumnValue}
@@ -10,7 +10,9 @@ use Rattle.pl_infer.specs.declared.read_options.CsvReadOptions.{CsvReadOptions}
 use Rattle.pl_infer.specs.declared.row_index.RowIndex.{RowIndex}
 use Rattle.pl_scan.specs.Closing.{ends_open}
 use Rattle.pl_rows.specs.Rows.{rows}
-use Rattle.pl_read.specs.Options.{marks_of, comment_of, data_of}
+use Rattle.pl_infer.specs.Text.{marks_of, comment_of}
+use Rattle.pl_schema.specs.Inference.{inference_of, first_record}
+use Rattle.pl_read.specs.Options.{data_of, settled_schema}
 use Rattle.pl_read.specs.Projection.{asked, projected, unknown_column, outside, doubled}
 use Rattle.pl_read.specs.Reading.{IsRead, IsRefusal}
 
@@ -70,9 +72,17 @@ pub record Decides (o : CsvReadOptions) (n : ℕ) (b : List ℕ) : Type 0 where
   pub front : List ℕ
   pub line_end : records ≡ front ++ o.parse_options.eol_char ∷ []
 
--- A limited read depends on such a text alone: every input that begins with it has the same frame, or the same refusal, where
--- both or neither begin with the mark of a compressed stream.
+-- Where a schema is given, a limited read depends on such a text alone: every input that begins with it has the same frame, or
+-- the same refusal, where both or neither begin with the mark of a compressed stream.
 abbrev pub LimitedReadDependsOnPrefix : Type 0
-LimitedReadDependsOnPrefix = (o : CsvReadOptions) (n : ℕ) (schema : List Entry) (b rest : List ℕ) → o.n_rows ≡ Some n → Decides o n b → is_compressed (b ++ rest) ≡ is_compressed b
+LimitedReadDependsOnPrefix = (o : CsvReadOptions) (n : ℕ) (schema : List Entry) (b rest : List ℕ) → IsSome o.schema → o.n_rows ≡ Some n → Decides o n b → is_compressed (b ++ rest) ≡ is_compressed b
     → ((frame : List ColumnValue) → IsRead o schema b frame ↔ IsRead o schema (b ++ rest) frame)
     × ((refusal : PolarsError) → IsRefusal o schema b refusal ↔ IsRefusal o schema (b ++ rest) refusal)
+
+-- ---- no schema
+
+-- Where no schema is given and an input has a read, its schema has no column exactly where it has no record to infer one from;
+-- and then such an input is not refused.
+abbrev pub SchemaIsEmptyWithoutRecord : Type 0
+SchemaIsEmptyWithoutRecord = (o : CsvReadOptions) (input : List ℕ) (frame : List ColumnValue) → o.schema ≡ None → IsRead o (settled_schema o input) input frame
+    → settled_schema o input ≡ [] ↔ (first_record (inference_of o) input ≡ None) × (o.raise_if_empty ≡ false)

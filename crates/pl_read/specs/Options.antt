@@ -1,29 +1,16 @@
--- What options of a read say of the text, its head and its cells (docs/grammar.md, docs/types.md).
+-- What options of a read say of the head of a text, of its schema and of its cells (docs/grammar.md, docs/options.md, docs/types.md).
 use Rattle.std.specs.Prelude.{ℕ, Bool, false, nat_le, List, [], ◌∷◌, length, Option, unwrap_or}
 use Rattle.std.specs.Option.{option_map, option_map_or}
 use Rattle.pl_frame.specs.declared.data_type.DataType.{DataType}
-use Rattle.pl_frame.specs.Dialect.{Marks, marks}
 use Rattle.pl_frame.specs.Schema.{Entry}
-use Rattle.pl_scan.specs.Comment.{prefix_bytes}
-use Rattle.pl_scan.specs.Start.{Skips, skips, data_left}
+use Rattle.pl_scan.specs.Start.{data_left}
 use Rattle.pl_cells.specs.NullValues.{compiled_for}
-use Rattle.pl_infer.specs.declared.parse_options.CsvParseOptions.{CsvParseOptions}
 use Rattle.pl_infer.specs.declared.read_options.CsvReadOptions.{CsvReadOptions}
+use Rattle.pl_infer.specs.Text.{marks_of, comment_of, skips_of}
 use Rattle.pl_rows.specs.Cells.{RowRules}
+use Rattle.pl_schema.specs.Inference.{inference_of, inferred}
 
--- ---- the text
-
--- the bytes that cut a record
-abbrev pub marks_of : CsvParseOptions → Marks
-marks_of o = marks o.separator o.quote_char o.eol_char
-
--- the bytes that a comment begins with
-abbrev pub comment_of : CsvParseOptions → Option (List ℕ)
-comment_of o = option_map prefix_bytes o.comment_prefix
-
--- what is skipped
-abbrev pub skips_of : CsvReadOptions → Skips
-skips_of o = skips o.skip_lines o.skip_rows o.has_header o.skip_rows_after_header
+-- ---- the head
 
 -- leading line ends are kept where a schema of at most one column was given
 abbrev pub keeps_ends : CsvReadOptions → Bool
@@ -41,13 +28,17 @@ with_types [] entries = entries
 with_types (type ∷ types) [] = []
 with_types (type ∷ types) (entry ∷ entries) = (entry.0, type) ∷ with_types types entries
 
--- the settled schema: its first types are those that the options give
+-- a schema, settled: its first types are those that the options give
 abbrev pub settled : CsvReadOptions → List Entry → List Entry
 settled o schema = with_types (unwrap_or o.dtype_overwrite []) schema
 
--- the settled schema of options that give one
-abbrev pub settled_schema : CsvReadOptions → List Entry
-settled_schema o = settled o (unwrap_or o.schema [])
+-- the schema of an input: the one that is given, or else the inferred one
+abbrev pub schema_of : CsvReadOptions → List ℕ → List Entry
+schema_of o input = unwrap_or o.schema (inferred (inference_of o) input)
+
+-- the settled schema of an input
+abbrev pub settled_schema : CsvReadOptions → List ℕ → List Entry
+settled_schema o input = settled o (schema_of o input)
 
 -- ---- the cells
 

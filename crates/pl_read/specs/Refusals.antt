@@ -1,5 +1,5 @@
 -- Why an input has no frame: the causes in their order (docs/refusals.md).
-use Rattle.std.specs.Prelude.{ℕ, ◌^◌, ◌+◌, Bool, true, false, not, ◌&&◌, ◌||◌, ◌==◌, nat_lt, if◌then◌else◌, List, [], ◌∷◌, ◌++◌, length, map, position, Option, None, Some, unwrap_or, is_none}
+use Rattle.std.specs.Prelude.{ℕ, ◌^◌, ◌+◌, Bool, false, not, ◌&&◌, ◌||◌, ◌==◌, nat_lt, List, [], ◌∷◌, ◌++◌, length, map, Option, None, Some, unwrap_or, is_none}
 use Rattle.std.specs.Option.{option_map, option_and_then, option_map_or}
 use Rattle.pl_frame.specs.declared.error.PolarsError.{PolarsError}
 use Rattle.pl_frame.specs.declared.error.PolarsError.TheVariants as error
@@ -7,30 +7,20 @@ use Rattle.pl_frame.specs.declared.error.OpFault.TheVariants as op_fault
 use Rattle.pl_frame.specs.declared.error.ComputeFault.TheVariants as compute_fault
 use Rattle.pl_frame.specs.declared.error.NoDataFault.TheVariants as no_data
 use Rattle.pl_frame.specs.declared.error.NamePlace.TheVariants as name_place
-use Rattle.pl_frame.specs.declared.data_type.DataType.{DataType}
-use Rattle.pl_frame.specs.declared.data_type.DataType.TheVariants as dtype
 use Rattle.pl_frame.specs.Columns.{dictionary}
 use Rattle.pl_frame.specs.Compression.{is_compressed}
 use Rattle.pl_frame.specs.Frame.{ColumnValue}
 use Rattle.pl_frame.specs.Schema.{Entry}
-use Rattle.pl_frame.specs.Types.{is_readable}
 use Rattle.pl_cells.specs.NullValues.{unknown_name}
 use Rattle.pl_infer.specs.declared.read_options.CsvReadOptions.{CsvReadOptions}
 use Rattle.pl_infer.specs.declared.row_index.RowIndex.{RowIndex}
+use Rattle.pl_infer.specs.Causes.{when, first_some}
+use Rattle.pl_schema.specs.Inference.{inference_of, empty, repeated}
+use Rattle.pl_schema.specs.Schemas.{unreadable, is_categorical}
 use Rattle.pl_rows.specs.Rows.{first_faulty}
 use Rattle.pl_read.specs.Options.{data_of, rules_of}
 use Rattle.pl_read.specs.Projection.{projected, unknown_column, outside, doubled_name, taken_name}
 use Rattle.pl_read.specs.Rows.{columns_read, rows_in, data_columns}
-
--- a refusal, where something holds
-abbrev pub when : Bool → PolarsError → Option PolarsError
-when holds refusal = if holds then Some refusal else None
-
--- the first that is there
-abbrev pub first_some : {X : Type 0} → List (Option X) → Option X
-first_some [] = None
-first_some (None ∷ others) = first_some others
-first_some (Some x ∷ others) = Some x
 
 -- ---- the options
 
@@ -46,22 +36,24 @@ has_wrong_option o =
 
 -- ---- the schema
 
+-- a cause that stands only where no schema is given
+abbrev pub unless_given : Option (List Entry) → Option PolarsError → Option PolarsError
+unless_given None cause = cause
+unless_given (Some given) cause = None
+
+-- no schema is given, and there is no record to infer one from, which is refused
+abbrev pub no_record : CsvReadOptions → List ℕ → Option PolarsError
+no_record o input = unless_given o.schema (empty (inference_of o) input)
+
+-- no schema is given, and a column of the settled one has the name of an earlier column; the first such
+abbrev pub repeats : CsvReadOptions → List Entry → Option PolarsError
+repeats o schema = unless_given o.schema (repeated schema)
+
 -- more types are given than the schema has columns
 abbrev pub overrides : CsvReadOptions → List Entry → Option PolarsError
 overrides o schema =
     let given = length (unwrap_or o.dtype_overwrite []) in
     when (nat_lt (length schema) given) (error.InvalidOperation (op_fault.Overrides given (length schema)))
-
--- the types of the columns
-abbrev pub types_of : List Entry → List DataType
-types_of schema = map (λ column. column.1) schema
-
--- the least column whose type can't be read
-abbrev pub first_unreadable : List Entry → Option ℕ
-first_unreadable schema = position (λ type. not (is_readable type)) (types_of schema)
-
-abbrev pub unreadable : List Entry → Option PolarsError
-unreadable schema = option_map (λ column. error.ComputeError (compute_fault.Dtype column)) (first_unreadable schema)
 
 -- the first name of the null values, or else of the asked columns, that the schema doesn't have
 abbrev pub unknown : CsvReadOptions → List Entry → Option PolarsError
@@ -94,11 +86,6 @@ abbrev pub numbers_past : Option RowIndex → ℕ → Option PolarsError
 numbers_past None count = None
 numbers_past (Some index) count = when (nat_lt (2 ^ 32) (index.offset + count)) (error.ComputeError (compute_fault.Index index.offset count))
 
--- the type `Categorical`
-abbrev pub is_categorical : DataType → Bool
-is_categorical dtype.Categorical = true
-is_categorical _ = false
-
 -- the last code of a category of the column does not fit 32 bits
 abbrev pub codes_past : ColumnValue → Option PolarsError
 codes_past column =
@@ -122,6 +109,8 @@ early_causes o is_dialect =
 abbrev pub late_causes : CsvReadOptions → List Entry → List ℕ → List (Option PolarsError)
 late_causes o schema input =
     when (is_compressed input) (error.ComputeError compute_fault.Compressed)
+    ∷ no_record o input
+    ∷ repeats o schema
     ∷ overrides o schema
     ∷ unreadable schema
     ∷ unknown o schema

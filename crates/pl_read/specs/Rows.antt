@@ -9,7 +9,8 @@ use Rattle.pl_rows.specs.Columns.{entries_in, columns_in, frame_of_rows}
 use Rattle.pl_rows.specs.Plan.{Columns}
 use Rattle.pl_rows.specs.Ranges.{limited}
 use Rattle.pl_rows.specs.Rows.{Row, rows}
-use Rattle.pl_read.specs.Options.{marks_of, comment_of, rules_of}
+use Rattle.pl_infer.specs.Text.{marks_of, comment_of}
+use Rattle.pl_read.specs.Options.{rules_of}
 use Rattle.pl_read.specs.Projection.{projected}
 
 -- the columns that are read, by their places in the schema

@@ -1,27 +1,24 @@
 -- What the steps of a read answer.
-use Rattle.std.specs.Prelude.{◌≡◌, ◌⊎◌, ℕ, zero, suc, Bool, true, false, List, [], ◌∷◌, length, drop, Option, None, Some, map}
+use Rattle.std.specs.Prelude.{◌≡◌, ℕ, zero, suc, Bool, true, false, List, [], ◌∷◌, length, drop, Option, None, Some, map}
 use Rattle.std.specs.List.{range_with_len}
 use Rattle.std.specs.Option.{option_and_then}
 use Rattle.pl_frame.specs.declared.error.PolarsError.{PolarsError}
-use Rattle.pl_frame.specs.declared.error.PolarsError.TheVariants as error
 use Rattle.pl_frame.specs.Schema.{Entry, HaveDistinctNames}
 use Rattle.pl_frame.specs.Dialect.{AreDistinct}
 use Rattle.pl_scan.specs.Dialect as scan
 use Rattle.pl_cells.specs.NullValues.{unknown_name, HaveTexts}
 use Rattle.pl_infer.specs.declared.read_options.CsvReadOptions.{CsvReadOptions}
-use Rattle.pl_read.specs.Options.{marks_of, comment_of, rules_of, settled}
+use Rattle.pl_infer.specs.Causes.{IsFirstCause, first_some}
+use Rattle.pl_infer.specs.Text.{marks_of, comment_of}
+use Rattle.pl_schema.specs.Schemas.{unreadable, first_unreadable}
+use Rattle.pl_read.specs.Options.{rules_of, schema_of, settled, settled_schema}
 use Rattle.pl_rows.specs.declared.plan.RangePlan.{RangePlan}
 use Rattle.pl_rows.specs.Plan.{rules_of as plan_rules}
 use Rattle.pl_read.specs.declared.projecting.Times.{Times}
 use Rattle.pl_read.specs.declared.projecting.Times.TheVariants as times
 use Rattle.pl_read.specs.Projection.{projected, taken_name, times_asked}
-use Rattle.pl_read.specs.Reading.{IsFirstCause}
 use Rattle.pl_read.specs.Rows.{rows_in, data_columns}
-use Rattle.pl_read.specs.Refusals.{first_some, early_causes, late_causes, overrides, unreadable, out_of_bounds, duplicate, first_unreadable, nothing_read, faulty_record, index_past}
-
--- the fault is this one; or memory is wanting, which may be at any time
-abbrev pub IsFault : Option PolarsError → PolarsError → Type 0
-IsFault first fault = (first ≡ Some fault) ⊎ (fault ≡ error.OutOfMemory)
+use Rattle.pl_read.specs.Refusals.{early_causes, late_causes, no_record, repeats, overrides, out_of_bounds, duplicate, nothing_read, faulty_record, index_past}
 
 -- the marks are a dialect, and no option has a value that it may not have
 abbrev pub MayRead : CsvReadOptions → Type 0
@@ -31,9 +28,19 @@ MayRead o = IsFirstCause (early_causes o) o.parse_options None
 abbrev pub late_cause : CsvReadOptions → List Entry → List ℕ → Option PolarsError
 late_cause o schema input = first_some (late_causes o schema input)
 
+-- the first cause against the schema of an input before its types are settled
+abbrev pub schema_cause : CsvReadOptions → List ℕ → Option PolarsError
+schema_cause o input = first_some (no_record o input ∷ repeats o (schema_of o input) ∷ [])
+
 -- the first cause against a schema with the types that the options give, that schema being given
-abbrev pub settling_cause : CsvReadOptions → List Entry → Option PolarsError
-settling_cause o given = first_some (overrides o (settled o given) ∷ unreadable (settled o given) ∷ [])
+abbrev pub types_cause : CsvReadOptions → List Entry → Option PolarsError
+types_cause o given = first_some (overrides o (settled o given) ∷ unreadable (settled o given) ∷ [])
+
+-- the first cause against the settled schema of an input
+abbrev pub settling_cause : CsvReadOptions → List ℕ → Option PolarsError
+settling_cause o input =
+    let schema = settled_schema o input in
+    first_some (no_record o input ∷ repeats o schema ∷ overrides o schema ∷ unreadable schema ∷ [])
 
 -- the first of the null values' names that the schema doesn't have
 abbrev pub unknown_null : CsvReadOptions → List Entry → Option (List ℕ)
@@ -58,9 +65,9 @@ asked_cause o schema records =
     first_some (out_of_bounds o schema ∷ duplicate o schema ∷ nothing_read o schema records ∷ faulty_record o schema records
     ∷ index_past o.row_index (length (rows_in o records)) (data_columns o schema records) ∷ [])
 
--- the first cause against an input behind those that stand against its schema's types
+-- the first cause against an input behind those that stand against its schema
 abbrev pub settled_cause : CsvReadOptions → List Entry → List ℕ → Option PolarsError
-settled_cause o schema input = first_some (drop 3 (late_causes o schema input))
+settled_cause o schema input = first_some (drop 5 (late_causes o schema input))
 
 -- ---- the plan of a read
 

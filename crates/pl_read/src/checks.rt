@@ -1,27 +1,10 @@
 //! What stands against a read before its schema is looked at.
-ghost use Rattle.std.specs.Prelude.{◌≡◌, OnOk, IfErr, None, Some, MatchOption};
-ghost use Rattle.std.specs.Option.{option_map};
-ghost use Rattle.pl_frame.specs.Dialect.{IsDialect};
-ghost use Rattle.pl_read.specs.Options.{marks_of, comment_of};
-ghost use Rattle.pl_read.specs.Reading.{Tells, IsFirstCause};
+ghost use Rattle.std.specs.Prelude.{◌≡◌, OnOk, IfErr, None, Some};
+ghost use Rattle.pl_infer.specs.Causes.{IsFirstCause};
 ghost use Rattle.pl_read.specs.Refusals.{is_zero, has_wrong_option, early_causes};
 
 use pl_frame::error::{OpFault, PolarsError, PolarsResult};
-use pl_infer::parse_options::CsvParseOptions;
 use pl_infer::read_options::CsvReadOptions;
-use pl_scan::dialect::dialect_ok;
-
-// Whether the marks and the comment prefix are a dialect.
-fn is_dialect(options: &CsvParseOptions) -> bool
-    ensures { Tells result (IsDialect (marks_of options.now) (comment_of options.now)) }
-{
-    dialect_ok(
-        options.separator,
-        options.quote_char,
-        options.eol_char,
-        options.comment_prefix.as_ref(),
-    )
-}
 
 // Whether a count is given, and it is 0.
 fn is_zero(count: Option<usize>) -> bool
@@ -48,7 +31,7 @@ pub fn check_options(options: &CsvReadOptions) -> PolarsResult<()>
     ensures passed { OnOk result (IsFirstCause (early_causes options.now) options.now.parse_options None) }
     ensures refused { IfErr result (λ fault. IsFirstCause (early_causes options.now) options.now.parse_options (Some fault)) }
 {
-    if !is_dialect(&options.parse_options) {
+    if !options.parse_options.has_dialect() {
         return Err(PolarsError::InvalidOperation(OpFault::Dialect));
     }
     if has_wrong_option(options) {

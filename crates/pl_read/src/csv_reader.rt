@@ -29,24 +29,22 @@ pub trait SerReader<R: MmapBytesReader> {
     fn set_rechunk(self, rechunk: bool) -> Self
         ensures { state result ≡ state self };
 
-    /// The frame that the input means under the options, which give a schema. The input is what the source lends, or else
+    /// The frame that the input means under the options and its settled schema. The input is what the source lends, or else
     /// what is left of it, which is read to its end first; the options stay.
     ///
     /// Refuses `IO` only where the source lends nothing and its count of faults rose, then the first cause against the input,
     /// and want of memory, in which a source without end ends.
     fn finish(&mut self) -> PolarsResult<DataFrame>
-        requires { IsSome (state self.old).options.schema }
-
         // Each answer comes only by its cause.
         ensures frame { IfOk result (λ frame. OfInput R.lent R.left (state self.old).source (state self.new).source (λ input.
-            IsRead (state self.old).options (settled_schema (state self.old).options) input frame)) }
+            IsRead (state self.old).options (settled_schema (state self.old).options input) input frame)) }
         ensures refused { IfErr result (IsFinishFault R.lent R.left R.faults (state self.old).source (state self.new).source
-            (state self.old).options (settled_schema (state self.old).options)) }
+            (state self.old).options) }
 
         // And it comes where the source tells an input that means it, up to want of memory and a count that rose.
         ensures complete { (input : List ℕ) (meaning : Result (List ColumnValue) PolarsError)
             → input_of (R.lent (state self.old).source) (R.left (state self.old).source) ≡ Some input
-            → IsMeaning (state self.old).options (settled_schema (state self.old).options) input meaning
+            → IsMeaning (state self.old).options input meaning
             → AnswersUnlessFailed result meaning (R.faults (state self.old).source) (R.faults (state self.new).source) }
 
         // A source that lends its bytes is not read.
@@ -98,31 +96,27 @@ impl<R: MmapBytesReader> CsvReader<R> {
     }
 }
 
-// The frame that the input of a source means under options that give a schema.
+// The frame that the input of a source means under options and its settled schema.
 fn read_source<R: MmapBytesReader>(
     alloc: Global,
     reader: &mut R,
     options: &CsvReadOptions,
 ) -> PolarsResult<DataFrame>
-    requires { IsSome options.now.schema }
-    ensures frame { IfOk result (λ frame. OfInput R.lent R.left reader.old reader.new (λ input. IsRead options.now (settled_schema options.now) input frame)) }
-    ensures refused { IfErr result (IsFinishFault R.lent R.left R.faults reader.old reader.new options.now (settled_schema options.now)) }
+    ensures frame { IfOk result (λ frame. OfInput R.lent R.left reader.old reader.new (λ input. IsRead options.now (settled_schema options.now input) input frame)) }
+    ensures refused { IfErr result (IsFinishFault R.lent R.left R.faults reader.old reader.new options.now) }
     ensures complete { (input : List ℕ) (meaning : Result (List ColumnValue) PolarsError)
         → input_of (R.lent reader.old) (R.left reader.old) ≡ Some input
-        → IsMeaning options.now (settled_schema options.now) input meaning
+        → IsMeaning options.now input meaning
         → AnswersUnlessFailed result meaning (R.faults reader.old) (R.faults reader.new) }
     ensures lent { IsSome (R.lent reader.old) → reader.new ≡ reader.old }
     ensures later { R.faults reader.old ≤ R.faults reader.new }
 {
-    let Some(schema) = &options.schema else {
-        unreachable!();
-    };
     let read = match read_unlent(alloc, reader) {
         Ok(read) => read,
         Err(fault) => return Err(fault),
     };
     let input = lent_or_read(reader, read);
-    read_frame(alloc, input.bytes(), options, schema)
+    read_frame(alloc, input.bytes(), options)
 }
 
 impl<R: MmapBytesReader> SerReader<R> for CsvReader<R> {
@@ -144,9 +138,9 @@ impl<R: MmapBytesReader> SerReader<R> for CsvReader<R> {
 #[cfg(test)]
 mod tests {
     use super::*;
-    use pl_frame::column::Column;
+    use pl_frame::column::{Column, Value};
     use pl_frame::data_type::DataType;
-    use pl_frame::error::PolarsError;
+    use pl_frame::error::{NoDataFault, PolarsError};
     use pl_frame::name::PlSmallStr;
     use pl_frame::schema::Schema;
     use pl_frame::source::{MemSource, PipeSource, Source};
@@ -159,16 +153,13 @@ mod tests {
 
     // Through the bound: what a reader reads.
     fn finish<R: MmapBytesReader, T: SerReader<R>>(reader: &mut T) -> PolarsResult<DataFrame>
-        requires { IsSome (T.state reader.old).options.schema }
         ensures { (T.state reader.new).options ≡ (T.state reader.old).options }
     {
         reader.finish()
     }
 
     // A read of one column `a` of whole numbers.
-    fn one_column(alloc: Global) -> Result<CsvReadOptions, Fail>
-        ensures { IfOk result (λ options. IsSome options.schema) }
-    {
+    fn one_column(alloc: Global) -> Result<CsvReadOptions, Fail> {
         let mut schema = Schema::new(alloc);
         schema.with_column(PlSmallStr::from_str(alloc, "a")?, DataType::Int64)?;
         Ok(CsvReadOptions::new(alloc).with_schema(Some(schema)))
@@ -209,6 +200,42 @@ mod tests {
         let alloc = rt.alloc();
         let mut reader = CsvReader::with_options(alloc, pipe(&[3]), one_column(alloc)?);
         assert!(rt; matches!(finish(&mut reader), Err(PolarsError::IO)));
+        Ok(())
+    }
+
+    // What a text means where no schema is given.
+    fn read(alloc: Global, text: &[u8], raise_if_empty: bool) -> PolarsResult<DataFrame> {
+        let options = CsvReadOptions::new(alloc).with_raise_if_empty(raise_if_empty);
+        let mut reader = CsvReader::with_options(alloc, MemSource::new(text), options);
+        reader.finish()
+    }
+
+    // Whether a frame has a column `a` of whole numbers, in which 1 is first, and a column `b` of strings, in which x is.
+    fn is_one_and_x(frame: &DataFrame) -> bool {
+        let [a, b] = frame.columns() else {
+            return false;
+        };
+        if a.len() != 1 || b.len() != 1 {
+            return false;
+        }
+        let names = a.name() == "a" && b.name() == "b";
+        let types = *a.dtype() == DataType::Int64 && *b.dtype() == DataType::String;
+        names && types && a.get(0) == Value::Whole(1) && b.get(0) == Value::Text("x")
+    }
+
+    #[test]
+    fn names_and_types_come_of_the_text(rt: HostRuntime) -> Result<(), Fail> {
+        let frame = read(rt.alloc(), b"a,b\n1,x\n", true)?;
+        assert!(rt; is_one_and_x(&frame));
+        Ok(())
+    }
+
+    #[test]
+    fn no_record_is_refused_or_is_no_column(rt: HostRuntime) -> Result<(), Fail> {
+        let refused = read(rt.alloc(), b"", true);
+        assert!(rt; matches!(refused, Err(PolarsError::NoData(NoDataFault::Empty))));
+        let frame = read(rt.alloc(), b"", false)?;
+        assert_eq!(rt; frame.width(), 0);
         Ok(())
     }
 

@@ -4,9 +4,10 @@ ghost use Rattle.std.specs.Option.{option_copied};
 ghost use Rattle.pl_frame.specs.Frame.{IsFrame, height_of};
 ghost use Rattle.pl_frame.specs.declared.error.ComputeFault.TheVariants as compute_fault;
 ghost use Rattle.pl_frame.specs.declared.error.PolarsError.TheVariants as error;
-ghost use Rattle.pl_read.specs.Refusals.{when, first_some, is_categorical, numbers_past, codes_past, index_past};
+ghost use Rattle.pl_infer.specs.Causes.{when, first_some, IsFault};
+ghost use Rattle.pl_schema.specs.Schemas.{is_categorical};
+ghost use Rattle.pl_read.specs.Refusals.{numbers_past, codes_past, index_past};
 ghost use Rattle.pl_read.specs.Rows.{with_index};
-ghost use Rattle.pl_read.specs.Steps.{IsFault};
 
 use pl_frame::column::Column;
 use pl_frame::data_type::DataType;

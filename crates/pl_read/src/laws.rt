@@ -1,6 +1,6 @@
 //! What holds of every input, as contracts of functions that do nothing.
 ghost use Rattle.pl_read.specs.Slices.{PartsAreTheSlice};
-ghost use Rattle.pl_read.specs.Laws.{LimitTakesFirstRows, ProjectionSelects, LimitedReadDependsOnPrefix};
+ghost use Rattle.pl_read.specs.Laws.{LimitTakesFirstRows, ProjectionSelects, LimitedReadDependsOnPrefix, SchemaIsEmptyWithoutRecord};
 
 /// However the rows are divided into files: the parts that `split_slice_at_file` tells, joined, are the slice of all rows.
 pub fn parts_are_the_slice<T>()
@@ -17,7 +17,13 @@ pub fn projection_selects()
     ensures { ProjectionSelects }
 {}
 
-/// A limited read depends on a text alone that decides it, whatever stands behind that.
+/// Where a schema is given, a limited read depends on a text alone that decides it, whatever stands behind that.
 pub fn limited_read_depends_on_prefix()
     ensures { LimitedReadDependsOnPrefix }
+{}
+
+/// Where no schema is given and an input has a read, its schema has no column exactly where the input has no record and that is
+/// not refused.
+pub fn schema_is_empty_without_record()
+    ensures { SchemaIsEmptyWithoutRecord }
 {}

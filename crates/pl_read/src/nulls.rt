@@ -3,7 +3,8 @@ ghost use Rattle.std.specs.Prelude.{◌≡◌, IfOk, OnOk, IfErr, None};
 ghost use Rattle.std.specs.Option.{option_map};
 ghost use Rattle.pl_frame.specs.declared.error.PolarsError.TheVariants as error;
 ghost use Rattle.pl_cells.specs.NullValues.{compiled_for};
-ghost use Rattle.pl_read.specs.Steps.{IsFault, unknown_null};
+ghost use Rattle.pl_infer.specs.Causes.{IsFault};
+ghost use Rattle.pl_read.specs.Steps.{unknown_null};
 
 use pl_cells::null_values::NullValuesCompiled;
 use pl_frame::error::{PolarsError, PolarsResult};

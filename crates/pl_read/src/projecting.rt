@@ -7,7 +7,8 @@ ghost use Rattle.pl_frame.specs.declared.error.PolarsError.TheVariants as error;
 ghost use Rattle.pl_frame.specs.Schema.{place_of};
 ghost use Rattle.pl_cells.specs.InitBuffers.{entry_at};
 ghost use Rattle.pl_read.specs.Projection.{lacks, greater, asked, projected, unknown_column, greatest, taken_name};
-ghost use Rattle.pl_read.specs.Steps.{IsFault, once_more, is_asked, is_more, all_times, projection_cause};
+ghost use Rattle.pl_infer.specs.Causes.{IsFault};
+ghost use Rattle.pl_read.specs.Steps.{once_more, is_asked, is_more, all_times, projection_cause};
 
 use pl_frame::error::{NamePlace, PolarsError, PolarsResult};
 use pl_frame::name::PlSmallStr;

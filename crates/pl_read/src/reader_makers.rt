@@ -101,8 +101,7 @@ mod tests {
 
     // A read of one column `a` of whole numbers, at no path.
     fn one_column(alloc: Global) -> Result<CsvReadOptions, Fail>
-        ensures schema { IfOk result (λ options. IsSome options.schema) }
-        ensures path { IfOk result (λ options. options.path ≡ None) }
+        ensures { IfOk result (λ options. options.path ≡ None) }
     {
         let mut schema = Schema::new(alloc);
         schema.with_column(PlSmallStr::from_str(alloc, "a")?, DataType::Int64)?;
@@ -110,9 +109,7 @@ mod tests {
     }
 
     // What a reader reads.
-    fn read<R: MmapBytesReader + Drop>(mut reader: CsvReader<R>) -> PolarsResult<DataFrame>
-        requires { IsSome reader.options.schema }
-    {
+    fn read<R: MmapBytesReader + Drop>(mut reader: CsvReader<R>) -> PolarsResult<DataFrame> {
         reader.finish()
     }
 

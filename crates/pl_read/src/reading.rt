@@ -3,12 +3,13 @@ ghost use Rattle.std.specs.Prelude.{◌≡◌, ◌==◌, ◌&&◌, nat_lt, lengt
 ghost use Rattle.std.specs.Option.{option_copied, option_map};
 ghost use Rattle.pl_frame.specs.Schema.{HaveDistinctNames};
 ghost use Rattle.pl_cells.specs.NullValues.{compiled_for};
-ghost use Rattle.pl_read.specs.Options.{keeps_ends, data_of, settled};
+ghost use Rattle.pl_infer.specs.Causes.{IsFault};
+ghost use Rattle.pl_schema.specs.Schemas.{first_unreadable};
+ghost use Rattle.pl_read.specs.Options.{keeps_ends, data_of, settled_schema};
 ghost use Rattle.pl_read.specs.Projection.{asked, projected, taken_name};
 ghost use Rattle.pl_read.specs.Reading.{frame_of, IsRead, IsReadFault};
-ghost use Rattle.pl_read.specs.Refusals.{first_unreadable};
 ghost use Rattle.pl_read.specs.Rows.{data_frame};
-ghost use Rattle.pl_read.specs.Steps.{IsFault, MayRead, late_cause, settled_cause, asked_cause, projected_cause, data_cause, IsPlanOf, CanReadData};
+ghost use Rattle.pl_read.specs.Steps.{MayRead, late_cause, settled_cause, asked_cause, projected_cause, data_cause, IsPlanOf, CanReadData};
 
 use crate::checks::check_options;
 use crate::indexing::with_index;
@@ -24,44 +25,41 @@ use pl_infer::read_options::CsvReadOptions;
 use pl_rows::columns::read_columns;
 use pl_rows::plan::{Projection, RangePlan, RowOptions};
 use pl_rows::range::RangeEnd;
-use pl_scan::dialect::Dialect;
 use pl_scan::start::data_of;
 use std::alloc::Global;
 
-/// The frame that an input means under a schema that is given. Refuses the first cause against it (docs/refusals.md), and
-/// want of memory.
+/// The frame that an input means under its settled schema. Refuses the first cause against it (docs/refusals.md), and want of
+/// memory.
 pub fn read_frame(
     alloc: Global,
     input: &[u8],
     options: &CsvReadOptions,
-    schema: &Schema,
 ) -> PolarsResult<DataFrame>
-    ensures { MatchResult result (IsRead options.now (settled options.now schema.now) input.now) (IsReadFault options.now (settled options.now schema.now) input.now) }
+    ensures { MatchResult result (IsRead options.now (settled_schema options.now input.now) input.now) (IsReadFault options.now (settled_schema options.now input.now) input.now) }
 {
     check_options(options)?;
-    match read_checked(alloc, input, options, schema) {
+    match read_checked(alloc, input, options) {
         Ok(frame) => Ok(frame),
         Err(fault) => Err(fault),
     }
 }
 
-/// The frame that an input means under a schema that is given, where the options may stand: `check_options` tells. Refuses the
+/// The frame that an input means under its settled schema, where the options may stand: `check_options` tells. Refuses the
 /// first cause against it, and want of memory.
 pub fn read_checked(
     alloc: Global,
     input: &[u8],
     options: &CsvReadOptions,
-    schema: &Schema,
 ) -> PolarsResult<DataFrame>
     requires { MayRead options.now }
-    ensures frame { IfOk result (λ frame. frame ≡ frame_of options.now (settled options.now schema.now) input.now) }
-    ensures sound { OnOk result (late_cause options.now (settled options.now schema.now) input.now ≡ None) }
-    ensures refused { IfErr result (IsFault (late_cause options.now (settled options.now schema.now) input.now)) }
+    ensures frame { IfOk result (λ frame. frame ≡ frame_of options.now (settled_schema options.now input.now) input.now) }
+    ensures sound { OnOk result (late_cause options.now (settled_schema options.now input.now) input.now ≡ None) }
+    ensures refused { IfErr result (IsFault (late_cause options.now (settled_schema options.now input.now) input.now)) }
 {
     if is_compressed(input) {
         return Err(PolarsError::ComputeError(ComputeFault::Compressed));
     }
-    let schema = settled_schema(options, schema)?;
+    let schema = settled_schema(alloc, input, options)?;
     read_settled(alloc, input, options, &schema)
 }
 
@@ -192,12 +190,7 @@ fn plan_of<'a>(
 {
     let parse_options = &options.parse_options;
     RangePlan {
-        dialect: Dialect {
-            separator: parse_options.separator,
-            quote_char: parse_options.quote_char,
-            eol_char: parse_options.eol_char,
-            comment_prefix: parse_options.comment_prefix.as_ref(),
-        },
+        dialect: parse_options.dialect(),
         projection: Projection {
             places,
             width: schema.len(),
@@ -286,7 +279,8 @@ mod tests {
         push(alloc, &mut schema, "c", DataType::Int64)?;
         let mut options = CsvReadOptions::new(alloc);
         ask(alloc, &mut options, [2, 0])?;
-        let frame = read_frame(alloc, b"1,x\"y,2\n3,z,4\nx,,\n", &options, &schema)?;
+        let options = options.with_schema(Some(schema));
+        let frame = read_frame(alloc, b"1,x\"y,2\n3,z,4\nx,,\n", &options)?;
         assert_eq!(rt; last_row(&frame), Some((Value::Whole(8), Value::Whole(3))));
         Ok(())
     }

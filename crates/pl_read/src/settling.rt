@@ -1,18 +1,56 @@
-//! The settled schema: the one that is given, with the types that the options put in place of its first ones.
-ghost use Rattle.std.specs.Prelude.{◌≡◌, ◌<◌, IfOk, OnOk, IfErr, IsOkUnless, length, unwrap_or, []};
-ghost use Rattle.std.specs.Option.{option_map};
+//! The settled schema: the one that is given, or else that of the input, with the types that the options put in place of its
+//! first ones.
+ghost use Rattle.std.specs.Prelude.{◌≡◌, IfOk, OnOk, IfErr, IsOkUnless, None, unwrap_or, []};
 ghost use Rattle.pl_frame.specs.declared.error.PolarsError.TheVariants as error;
-ghost use Rattle.pl_frame.specs.Types.{is_readable};
-ghost use Rattle.pl_cells.specs.InitBuffers.{entry_at};
-ghost use Rattle.pl_read.specs.Options.{with_types, settled};
-ghost use Rattle.pl_read.specs.Refusals.{first_unreadable};
-ghost use Rattle.pl_read.specs.Steps.{IsFault, settling_cause};
+ghost use Rattle.pl_frame.specs.Dialect.{AreDistinct};
+ghost use Rattle.pl_infer.specs.Causes.{first_some, IsFault};
+ghost use Rattle.pl_infer.specs.Text.{marks_of};
+ghost use Rattle.pl_schema.specs.Inference.{inference_of, inferred, inference_causes};
+ghost use Rattle.pl_read.specs.Options.{schema_of, with_types, settled, settled_schema};
+ghost use Rattle.pl_read.specs.Steps.{MayRead, schema_cause, types_cause, settling_cause};
 
 use pl_frame::data_type::DataType;
 use pl_frame::error::{ComputeFault, OpFault, PolarsError, PolarsResult};
 use pl_frame::schema::Schema;
 use pl_infer::column_lists::DataTypes;
 use pl_infer::read_options::CsvReadOptions;
+use pl_schema::inference::infer_schema;
+use pl_schema::inference_options::InferenceOptions;
+use pl_schema::schemas::find_unreadable;
+use std::alloc::Global;
+
+// The schema of an input for which none is given. Refuses an input without a record, where that is asked (`Empty`), then the
+// first name that an earlier column has (`Duplicate`), and want of memory.
+fn inferred_schema(
+    alloc: Global,
+    input: &[u8],
+    options: &CsvReadOptions,
+) -> PolarsResult<Schema>
+    requires { AreDistinct (marks_of options.now.parse_options) }
+    ensures inferred { IfOk result (λ schema. schema ≡ inferred (inference_of options.now) input.now) }
+    ensures sound { OnOk result (first_some (inference_causes (inference_of options.now) input.now) ≡ None) }
+    ensures refused { IfErr result (IsFault (first_some (inference_causes (inference_of options.now) input.now))) }
+{
+    let inference = InferenceOptions::of(options);
+    match infer_schema(alloc, input, &inference, options.n_threads) {
+        Ok(found) => Ok(found.inferred_schema),
+        Err(fault) => Err(fault),
+    }
+}
+
+// The schema that is given, or else that of the input. Refuses the first cause against it where it is not given, and want of
+// memory.
+fn schema_of(alloc: Global, input: &[u8], options: &CsvReadOptions) -> PolarsResult<Schema>
+    requires { MayRead options.now }
+    ensures schema { IfOk result (λ schema. schema ≡ schema_of options.now input.now) }
+    ensures sound { OnOk result (schema_cause options.now input.now ≡ None) }
+    ensures refused { IfErr result (IsFault (schema_cause options.now input.now)) }
+{
+    match &options.schema {
+        Some(schema) => schema.try_clone(),
+        None => inferred_schema(alloc, input, options),
+    }
+}
 
 // The types that the options put in place of the first ones.
 fn given_types(options: &CsvReadOptions) -> &[DataType]
@@ -36,35 +74,12 @@ fn put_types(schema: &mut Schema, types: &[DataType]) -> PolarsResult<()>
     Ok(())
 }
 
-// Whether the type at a place of a schema can be read.
-fn is_readable_at(schema: &Schema, place: usize) -> bool
-    requires { place < length schema.now }
-    ensures { result ≡ is_readable (entry_at schema.now place).1 }
-{
-    match schema.get_at_index(place) {
-        Some((_, dtype)) => dtype.readable(),
-        None => unreachable!(),
-    }
-}
-
-// The least column whose type can't be read.
-fn find_unreadable(schema: &Schema) -> Option<usize>
-    ensures { result ≡ first_unreadable schema.now }
-{
-    for place in 0..schema.len() {
-        if !is_readable_at(schema, place) {
-            return Some(place);
-        }
-    }
-    None
-}
-
-/// The settled schema of one that is given. Refuses more types than it has columns (`Overrides`), then the least column whose
-/// type can't be read (`Dtype`), and want of memory.
-pub fn settled_schema(options: &CsvReadOptions, given: &Schema) -> PolarsResult<Schema>
-    ensures settled { IfOk result (λ schema. schema ≡ settled options.now given.now) }
-    ensures sound { OnOk result (settling_cause options.now given.now ≡ None) }
-    ensures refused { IfErr result (IsFault (settling_cause options.now given.now)) }
+// A schema with the types that the options give. Refuses more types than it has columns (`Overrides`), then the least column
+// whose type can't be read (`Dtype`), and want of memory.
+fn with_given_types(options: &CsvReadOptions, given: Schema) -> PolarsResult<Schema>
+    ensures settled { IfOk result (λ schema. schema ≡ settled options.now given) }
+    ensures sound { OnOk result (types_cause options.now given ≡ None) }
+    ensures refused { IfErr result (IsFault (types_cause options.now given)) }
 {
     let types = given_types(options);
     if types.len() > given.len() {
@@ -73,10 +88,27 @@ pub fn settled_schema(options: &CsvReadOptions, given: &Schema) -> PolarsResult<
             columns: given.len(),
         }));
     }
-    let mut schema = given.try_clone()?;
+    let mut schema = given;
     put_types(&mut schema, types)?;
     match find_unreadable(&schema) {
         Some(column) => Err(PolarsError::ComputeError(ComputeFault::Dtype { column })),
         None => Ok(schema),
     }
+}
+
+/// The settled schema of an input, where the options may stand. Refuses the first cause against it, in this order: where no
+/// schema is given, an input without a record (`Empty`) and a name that an earlier column has (`Duplicate`); more types than
+/// there are columns (`Overrides`), the least column whose type can't be read (`Dtype`); and want of memory.
+pub fn settled_schema(
+    alloc: Global,
+    input: &[u8],
+    options: &CsvReadOptions,
+) -> PolarsResult<Schema>
+    requires { MayRead options.now }
+    ensures settled { IfOk result (λ schema. schema ≡ settled_schema options.now input.now) }
+    ensures sound { OnOk result (settling_cause options.now input.now ≡ None) }
+    ensures refused { IfErr result (IsFault (settling_cause options.now input.now)) }
+{
+    let schema = schema_of(alloc, input, options)?;
+    with_given_types(options, schema)
 }

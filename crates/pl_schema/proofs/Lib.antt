@@ -3,3 +3,4 @@ pub mod SchemaLaws
 pub mod NameLaws
 mod SampleLaws
 mod ColumnTypeLaws
+pub mod InferenceLaws

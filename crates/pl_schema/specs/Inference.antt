@@ -98,10 +98,13 @@ overwritten other width column entry = elim (type_of entry.0 other) [
   | None ↦ if length other == width then entry_at other column else entry
 ]
 
--- columns of these names and types, overwritten
+-- the column at a place of these names and types
+abbrev pub overwritten_at : List Entry → List (List ℕ) → List DataType → ℕ → Entry
+overwritten_at other names types column = overwritten other (length names) column (slice_index_or names column [], slice_index_or types column dtype.String)
+
+-- all columns of these names and types
 abbrev pub overwritten_columns : List Entry → List (List ℕ) → List DataType → List Entry
-overwritten_columns other names types =
-    map (λ column. overwritten other (length names) column (slice_index_or names column [], slice_index_or types column dtype.String)) (range_with_len 0 (length names))
+overwritten_columns other names types = map (overwritten_at other names types) (range_with_len 0 (length names))
 
 -- the columns of an input, by their first record and their sample
 abbrev pub inferred : Inference → List ℕ → List Entry

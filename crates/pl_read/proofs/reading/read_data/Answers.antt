@@ -3,9 +3,10 @@ use Rattle.std.specs.Prelude.{IfOk, OnOk, IfErr, None, length}
 use Rattle.std.specs.Option.{option_copied}
 use Rattle.pl_frame.specs.Frame.{IsFrame, height_of}
 use Rattle.pl_rows.specs.Plan.{AreRising}
+use Rattle.pl_infer.specs.Causes.{IsFault}
 use Rattle.pl_read.specs.Refusals.{index_past}
 use Rattle.pl_read.specs.Rows.{with_index, data_frame}
-use Rattle.pl_read.specs.Steps.{IsFault, data_cause}
+use Rattle.pl_read.specs.Steps.{data_cause}
 use Rattle.pl_read.proofs.ProjectionLaws.{projected-rises, projected-below}
 use Rattle.pl_read.proofs.DataLaws.{faulty-cause, columns-are, IsFrame-indexed, data_cause-index, data_frame-is, readable-places}
 use Rattle.pl_read.proofs.reading.read_data.Goals as goal

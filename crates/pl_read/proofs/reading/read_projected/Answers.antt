@@ -3,7 +3,7 @@ use Rattle.std.specs.Prelude.{nat_lt, ◌==◌, ◌&&◌}
 use Rattle.pl_frame.specs.declared.error.PolarsError.TheVariants as error
 use Rattle.pl_cells.specs.NullValues.{HaveTexts}
 use Rattle.pl_read.specs.Projection.{projected}
-use Rattle.pl_read.specs.Refusals.{when}
+use Rattle.pl_infer.specs.Causes.{when}
 use Rattle.pl_read.proofs.DataLaws.{may-apart, texts-compiled}
 use Rattle.pl_read.proofs.reading.read_projected.Goals as goal
 

@@ -1,38 +1,21 @@
-use Rattle.std.proofs.Common.{◌≡◌, List, [], length, sym, ◌∙◌, ap, arith, inl}
-use Rattle.std.specs.Prelude.{Some, unwrap_or}
-use Rattle.std.specs.Option.{option_map}
-use Rattle.pl_frame.specs.declared.data_type.DataType.{DataType}
-use Rattle.pl_frame.specs.declared.error.PolarsError.TheVariants as error
-use Rattle.pl_frame.specs.declared.error.OpFault.TheVariants as op_fault
-use Rattle.pl_frame.specs.declared.error.ComputeFault.TheVariants as compute_fault
-use Rattle.pl_read.specs.Options.{with_types, settled}
-use Rattle.pl_read.specs.Refusals.{unreadable}
-use Rattle.pl_read.proofs.SettlingLaws.{settling-overrides, settling-types}
+use Rattle.std.proofs.Common.{◌≡◌, sym, ◌∙◌, ap, subst}
+use Rattle.std.specs.Prelude.{IfOk, OnOk, IfErr, None}
+use Rattle.pl_infer.specs.Causes.{IsFault}
+use Rattle.pl_read.specs.Options.{settled}
+use Rattle.pl_read.proofs.SettlingLaws.{settling-early, settling-late}
 use Rattle.pl_read.proofs.settling.settled_schema.Goals as goal
 
-pub returns-then-types-len-clause-refused : goal.returns-then-types-len-clause-refused
-returns-then-types-len-clause-refused c =
-    let given = c.args.given.now in
-    inl (settling-overrides c.args.options.now given (omega (arith, c.if-types-len.true, c.len.ensures.len, ap length c.given_types-types.ensures))
-    ∙ ap (λ (types : List DataType). Some (error.InvalidOperation (op_fault.Overrides (length types) (length given)))) (sym c.given_types-types.ensures)
-    ∙ ap (λ n. Some (error.InvalidOperation (op_fault.Overrides (length c.given_types-types.result.now) n))) (sym c.len-then-types-len.ensures.len))
+pub returns-in_err-schema : goal.returns-in_err-schema
+returns-in_err-schema c = record { settled = tt; sound = tt; refused = settling-early c.args.options.now c.args.input.now _ c.in_err-schema.ensures.refused }
 
-pub returns-in-Some-clause-refused : goal.returns-in-Some-clause-refused
-returns-in-Some-clause-refused c =
+pub returns : goal.returns
+returns c =
     let o = c.args.options.now in
-    let given = c.args.given.now in
-    let same : c.put_types.new.schema ≡ settled o given =
-    c.in_ok-put_types.ensures.put ∙ ap (λ types. with_types types c.in_ok-schema.schema) c.given_types-types.ensures ∙ ap (with_types (unwrap_or o.dtype_overwrite [])) c.in_ok-schema.ensures.equal in
-    inl (settling-types o given (omega (arith, c.if-types-len.false, c.len.ensures.len, ap length c.given_types-types.ensures))
-    ∙ ap unreadable (sym same)
-    ∙ ap (option_map (λ column. error.ComputeError (compute_fault.Dtype column))) (sym c.find_unreadable.ensures ∙ c.in-Some.is))
-
-pub returns-in-None-clause-sound : goal.returns-in-None-clause-sound
-returns-in-None-clause-sound c =
-    let o = c.args.options.now in
-    let given = c.args.given.now in
-    let same : c.put_types.new.schema ≡ settled o given =
-    c.in_ok-put_types.ensures.put ∙ ap (λ types. with_types types c.in_ok-schema.schema) c.given_types-types.ensures ∙ ap (with_types (unwrap_or o.dtype_overwrite [])) c.in_ok-schema.ensures.equal in
-    settling-types o given (omega (arith, c.if-types-len.false, c.len.ensures.len, ap length c.given_types-types.ensures))
-    ∙ ap unreadable (sym same)
-    ∙ ap (option_map (λ column. error.ComputeError (compute_fault.Dtype column))) (sym c.find_unreadable.ensures ∙ c.in-None.is)
+    let input = c.args.input.now in
+    let result = c.with_given_types.result in
+    let same = settling-late o input c.in_ok-schema.schema c.in_ok-schema.ensures.schema c.in_ok-schema.ensures.sound in
+    record {
+      settled = subst (λ is. IfOk result (λ schema. schema ≡ is)) (ap (settled o) c.in_ok-schema.ensures.schema) c.with_given_types.ensures.settled;
+      sound = subst (λ is. OnOk result (is ≡ None)) same c.with_given_types.ensures.sound;
+      refused = subst (λ is. IfErr result (IsFault is)) same c.with_given_types.ensures.refused;
+    }

@@ -166,5 +166,5 @@ inference_result i asked input = record {
 }
 
 -- a schema, the number of sampled items, and the bytes up to the end of the last of them
-abbrev pub IsInferred : Inference → List ℕ → List Entry × (ℕ × ℕ) → Type 0
-IsInferred i input found = (found.0 ≡ inferred i input) × (found.1.0 ≡ length (sample_of i (data_in i input))) × (found.1.1 ≡ sampled_bytes i input)
+abbrev pub IsInferred : Inference → List ℕ → List Entry × ℕ × ℕ → Type 0
+IsInferred i input found = (found.0 ≡ inferred i input) × (found.1 ≡ length (sample_of i (data_in i input))) × (found.2 ≡ sampled_bytes i input)

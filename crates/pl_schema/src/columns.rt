@@ -3,7 +3,7 @@ ghost use Rattle.std.specs.Prelude.{◌≡◌, ◌<◌, ◌++◌, ◌∷◌, [],
 ghost use Rattle.std.specs.Option.{option_copied};
 ghost use Rattle.pl_frame.specs.declared.error.PolarsError.TheVariants as error;
 ghost use Rattle.pl_frame.specs.Names.{first_repeat};
-ghost use Rattle.pl_frame.specs.Schema.{names_in};
+ghost use Rattle.pl_frame.specs.Schema.{names_in, place_of};
 ghost use Rattle.pl_infer.specs.Causes.{IsFault};
 ghost use Rattle.pl_schema.specs.Inference.{overwritten, overwritten_columns, repeated};
 
@@ -80,7 +80,7 @@ fn column_at(
     other: Option<&Schema>,
 ) -> PolarsResult<InferredColumn>
     requires { column < width }
-    ensures overwritten { IfOk result (λ made. made ≡ overwritten (unwrap_or (option_copied other) []) width column (name.now, dtype.now)) }
+    ensures overwritten { IfOk result (λ made. made ≡ overwritten (unwrap_or (option_copied other.entry) []) width column (name.now, dtype.now)) }
     ensures refused { IsOkUnless result error.OutOfMemory }
 {
     match other {
@@ -108,7 +108,7 @@ pub(crate) fn overwritten_columns(
     other: Option<&Schema>,
 ) -> PolarsResult<Vec<InferredColumn>>
     requires { length types.now ≡ length names.now }
-    ensures columns { IfOk result (λ columns. columns.items ≡ overwritten_columns (unwrap_or (option_copied other) []) names.now types.now) }
+    ensures columns { IfOk result (λ columns. columns.items ≡ overwritten_columns (unwrap_or (option_copied other.entry) []) names.now types.now) }
     ensures refused { IsOkUnless result error.OutOfMemory }
 {
     let mut columns = Vec::new(alloc);
@@ -120,29 +120,42 @@ pub(crate) fn overwritten_columns(
 }
 
 /// The schema of columns. Refuses the first name that an earlier column has (`Duplicate`), and want of memory.
-pub(crate) fn schema_of(alloc: Global, columns: Vec<InferredColumn>) -> PolarsResult<Schema>
-    ensures schema { IfOk result (λ schema. schema ≡ columns.items) }
-    ensures distinct { OnOk result (repeated columns.items ≡ None) }
-    ensures refused { IfErr result (IsFault (repeated columns.items)) }
+pub(crate) fn schema_of(alloc: Global, columns: &[InferredColumn]) -> PolarsResult<Schema>
+    ensures schema { IfOk result (λ schema. schema ≡ columns.now) }
+    ensures distinct { OnOk result (repeated columns.now ≡ None) }
+    ensures refused { IfErr result (IsFault (repeated columns.now)) }
 {
-    if let Some(place) = find_repeat(&columns) {
+    if let Some(place) = find_repeat(columns) {
+        let column = &columns[place];
         return Err(PolarsError::Duplicate {
-            name: columns[place].name.try_clone()?,
+            name: column.name.try_clone()?,
             at: NamePlace::Schema,
         });
     }
     distinct_schema(alloc, columns)
 }
 
+// Puts a column at the end of a schema that does not have its name. Refuses only want of memory.
+fn add_column(schema: &mut Schema, column: &InferredColumn) -> PolarsResult<()>
+    requires { place_of column.now.0 schema.old ≡ None }
+    ensures added { OnOk result (schema.new ≡ schema.old ++ column.now ∷ []) }
+    ensures refused { IsOkUnless result error.OutOfMemory }
+{
+    let name = column.name.try_clone()?;
+    let dtype = column.dtype.try_clone()?;
+    schema.with_column(name, dtype)?;
+    Ok(())
+}
+
 // The schema of columns with distinct names. Refuses only want of memory.
-fn distinct_schema(alloc: Global, columns: Vec<InferredColumn>) -> PolarsResult<Schema>
-    requires { first_repeat (names_in columns.items) ≡ None }
-    ensures schema { IfOk result (λ schema. schema ≡ columns.items) }
+fn distinct_schema(alloc: Global, columns: &[InferredColumn]) -> PolarsResult<Schema>
+    requires { first_repeat (names_in columns.now) ≡ None }
+    ensures schema { IfOk result (λ schema. schema ≡ columns.now) }
     ensures refused { IsOkUnless result error.OutOfMemory }
 {
     let mut schema = Schema::new(alloc);
-    for column in columns {
-        schema.with_column(column.name, column.dtype)?;
+    for place in 0..columns.len() {
+        add_column(&mut schema, &columns[place])?;
     }
     Ok(schema)
 }

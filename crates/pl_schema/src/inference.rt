@@ -79,7 +79,7 @@ fn names_of(
     options: &InferenceOptions<'_>,
 ) -> PolarsResult<ColumnNames>
     requires { AreDistinct (marks_of options.now.parse_options.now) }
-    ensures names { IfOk result (λ names. names ≡ option_map_or (header.column_names options.now.has_header (marks_of options.now.parse_options.now)) (option_copied record) []) }
+    ensures names { IfOk result (λ names. names ≡ option_map_or (header.column_names options.now.has_header (marks_of options.now.parse_options.now)) (option_copied record.entry) []) }
     ensures refused { IsOkUnless result error.OutOfMemory }
 {
     let parse_options = options.parse_options;
@@ -142,12 +142,12 @@ fn settled_schema(
     other: Option<&Schema>,
 ) -> PolarsResult<Schema>
     requires { length types.now ≡ length names.now }
-    ensures schema { IfOk result (λ schema. schema ≡ overwritten_columns (unwrap_or (option_copied other) []) names.now types.now) }
-    ensures distinct { OnOk result (repeated (overwritten_columns (unwrap_or (option_copied other) []) names.now types.now) ≡ None) }
-    ensures refused { IfErr result (IsFault (repeated (overwritten_columns (unwrap_or (option_copied other) []) names.now types.now))) }
+    ensures schema { IfOk result (λ schema. schema ≡ overwritten_columns (unwrap_or (option_copied other.entry) []) names.now types.now) }
+    ensures distinct { OnOk result (repeated (overwritten_columns (unwrap_or (option_copied other.entry) []) names.now types.now) ≡ None) }
+    ensures refused { IfErr result (IsFault (repeated (overwritten_columns (unwrap_or (option_copied other.entry) []) names.now types.now))) }
 {
     let columns = overwritten_columns(alloc, names, types, other)?;
-    schema_of(alloc, columns)
+    schema_of(alloc, &columns)
 }
 
 // How many bytes stand between the skipped lines and the place just behind the last sampled item; 0 where none is sampled.
@@ -208,7 +208,10 @@ fn infer_types(
     let sample = sample_of(alloc, data, names, options)?;
     let bytes_read = sampled_bytes(bytes, data, &sample, options);
     let types = sample.types.dtypes();
-    let inferred_schema = settled_schema(alloc, names, types, options.schema_overwrite)?;
+    let inferred_schema = match settled_schema(alloc, names, types, options.schema_overwrite) {
+        Ok(schema) => schema,
+        Err(fault) => return Err(fault),
+    };
     Ok(SchemaInferenceResult {
         inferred_schema,
         rows_read: sample.items,
@@ -326,13 +329,14 @@ mod tests {
     // The schema of two columns.
     fn two_columns(
         alloc: Global,
-        names: [&str; 2],
-        types: [DataType; 2],
+        name: &str,
+        dtype: DataType,
+        other: &str,
+        other_dtype: DataType,
     ) -> Result<Schema, Fail> {
-        let [first, second] = types;
         let mut schema = Schema::new(alloc);
-        schema.with_column(PlSmallStr::from_str(alloc, names[0])?, first)?;
-        schema.with_column(PlSmallStr::from_str(alloc, names[1])?, second)?;
+        schema.with_column(PlSmallStr::from_str(alloc, name)?, dtype)?;
+        schema.with_column(PlSmallStr::from_str(alloc, other)?, other_dtype)?;
         Ok(schema)
     }
 
@@ -363,8 +367,8 @@ mod tests {
     fn names_and_types_are_inferred(rt: HostRuntime) -> Result<(), Fail> {
         let alloc = rt.alloc();
         let (schema, items, bytes) = infer(alloc, b"a,b\n1,x\n", None, true, &mut None)?;
-        let types = [DataType::Int64, DataType::String];
-        assert!(rt; schema == two_columns(alloc, ["a", "b"], types)?);
+        let wanted = two_columns(alloc, "a", DataType::Int64, "b", DataType::String)?;
+        assert!(rt; schema == wanted);
         assert_eq!(rt; (items, bytes), (1, 7));
         Ok(())
     }
@@ -381,14 +385,14 @@ mod tests {
     #[test]
     fn a_schema_overwrites_by_place_or_by_name(rt: HostRuntime) -> Result<(), Fail> {
         let alloc = rt.alloc();
-        let other = two_columns(alloc, ["x", "y"], [DataType::Int8, DataType::Int8])?;
+        let other = two_columns(alloc, "x", DataType::Int8, "y", DataType::Int8)?;
         let (schema, _, _) = infer(alloc, b"a,b\n", Some(&other), true, &mut None)?;
         assert!(rt; schema == other);
         let mut other = Schema::new(alloc);
         other.with_column(PlSmallStr::from_str(alloc, "b")?, DataType::Int8)?;
         let (schema, _, _) = infer(alloc, b"a,b\n1,2\n", Some(&other), true, &mut None)?;
-        let types = [DataType::Int64, DataType::Int8];
-        assert!(rt; schema == two_columns(alloc, ["a", "b"], types)?);
+        let wanted = two_columns(alloc, "a", DataType::Int64, "b", DataType::Int8)?;
+        assert!(rt; schema == wanted);
         Ok(())
     }
 

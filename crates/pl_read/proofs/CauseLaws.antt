@@ -1,11 +1,12 @@
 -- The first of several causes.
 use Rattle.std.proofs.Common.{◌≡◌, ℕ, List, [], ◌∷◌, ◌++◌, refl, sym, ◌∙◌, inl, inr}
-use Rattle.std.specs.Prelude.{Option, None, Some}
+use Rattle.std.specs.Prelude.{Option, None, Some, Result, Ok, Err, IfOk, OnOk, IfErr, MatchResult}
 use Rattle.pl_frame.specs.declared.error.PolarsError.{PolarsError}
+use Rattle.pl_frame.specs.Frame.{ColumnValue}
 use Rattle.pl_frame.specs.Schema.{Entry}
 use Rattle.pl_infer.specs.declared.read_options.CsvReadOptions.{CsvReadOptions}
 use Rattle.pl_infer.specs.Causes.{IsFirstCause, first_some, IsFault}
-use Rattle.pl_read.specs.Reading.{IsRefusal, IsReadFault}
+use Rattle.pl_read.specs.Reading.{frame_of, IsRead, IsRefusal, IsReadFault}
 use Rattle.pl_read.specs.Refusals.{early_causes, late_causes, read_causes}
 use Rattle.pl_read.specs.Steps.{MayRead, late_cause}
 
@@ -81,3 +82,10 @@ refused-late o schema input fault may (inr wanting) = inr wanting
 pub sound-late : (o : CsvReadOptions) (schema : List Entry) (input : List ℕ) → MayRead o → late_cause o schema input ≡ None → IsFirstCause (read_causes o schema input) o.parse_options None
 sound-late o schema input may none =
     record { is_dialect = may.is_dialect; tells = may.tells; is = sym (first_some-late (early_causes o may.is_dialect) (late_causes o schema input) (sym may.is) ∙ none) }
+
+-- an answer behind the options
+pub read-answer : (o : CsvReadOptions) (schema : List Entry) (input : List ℕ) (result : Result (List ColumnValue) PolarsError) → MayRead o
+    → IfOk result (λ frame. frame ≡ frame_of o schema input) → OnOk result (late_cause o schema input ≡ None) → IfErr result (IsFault (late_cause o schema input))
+    → MatchResult result (IsRead o schema input) (IsReadFault o schema input)
+read-answer o schema input (Ok frame) may is sound refused = (sound-late o schema input may sound, is)
+read-answer o schema input (Err fault) may is sound refused = refused-late o schema input fault may refused

@@ -1,5 +1,5 @@
 -- Inputs whose inferred schema has no column.
-use Rattle.std.proofs.Common.{◌≡◌, ℕ, zero, suc, ◌+◌, ◌<◌, Bool, true, false, ◌&&◌, cond, List, [], ◌∷◌, map, length, refl, sym, ◌∙◌, ap, arith}
+use Rattle.std.proofs.Common.{◌≡◌, ℕ, zero, suc, ◌+◌, ◌<◌, Bool, true, false, ◌&&◌, cond, List, [], ◌∷◌, ◌++◌, map, length, refl, sym, ◌∙◌, ap, arith}
 use Rattle.std.specs.Prelude.{◌↔◌, Option, None, Some, is_none, unwrap_or}
 use Rattle.std.specs.List.{range_with_len}
 use Rattle.std.specs.Option.{option_map_or}
@@ -23,7 +23,7 @@ use Rattle.pl_read.specs.Laws.{SchemaIsEmptyWithoutRecord}
 use Rattle.pl_read.specs.Options.{with_types, schema_of, settled, settled_schema}
 use Rattle.pl_read.specs.Reading.{IsRead}
 use Rattle.pl_read.specs.Refusals.{unless_given, no_record, early_causes, late_causes, read_causes}
-use Rattle.pl_read.proofs.CauseLaws.{first_some-front, first_some-rest}
+use Rattle.pl_read.proofs.SelectionLaws.{each-none}
 use Rattle.pl_read.proofs.SettlingLaws.{length-with_types, schema-inferred}
 
 -- a list of no length
@@ -48,7 +48,9 @@ names-none : (i : Inference) (record_there : Option (List ℕ)) → length (opti
 names-none i None e = refl
 names-none i (Some b) e =
     let some = fields-some (marks_of i.parse) b in
-    absurd (omega (arith, length-names i.skips.has_header (marks_of i.parse) b))
+    let none : length (fields (marks_of i.parse) b) ≡ 0 = sym (length-names i.skips.has_header (marks_of i.parse) b) ∙ e in
+    let one : length (fields (marks_of i.parse) b) ≡ length (some.0 ∷ some.1) = ap length some.2 in
+    absurd (omega (arith, none, one))
 
 record-none : (i : Inference) (record_there : Option (List ℕ)) → record_there ≡ None → length (option_map_or (column_names i.skips.has_header (marks_of i.parse)) record_there []) ≡ 0
 record-none i record_there e = ap (λ (r : Option (List ℕ)). length (option_map_or (column_names i.skips.has_header (marks_of i.parse)) r [])) e
@@ -69,12 +71,7 @@ not-raised (Some b) raised e none = absurd (cc)
 
 -- where an input has a read, it is not refused for want of a record
 no_record-none : (o : CsvReadOptions) (input : List ℕ) (frame : List ColumnValue) → IsRead o (settled_schema o input) input frame → no_record o input ≡ None
-no_record-none o input frame (first, frame_is) = by first.is_dialect (sym first.is)
-  where
-    by : (d : Bool) → first_some (read_causes o (settled_schema o input) input d) ≡ None → no_record o input ≡ None
-    by d none =
-        let late = first_some-rest _ _ (first_some-rest _ _ none) in
-        first_some-front (no_record o input) _ (first_some-rest _ _ late)
+no_record-none o input frame (first, frame_is) = (each-none (read_causes o (settled_schema o input) input first.is_dialect) (sym first.is)).1.1.1.0
 
 pub schema-empty : SchemaIsEmptyWithoutRecord
 schema-empty o input frame none read = (forth, λ both. none-there (settled_schema o input) (length-settled o input none ∙ record-none (inference_of o) (first_record (inference_of o) input) both.0))

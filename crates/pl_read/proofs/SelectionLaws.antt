@@ -226,11 +226,11 @@ frame-kept (Some index) rules given schema p = ap (λ l. row_index_column index.
 -- ---- the law
 
 -- none of several causes is there
-abbrev AreNone : List (Option PolarsError) → Type 0
+abbrev pub AreNone : List (Option PolarsError) → Type 0
 AreNone [] = Unit {0}
 AreNone (x ∷ xs) = (x ≡ None) × AreNone xs
 
-each-none : (xs : List (Option PolarsError)) → first_some xs ≡ None → AreNone xs
+pub each-none : (xs : List (Option PolarsError)) → first_some xs ≡ None → AreNone xs
 each-none [] none = tt
 each-none (x ∷ xs) none = (first_some-front x xs none, each-none xs (first_some-rest x xs none))
 

@@ -1,23 +1,25 @@
 -- The settled schema, and what stands against it.
-use Rattle.std.proofs.Common.{◌≡◌, ℕ, zero, suc, ◌<◌, ◌≤◌, List, [], ◌∷◌, length, take, get_or, refl, sym, ◌∙◌, ap, subst, inr, arith, nat_lt, true, false}
+use Rattle.std.proofs.Common.{◌≡◌, ℕ, zero, suc, ◌<◌, ◌≤◌, List, [], ◌∷◌, ◌++◌, length, take, drop, get_or, refl, sym, ◌∙◌, ap, subst, inr, arith, nat_lt, true, false}
 use Rattle.std.specs.Prelude.{Option, None, Some, Result, Ok, Err, IfOk, OnOk, IfErr, IsOkUnless, slice_get, unwrap_or}
 use Rattle.std.specs.Option.{option_map}
 use Rattle.std.proofs.lemmas.Bool.{lt-ltb, le-ltb}
 use Rattle.pl_frame.specs.declared.data_type.DataType.{DataType}
 use Rattle.pl_frame.specs.declared.error.PolarsError.TheVariants as error
+use Rattle.pl_frame.specs.declared.error.ComputeFault.TheVariants as compute_fault
 use Rattle.pl_frame.specs.declared.error.OpFault.TheVariants as op_fault
+use Rattle.pl_frame.specs.Compression.{is_compressed}
 use Rattle.pl_frame.specs.declared.error.NamePlace.TheVariants as name_place
 use Rattle.pl_frame.specs.declared.error.PolarsError.{PolarsError}
 use Rattle.pl_frame.specs.Names.{repeated_name}
 use Rattle.pl_frame.specs.Schema.{Entry, names_in, with_type_at}
-use Rattle.pl_infer.specs.Causes.{first_some, IsFault}
+use Rattle.pl_infer.specs.Causes.{when, first_some, IsFault}
 use Rattle.pl_schema.specs.Inference.{inference_of, inferred, inference_causes, empty, repeated}
 use Rattle.pl_infer.specs.declared.read_options.CsvReadOptions.{CsvReadOptions}
 use Rattle.pl_schema.specs.Schemas.{unreadable}
 use Rattle.pl_read.specs.Options.{with_types, schema_of, settled, settled_schema}
-use Rattle.pl_read.specs.Refusals.{unless_given, no_record, repeats, overrides}
-use Rattle.pl_read.specs.Steps.{schema_cause, types_cause, settling_cause}
-use Rattle.pl_read.proofs.CauseLaws.{first_some-one, first_some-behind, first_some-here, first_some-late, fault-early}
+use Rattle.pl_read.specs.Refusals.{unless_given, no_record, repeats, overrides, late_causes}
+use Rattle.pl_read.specs.Steps.{late_cause, schema_cause, types_cause, settling_cause, settled_cause}
+use Rattle.pl_read.proofs.CauseLaws.{first_some-one, first_some-behind, first_some-here, first_some-late, fault-early, fault-behind}
 
 -- behind the first entry
 type_at-behind : (entry : Entry) (entries : List Entry) (i : ℕ) (type : DataType) → with_type_at (entry ∷ entries) (suc i) type ≡ entry ∷ with_type_at entries i type
@@ -123,3 +125,25 @@ settling-late o input given is none =
     let schema : List Entry = settled_schema o input in
     ap (types_cause o) is
     ∙ sym (first_some-late (no_record o input ∷ repeats o schema ∷ []) (overrides o schema ∷ unreadable schema ∷ []) (front-settled o input ∙ none))
+
+-- ---- all causes behind the options
+
+-- a fault of the settled schema
+pub late-early : (o : CsvReadOptions) (input : List ℕ) (fault : PolarsError) → is_compressed input ≡ false → IsFault (settling_cause o input) fault → IsFault (late_cause o (settled_schema o input) input) fault
+late-early o input fault plain is =
+    let schema : List Entry = settled_schema o input in
+    let front : List (Option PolarsError) = no_record o input ∷ repeats o schema ∷ overrides o schema ∷ unreadable schema ∷ [] in
+    let behind : List (Option PolarsError) = drop 5 (late_causes o schema input) in
+    fault-behind (when (is_compressed input) (error.ComputeError compute_fault.Compressed)) (front ++ behind) fault
+    (ap (λ t. when t (error.ComputeError compute_fault.Compressed)) plain) (fault-early front behind fault is)
+
+-- where there is none
+pub late-settled : (o : CsvReadOptions) (input : List ℕ) (given : List Entry) → given ≡ settled_schema o input → is_compressed input ≡ false → settling_cause o input ≡ None
+    → settled_cause o given input ≡ late_cause o (settled_schema o input) input
+late-settled o input given is plain none =
+    let schema : List Entry = settled_schema o input in
+    let front : List (Option PolarsError) = no_record o input ∷ repeats o schema ∷ overrides o schema ∷ unreadable schema ∷ [] in
+    let behind : List (Option PolarsError) = drop 5 (late_causes o schema input) in
+    ap (λ (s : List Entry). settled_cause o s input) is
+    ∙ sym (first_some-behind (when (is_compressed input) (error.ComputeError compute_fault.Compressed)) (front ++ behind)
+    (ap (λ t. when t (error.ComputeError compute_fault.Compressed)) plain) ∙ first_some-late front behind none)

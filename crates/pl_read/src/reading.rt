@@ -37,9 +37,8 @@ pub fn read_frame(
 ) -> PolarsResult<DataFrame>
     ensures { MatchResult result (IsRead options.now (settled_schema options.now input.now) input.now) (IsReadFault options.now (settled_schema options.now input.now) input.now) }
 {
-    check_options(options)?;
-    match read_checked(alloc, input, options) {
-        Ok(frame) => Ok(frame),
+    match check_options(options) {
+        Ok(()) => read_checked(alloc, input, options),
         Err(fault) => Err(fault),
     }
 }
@@ -59,8 +58,10 @@ pub fn read_checked(
     if is_compressed(input) {
         return Err(PolarsError::ComputeError(ComputeFault::Compressed));
     }
-    let schema = settled_schema(alloc, input, options)?;
-    read_settled(alloc, input, options, &schema)
+    match settled_schema(alloc, input, options) {
+        Ok(schema) => read_settled(alloc, input, options, &schema),
+        Err(fault) => Err(fault),
+    }
 }
 
 // What stands from the starting point on, where there is one.

@@ -109,6 +109,8 @@ pub fn settled_schema(
     ensures sound { OnOk result (settling_cause options.now input.now ≡ None) }
     ensures refused { IfErr result (IsFault (settling_cause options.now input.now)) }
 {
-    let schema = schema_of(alloc, input, options)?;
-    with_given_types(options, schema)
+    match schema_of(alloc, input, options) {
+        Ok(schema) => with_given_types(options, schema),
+        Err(fault) => Err(fault),
+    }
 }

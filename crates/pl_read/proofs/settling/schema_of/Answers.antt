@@ -1,4 +1,4 @@
-use Rattle.std.proofs.Common.{◌≡◌, sym, ◌∙◌, subst}
+use Rattle.std.proofs.Common.{◌≡◌, sym, subst}
 use Rattle.std.specs.Prelude.{IfOk, OnOk, IfErr, None}
 use Rattle.pl_infer.specs.Causes.{IsFault}
 use Rattle.pl_read.proofs.DataLaws.{may-apart}
@@ -14,8 +14,8 @@ returns-in-Some c =
     let input = c.args.input.now in
     let result = c.try_clone.result in
     record {
-      schema = copy-schema o input c.in-Some.schema.now result c.in-Some.is c.try_clone.ensures.equal;
-      sound = copy-sound o input c.in-Some.schema.now result c.in-Some.is;
+      schema = copy-schema o input c.in-Some.schema result c.in-Some.is c.try_clone.ensures.equal;
+      sound = copy-sound o input c.in-Some.schema result c.in-Some.is;
       refused = copy-refused _ result c.try_clone.ensures.refused;
     }
 

@@ -1,5 +1,5 @@
-use Rattle.std.proofs.Common.{◌≡◌, List, [], length, sym, ◌∙◌, ap, arith, inl}
-use Rattle.std.specs.Prelude.{Some, unwrap_or}
+use Rattle.std.proofs.Common.{◌≡◌, List, length, sym, ◌∙◌, ap, arith, inl}
+use Rattle.std.specs.Prelude.{Some}
 use Rattle.std.specs.Option.{option_map}
 use Rattle.pl_frame.specs.declared.data_type.DataType.{DataType}
 use Rattle.pl_frame.specs.declared.error.PolarsError.TheVariants as error

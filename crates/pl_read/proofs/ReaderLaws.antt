@@ -15,7 +15,7 @@ use Rattle.pl_infer.specs.declared.parse_options.CsvParseOptions.{CsvParseOption
 use Rattle.pl_infer.specs.declared.read_options.CsvReadOptions.{CsvReadOptions}
 use Rattle.pl_infer.specs.declared.row_index.RowIndex.{RowIndex}
 use Rattle.pl_read.specs.BytesReader.{input_of, IsSourceFault}
-use Rattle.pl_read.specs.CsvReader.{IsInput, OfInput, IsFinishFault, IsMeaning, AnswersUnlessFailed}
+use Rattle.pl_read.specs.CsvReader.{Reader, IsInput, OfInput, IsFinishFault, IsMeaning, AnswersUnlessFailed}
 use Rattle.pl_infer.specs.Causes.{Tells, IsFirstCause, when, first_some}
 use Rattle.pl_schema.specs.Inference.{inference_of, empty, repeated}
 use Rattle.pl_read.specs.Options.{data_of, settled_schema}
@@ -206,3 +206,25 @@ is-input (Some bytes) items None (Some known_left) now known input is_read not_r
 is-input None items (Some lent) before now known input is_read not_read left end was else =
     record { told = (let e : Some input ≡ Some lent = else refl ∙ (not_read refl).1 in let same : input ≡ lent = cc in same); ended = λ none. absurd (cc) }
 is-input (Some bytes) items (Some lent) before now known input is_read not_read left end was else = absurd (let e = (not_read refl).0 in cc)
+
+-- ---- a reader as it is seen
+
+module _ {R : Type 0} (lent left : R → Option (List ℕ)) (faults : R → ℕ) (source now : R) (o : CsvReadOptions) (result : Result (List ColumnValue) PolarsError) where
+  -- the three facts of a read, of a source and options that are those of a reader
+  pub frame-seen : (reader : Reader R) → ◌≡◌ {A = Reader R} (record { source = source; options = o }) reader
+      → IfOk result (λ frame. OfInput lent left source now (λ input. IsRead o (settled_schema o input) input frame))
+      → IfOk result (λ frame. OfInput lent left reader.source now (λ input. IsRead reader.options (settled_schema reader.options input) input frame))
+  frame-seen reader is h =
+      subst (λ (r : Reader R). IfOk result (λ frame. OfInput lent left r.source now (λ input. IsRead r.options (settled_schema r.options input) input frame))) is h
+
+  pub refused-seen : (reader : Reader R) → ◌≡◌ {A = Reader R} (record { source = source; options = o }) reader
+      → IfErr result (IsFinishFault lent left faults source now o) → IfErr result (IsFinishFault lent left faults reader.source now reader.options)
+  refused-seen reader is h = subst (λ (r : Reader R). IfErr result (IsFinishFault lent left faults r.source now r.options)) is h
+
+  pub complete-seen : (reader : Reader R) → ◌≡◌ {A = Reader R} (record { source = source; options = o }) reader
+      → ((input : List ℕ) (meaning : Result (List ColumnValue) PolarsError) → input_of (lent source) (left source) ≡ Some input → IsMeaning o input meaning → AnswersUnlessFailed result meaning (faults source) (faults now))
+      → (input : List ℕ) (meaning : Result (List ColumnValue) PolarsError) → input_of (lent reader.source) (left reader.source) ≡ Some input → IsMeaning reader.options input meaning
+      → AnswersUnlessFailed result meaning (faults reader.source) (faults now)
+  complete-seen reader is h =
+      subst (λ (r : Reader R). (input : List ℕ) (meaning : Result (List ColumnValue) PolarsError) → input_of (lent r.source) (left r.source) ≡ Some input → IsMeaning r.options input meaning
+          → AnswersUnlessFailed result meaning (faults r.source) (faults now)) is h

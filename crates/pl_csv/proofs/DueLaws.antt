@@ -15,7 +15,7 @@ use Rattle.pl_csv.proofs.RunLaws.{due-words, due-long, due-read, due-invalid, Va
 -- ---- what is due
 
 due-conversion : (words : List (List ℕ)) (input : List ℕ) (c : Conversion) → conversion_of_words words ≡ Some c → length input ≤ 2 ^ 36 → HasOneDue words input
-due-conversion words input c meaning within = by_outcome (outcome c.read (settled_schema c.read) input c.write)
+due-conversion words input c meaning within = by_outcome (outcome c.read (settled_schema c.read input) input c.write)
   where
     by_outcome : ((frame : List ColumnValue) × Valid c input frame) ⊎ ((first : PolarsError) × Cause c input first) → HasOneDue words input
     by_outcome (inl (frame, read)) = (

@@ -9,8 +9,9 @@ use Rattle.pl_frame.specs.Frame.{ColumnValue}
 use Rattle.pl_frame.specs.Schema.{Entry}
 use Rattle.pl_infer.specs.declared.read_options.CsvReadOptions.{CsvReadOptions}
 use Rattle.pl_infer.specs.declared.row_index.RowIndex.{RowIndex}
+use Rattle.pl_infer.specs.Causes.{when, first_some}
 use Rattle.pl_read.specs.Options.{data_of}
-use Rattle.pl_read.specs.Refusals.{when, first_some, numbers_past, codes_past, index_past, nothing_read, faulty_record}
+use Rattle.pl_read.specs.Refusals.{unless_given, numbers_past, codes_past, index_past, nothing_read, faulty_record}
 use Rattle.pl_read.specs.Rows.{rows_in, data_columns}
 use Rattle.pl_write.specs.declared.options.CsvWriterOptions.{CsvWriterOptions}
 use Rattle.pl_csv.specs.Transcoding.{all_causes, IsCause}
@@ -36,6 +37,10 @@ map-not_io make other (Some x) h = other x (same h)
 then-not_io : {X : Type 0} (next : X → Option PolarsError) → ((x : X) → NotIO (next x)) → (o : Option X) → NotIO (option_and_then next o)
 then-not_io next other None h = cc
 then-not_io next other (Some x) h = other x h
+
+unless-not_io : (given : Option (List Entry)) (cause : Option PolarsError) → NotIO cause → NotIO (unless_given given cause)
+unless-not_io None cause other h = other h
+unless-not_io (Some schema) cause other h = cc
 
 first-not_io : (causes : List (Option PolarsError)) → AllByRecursion NotIO causes → NotIO (first_some causes)
 first-not_io [] all h = cc
@@ -64,24 +69,30 @@ causes-not_io read schema input write is_dialect =
           (
             when-not_io _ _ (λ h. cc),
             (
-              when-not_io _ _ (λ h. cc),
+              unless-not_io read.schema _ (when-not_io _ _ (λ h. cc)),
               (
-                map-not_io _ (λ x h. cc) _,
+                unless-not_io read.schema _ (map-not_io _ (λ x h. cc) _),
                 (
-                  map-not_io _ (λ x h. cc) _,
+                  when-not_io _ _ (λ h. cc),
                   (
-                    when-not_io _ _ (λ h. cc),
+                    map-not_io _ (λ x h. cc) _,
                     (
                       map-not_io _ (λ x h. cc) _,
                       (
-                        map-not_io _ (λ x h. cc) _,
+                        when-not_io _ _ (λ h. cc),
                         (
-                          then-not_io (nothing_read read schema) (λ records. when-not_io _ _ (λ h. cc)) (data_of read input),
+                          map-not_io _ (λ x h. cc) _,
                           (
-                            then-not_io (faulty_record read schema) (λ records. map-not_io _ (λ x h. cc) _) (data_of read input),
+                            map-not_io _ (λ x h. cc) _,
                             (
-                              then-not_io _ (λ records. index-not_io read.row_index (length (rows_in read records)) (data_columns read schema records)) (data_of read input),
-                              tt,
+                              then-not_io (nothing_read read schema) (λ records. when-not_io _ _ (λ h. cc)) (data_of read input),
+                              (
+                                then-not_io (faulty_record read schema) (λ records. map-not_io _ (λ x h. cc) _) (data_of read input),
+                                (
+                                  then-not_io _ (λ records. index-not_io read.row_index (length (rows_in read records)) (data_columns read schema records)) (data_of read input),
+                                  tt,
+                                ),
+                              ),
                             ),
                           ),
                         ),

@@ -11,9 +11,11 @@ use Rattle.pl_frame.specs.declared.error.ComputeFault.TheVariants as compute_fau
 use Rattle.pl_frame.specs.declared.error.PolarsError.{PolarsError}
 use Rattle.pl_frame.specs.declared.error.PolarsError.TheVariants as error
 use Rattle.pl_infer.specs.declared.read_options.CsvReadOptions.{CsvReadOptions}
-use Rattle.pl_read.specs.Options.{marks_of, comment_of, settled_schema}
-use Rattle.pl_read.specs.Reading.{Tells, frame_of}
-use Rattle.pl_read.specs.Refusals.{when, first_some, early_causes, late_causes}
+use Rattle.pl_infer.specs.Causes.{when, first_some, Tells}
+use Rattle.pl_infer.specs.Text.{marks_of, comment_of}
+use Rattle.pl_read.specs.Options.{settled_schema}
+use Rattle.pl_read.specs.Reading.{frame_of}
+use Rattle.pl_read.specs.Refusals.{early_causes, late_causes}
 use Rattle.pl_write.specs.declared.options.CsvWriterOptions.{CsvWriterOptions}
 use Rattle.pl_csv.specs.Transcoding.{all_causes, quote_cause, IsCause, IsValidRead, IsTranscodeFault, HasOneOutcome}
 use Rattle.pl_csv.specs.Views.{SinkView}
@@ -125,13 +127,13 @@ one_outcome read schema input write = record {
 
 -- an input whose frame can be written is not transcoded only for a fault of the sink or want of memory
 pub valid_transcoded : (read : CsvReadOptions) (write : CsvWriterOptions) (input : List ℕ) (before now : SinkView) (frame : List ColumnValue) (fault : PolarsError)
-    → IsValidRead read (settled_schema read) input write frame → IsTranscodeFault read write input before now fault → (Rose before.faults now.faults → ⊥) → fault ≡ error.OutOfMemory
+    → IsValidRead read (settled_schema read input) input write frame → IsTranscodeFault read write input before now fault → (Rose before.faults now.faults → ⊥) → fault ≡ error.OutOfMemory
 valid_transcoded read write input before now frame error.IO valid is quiet = absurd (quiet is.0)
 valid_transcoded read write input before now frame error.OutOfMemory valid is quiet = refl
-valid_transcoded read write input before now frame (error.InvalidOperation op) valid is quiet = absurd (no_cause read (settled_schema read) input write frame (error.InvalidOperation op) valid is.0)
-valid_transcoded read write input before now frame (error.ComputeError fault) valid is quiet = absurd (no_cause read (settled_schema read) input write frame (error.ComputeError fault) valid is.0)
-valid_transcoded read write input before now frame (error.NoData fault) valid is quiet = absurd (no_cause read (settled_schema read) input write frame (error.NoData fault) valid is.0)
-valid_transcoded read write input before now frame (error.ColumnNotFound name) valid is quiet = absurd (no_cause read (settled_schema read) input write frame (error.ColumnNotFound name) valid is.0)
-valid_transcoded read write input before now frame (error.OutOfBounds index length) valid is quiet = absurd (no_cause read (settled_schema read) input write frame (error.OutOfBounds index length) valid is.0)
-valid_transcoded read write input before now frame (error.Duplicate name at) valid is quiet = absurd (no_cause read (settled_schema read) input write frame (error.Duplicate name at) valid is.0)
-valid_transcoded read write input before now frame error.EmptyProjection valid is quiet = absurd (no_cause read (settled_schema read) input write frame error.EmptyProjection valid is.0)
+valid_transcoded read write input before now frame (error.InvalidOperation op) valid is quiet = absurd (no_cause read (settled_schema read input) input write frame (error.InvalidOperation op) valid is.0)
+valid_transcoded read write input before now frame (error.ComputeError fault) valid is quiet = absurd (no_cause read (settled_schema read input) input write frame (error.ComputeError fault) valid is.0)
+valid_transcoded read write input before now frame (error.NoData fault) valid is quiet = absurd (no_cause read (settled_schema read input) input write frame (error.NoData fault) valid is.0)
+valid_transcoded read write input before now frame (error.ColumnNotFound name) valid is quiet = absurd (no_cause read (settled_schema read input) input write frame (error.ColumnNotFound name) valid is.0)
+valid_transcoded read write input before now frame (error.OutOfBounds index length) valid is quiet = absurd (no_cause read (settled_schema read input) input write frame (error.OutOfBounds index length) valid is.0)
+valid_transcoded read write input before now frame (error.Duplicate name at) valid is quiet = absurd (no_cause read (settled_schema read input) input write frame (error.Duplicate name at) valid is.0)
+valid_transcoded read write input before now frame error.EmptyProjection valid is quiet = absurd (no_cause read (settled_schema read input) input write frame error.EmptyProjection valid is.0)

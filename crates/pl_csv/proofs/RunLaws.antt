@@ -12,9 +12,9 @@ use Rattle.pl_frame.specs.Frame.{ColumnValue}
 use Rattle.pl_frame.specs.Schema.{Entry}
 use Rattle.pl_infer.specs.declared.parse_options.CsvParseOptions.{CsvParseOptions}
 use Rattle.pl_infer.specs.declared.read_options.CsvReadOptions.{CsvReadOptions}
+use Rattle.pl_infer.specs.Causes.{first_some, IsFirstCause, Tells}
 use Rattle.pl_read.specs.Options.{settled_schema}
-use Rattle.pl_read.specs.Reading.{IsFirstCause, Tells}
-use Rattle.pl_read.specs.Refusals.{first_some, early_causes, late_causes, read_causes}
+use Rattle.pl_read.specs.Refusals.{early_causes, late_causes, read_causes}
 use Rattle.pl_words.specs.declared.conversion.Conversion.{Conversion}
 use Rattle.pl_words.specs.Words.{conversion_of_words}
 use Rattle.pl_write.specs.declared.options.CsvWriterOptions.{CsvWriterOptions}
@@ -102,11 +102,11 @@ was_read words told came left left_now conversion read is =
 
 -- the frame of a conversion
 abbrev pub Valid : Conversion → List ℕ → List ColumnValue → Type 0
-Valid c input frame = IsValidRead c.read (settled_schema c.read) input c.write frame
+Valid c input frame = IsValidRead c.read (settled_schema c.read input) input c.write frame
 
 -- the first cause against it
 abbrev pub Cause : Conversion → List ℕ → PolarsError → Type 0
-Cause c input first = IsCause c.read (settled_schema c.read) input c.write first
+Cause c input first = IsCause c.read (settled_schema c.read input) input c.write first
 
 -- what is due to an input that has a reference read
 pub due-read : (words : List (List ℕ)) (input : List ℕ) (status : ℕ) (c : Conversion) (was : WasRead words input c) (frame : List ColumnValue) → Valid c input frame → IsDue words input status → status ≡ 0

@@ -1,6 +1,6 @@
 -- An input is read where no cause stands against its frame, and else the first is told.
-use Rattle.std.proofs.Common.{◌≡◌, ℕ, Bool, true, false, List, [], ◌∷◌, refl, sym, ◌∙◌, ap, subst, arith, inl, inr}
-use Rattle.std.specs.Prelude.{Option, None, Some, Result, Ok, Err, IfOk, OnOk, IfErr, MatchResult, not, nat_lt, unwrap_or}
+use Rattle.std.proofs.Common.{◌≡◌, ℕ, Bool, true, false, List, [], ◌∷◌, refl, sym, ◌∙◌, ap, arith, inl, inr}
+use Rattle.std.specs.Prelude.{Option, None, Some, Result, Ok, Err, IfOk, OnOk, IfErr, MatchResult, not, nat_lt}
 use Rattle.std.proofs.lemmas.Bool.Decides.{nat_tests}
 use Rattle.pl_frame.specs.declared.error.PolarsError.{PolarsError}
 use Rattle.pl_frame.specs.declared.error.PolarsError.TheVariants as error
@@ -8,10 +8,11 @@ use Rattle.pl_frame.specs.declared.error.ComputeFault.TheVariants as compute_fau
 use Rattle.pl_frame.specs.Frame.{ColumnValue}
 use Rattle.pl_frame.specs.Schema.{Entry}
 use Rattle.pl_infer.specs.declared.read_options.CsvReadOptions.{CsvReadOptions}
-use Rattle.pl_read.specs.Options.{settled, settled_schema}
-use Rattle.pl_read.specs.Reading.{IsFirstCause, frame_of}
-use Rattle.pl_read.specs.Refusals.{when, early_causes, late_causes}
-use Rattle.pl_read.specs.Steps.{MayRead, late_cause, IsFault}
+use Rattle.pl_infer.specs.Causes.{when, IsFirstCause, IsFault}
+use Rattle.pl_read.specs.Options.{settled_schema}
+use Rattle.pl_read.specs.Reading.{frame_of}
+use Rattle.pl_read.specs.Refusals.{early_causes, late_causes}
+use Rattle.pl_read.specs.Steps.{MayRead, late_cause}
 use Rattle.pl_read.proofs.CauseLaws.{first_some-early, first_some-late, first_some-here, first_some-behind}
 use Rattle.pl_write.specs.declared.options.CsvWriterOptions.{CsvWriterOptions}
 use Rattle.pl_csv.specs.Transcoding.{quote_cause, HasAsciiQuote, IsValidRead, IsUnread, IsTranscodeFault}
@@ -85,22 +86,18 @@ valid-read read schema input write frame may small none is = (
   ),
 )
 
--- an input that was read under a schema that is given, or was not
-pub valid-or-unread : (read : CsvReadOptions) (given : List Entry) (input : List ℕ) (write : CsvWriterOptions) (result : Result (List ColumnValue) PolarsError) → MayRead read → HasAsciiQuote write
-    → read.schema ≡ Some given → IfOk result (λ frame. frame ≡ frame_of read (settled read given) input) → OnOk result (late_cause read (settled read given) input ≡ None)
-    → IfErr result (IsFault (late_cause read (settled read given) input)) → MatchResult result (IsValidRead read (settled_schema read) input write) (IsUnread read (settled_schema read) input write)
-valid-or-unread read given input write (Ok frame) may small is frame_is none fault =
-    let same : settled_schema read ≡ settled read given = ap (λ (s : Option (List Entry)). settled read (unwrap_or s [])) is in
-    subst (λ schema. IsValidRead read schema input write frame) (sym same) (valid-read read (settled read given) input write frame may small none frame_is)
-valid-or-unread read given input write (Err refusal) may small is frame_is none fault =
-    let same : settled_schema read ≡ settled read given = ap (λ (s : Option (List Entry)). settled read (unwrap_or s [])) is in
-    subst (λ schema. IsUnread read schema input write refusal) (sym same) (unread-late read (settled read given) input write refusal may small fault)
+-- an input that was read, or was not
+pub valid-or-unread : (read : CsvReadOptions) (schema : List Entry) (input : List ℕ) (write : CsvWriterOptions) (result : Result (List ColumnValue) PolarsError) → MayRead read → HasAsciiQuote write
+    → IfOk result (λ frame. frame ≡ frame_of read schema input) → OnOk result (late_cause read schema input ≡ None) → IfErr result (IsFault (late_cause read schema input))
+    → MatchResult result (IsValidRead read schema input write) (IsUnread read schema input write)
+valid-or-unread read schema input write (Ok frame) may small frame_is none fault = valid-read read schema input write frame may small none frame_is
+valid-or-unread read schema input write (Err refusal) may small frame_is none fault = unread-late read schema input write refusal may small fault
 
 -- ---- nothing was written
 
-pub fault_unread : (read : CsvReadOptions) (write : CsvWriterOptions) (input : List ℕ) (sink : SinkView) (fault : PolarsError) → IsUnread read (settled_schema read) input write fault
+pub fault_unread : (read : CsvReadOptions) (write : CsvWriterOptions) (input : List ℕ) (sink : SinkView) (fault : PolarsError) → IsUnread read (settled_schema read input) input write fault
     → IsTranscodeFault read write input sink sink fault
-fault_unread read write input sink error.IO (inl cause) = absurd (cause-not_io read (settled_schema read) input write cause)
+fault_unread read write input sink error.IO (inl cause) = absurd (cause-not_io read (settled_schema read input) input write cause)
 fault_unread read write input sink error.IO (inr wanting) = cc
 fault_unread read write input sink error.OutOfMemory unread = inl refl
 fault_unread read write input sink (error.InvalidOperation op) (inl cause) = (cause, refl)

@@ -44,7 +44,7 @@ pub record HasCause (words : List (List ℕ)) (left left_now : Option (List ℕ)
   pub conversion : Conversion
   pub input : List ℕ
   pub read : HasRead words left left_now conversion input
-  pub is : IsCause conversion.read (settled_schema conversion.read) input conversion.write first
+  pub is : IsCause conversion.read (settled_schema conversion.read input) input conversion.write first
 
 -- more than 2 ^ 36 bytes came
 abbrev pub IsTooLong : Option (List ℕ) → Option (List ℕ) → Type 0
@@ -88,7 +88,7 @@ pub record IsValid (words : List (List ℕ)) (input : List ℕ) : Type 0 where
   pub meaning : conversion_of_words words ≡ Some conversion
   pub within : length input ≤ 2 ^ 36
   pub frame : List ColumnValue
-  pub read : IsValidRead conversion.read (settled_schema conversion.read) input conversion.write frame
+  pub read : IsValidRead conversion.read (settled_schema conversion.read input) input conversion.write frame
 
 -- the words mean a conversion by which an input of at most 2 ^ 36 bytes has no reference read that can be written, first for
 -- this cause
@@ -96,7 +96,7 @@ pub record IsInvalid (words : List (List ℕ)) (input : List ℕ) (first : Polar
   pub conversion : Conversion
   pub meaning : conversion_of_words words ≡ Some conversion
   pub within : length input ≤ 2 ^ 36
-  pub is : IsCause conversion.read (settled_schema conversion.read) input conversion.write first
+  pub is : IsCause conversion.read (settled_schema conversion.read input) input conversion.write first
 
 -- The status that is due to words and a whole input: 2 where the words have no meaning, 6 where the input is too long,
 -- 0 where it has a reference read that can be written, and else that of the first cause for which it has none.

@@ -9,9 +9,10 @@ use Rattle.pl_frame.specs.Frame.{ColumnValue}
 use Rattle.pl_frame.specs.Schema.{Entry}
 use Rattle.pl_frame.specs.Text.{text_of_frame}
 use Rattle.pl_infer.specs.declared.read_options.CsvReadOptions.{CsvReadOptions}
+use Rattle.pl_infer.specs.Causes.{when, IsFirstCause}
 use Rattle.pl_read.specs.Options.{settled_schema}
-use Rattle.pl_read.specs.Reading.{IsFirstCause, IsRead}
-use Rattle.pl_read.specs.Refusals.{when, early_causes, late_causes}
+use Rattle.pl_read.specs.Reading.{IsRead}
+use Rattle.pl_read.specs.Refusals.{early_causes, late_causes}
 use Rattle.pl_write.specs.Options.{frame_options}
 use Rattle.pl_write.specs.Writing.{AppendsPrefix}
 use Rattle.pl_write.specs.declared.options.CsvWriterOptions.{CsvWriterOptions}
@@ -49,13 +50,13 @@ IsUnread read schema input write fault = IsCause read schema input write fault �
 
 -- the input means the frame, and the sink received exactly its text
 pub record IsTranscoded (read : CsvReadOptions) (write : CsvWriterOptions) (input : List ℕ) (received received_now : Option (List ℕ)) (frame : List ColumnValue) : Type 0 where
-  pub is : IsValidRead read (settled_schema read) input write frame
+  pub is : IsValidRead read (settled_schema read input) input write frame
   pub written : Appends received received_now (text_of_frame (frame_options write) frame)
 
 -- the input means a frame that can be written, and the sink received a prefix of its text
 pub record IsCutShort (read : CsvReadOptions) (write : CsvWriterOptions) (input : List ℕ) (received received_now : Option (List ℕ)) : Type 0 where
   pub frame : List ColumnValue
-  pub is : IsValidRead read (settled_schema read) input write frame
+  pub is : IsValidRead read (settled_schema read input) input write frame
   pub written : AppendsPrefix received received_now (text_of_frame (frame_options write) frame)
 
 -- Why an input was not transcoded: a fault of the sink, whose count rose, cut the text short; memory was wanting, before the
@@ -63,7 +64,7 @@ pub record IsCutShort (read : CsvReadOptions) (write : CsvWriterOptions) (input 
 abbrev pub IsTranscodeFault : CsvReadOptions → CsvWriterOptions → List ℕ → SinkView → SinkView → PolarsError → Type 0
 IsTranscodeFault read write input before now error.IO = Rose before.faults now.faults × IsCutShort read write input before.received now.received
 IsTranscodeFault read write input before now error.OutOfMemory = (now ≡ before) ⊎ IsCutShort read write input before.received now.received
-IsTranscodeFault read write input before now fault = IsCause read (settled_schema read) input write fault × (now ≡ before)
+IsTranscodeFault read write input before now fault = IsCause read (settled_schema read input) input write fault × (now ≡ before)
 
 -- ---- laws
 
@@ -77,7 +78,7 @@ pub record HasOneOutcome (read : CsvReadOptions) (schema : List Entry) (input : 
 abbrev pub IsComplete : CsvReadOptions → CsvWriterOptions → List ℕ → Type 0
 IsComplete read write input =
     (before now : SinkView) (frame : List ColumnValue) (fault : PolarsError)
-    → IsValidRead read (settled_schema read) input write frame
+    → IsValidRead read (settled_schema read input) input write frame
     → IsTranscodeFault read write input before now fault
     → ¬ Rose before.faults now.faults
     → fault ≡ error.OutOfMemory

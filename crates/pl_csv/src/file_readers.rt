@@ -1,5 +1,5 @@
 //! One text read through a path, a handle and as bytes.
-ghost use Rattle.std.specs.Prelude.{◌≡◌, None, IfOk, IsSome};
+ghost use Rattle.std.specs.Prelude.{◌≡◌, None, IfOk};
 
 #[cfg(test)]
 mod tests {
@@ -19,8 +19,7 @@ mod tests {
 
     // Options for a column of whole numbers.
     fn numbers(alloc: Global) -> Result<CsvReadOptions, Fail>
-        ensures schema { IfOk result (λ options. IsSome options.schema) }
-        ensures path { IfOk result (λ options. options.path ≡ None) }
+        ensures { IfOk result (λ options. options.path ≡ None) }
     {
         let mut schema = Schema::new(alloc);
         schema.with_column(PlSmallStr::from_str(alloc, "a")?, DataType::Int64)?;

@@ -1,5 +1,5 @@
 //! The top call: CSV from a source to a sink, by the words of a command line.
-ghost use Rattle.std.specs.Prelude.{◌≡◌, ◌≢◌, ◌≤◌, ◌⊎◌, ℕ, List, map, string_bytes, IfOk, IfErr, OnOk, IsSome, None, Some};
+ghost use Rattle.std.specs.Prelude.{◌≡◌, ◌≢◌, ◌≤◌, ◌⊎◌, ℕ, List, map, string_bytes, IfOk, IfErr, OnOk, None, Some};
 ghost use Rattle.pl_words.specs.Words.{conversion_of_words};
 ghost use Rattle.pl_csv.specs.Run.{HasRead, IsNotRead, Converted, IsRefused, IsRefusedWith, IsDue, EndsAsDue};
 ghost use Rattle.pl_csv.specs.Telling.{status_of, status_of_fault};
@@ -81,7 +81,6 @@ fn read_input<So: Source>(
     source: &mut So,
 ) -> Result<(Conversion, Vec<u8>), Refusal>
     ensures read { IfOk result (λ read. HasRead (map string_bytes words.now) (So.left source.old) (So.left source.new) read.0 read.1.items) }
-    ensures given { IfOk result (λ read. IsSome read.0.read.schema) }
     ensures refused { IfErr result (IsNotRead (map string_bytes words.now) (source_view (So.left source.old) (So.faults source.old)) (source_view (So.left source.new) (So.faults source.new))) }
     ensures later { So.faults source.old ≤ So.faults source.new }
 {
@@ -119,9 +118,9 @@ fn convert<So: Source, Si: Sink>(
     }
 }
 
-/// Reads CSV from a source under the schema that the words give, writes the text of its frame to `out` as they say, and
-/// answers the status: 0 only where the reference read of the input exists, and `out` then received exactly the text of
-/// its frame.
+/// Reads CSV from a source under the schema that the words give, or else under the one that is inferred from the input, writes
+/// the text of its frame to `out` as they say, and answers the status: 0 only where the reference read of the input exists,
+/// and `out` then received exactly the text of its frame.
 ///
 /// docs/command-line.md has the words. Another status has its cause: 2 words without a meaning; 3 a fault
 /// of the source; 4 one of `out`, which then received a prefix of the text; 5 want of memory, with a prefix of the text

@@ -12,9 +12,12 @@ mod tests {
 
     const ROW: &str = "a,b\n1,x\n2,\n";
 
-    // The words of a line stand between blanks.
+    // The words of a line stand between blanks; the empty line has none.
     fn words_for(alloc: Global, line: &str) -> Result<Vec<String>, AllocError> {
         let mut words = Vec::new(alloc);
+        if line.is_empty() {
+            return Ok(words);
+        }
         for word in line.split(' ') {
             words.push(String::from_str(alloc, word)?)?;
         }
@@ -45,6 +48,14 @@ mod tests {
         let line = b"refusal 14 record 0 column 0 value\n";
         let refused = converts(alloc, TWO_COLUMNS, b"a,b\nx,1\n", b"", line)?;
         assert_eq!(rt; refused, (24, true));
+        Ok(())
+    }
+
+    #[test]
+    fn names_and_types_are_inferred_without_words(rt: HostRuntime) -> Result<(), Fail> {
+        let text = b"a,a_duplicated_0,b\n1,2,3\n";
+        let ok = converts(rt.alloc(), "", b"a,a,b\n1,2,3\n", text, b"")?;
+        assert_eq!(rt; ok, (0, true));
         Ok(())
     }
 

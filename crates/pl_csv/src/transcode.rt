@@ -1,5 +1,5 @@
 //! From the bytes of an input to the text of its frame.
-ghost use Rattle.std.specs.Prelude.{◌≡◌, ◌≤◌, IfOk, OnOk, IfErr, IsSome, MatchResult};
+ghost use Rattle.std.specs.Prelude.{◌≡◌, ◌≤◌, IfOk, OnOk, IfErr, MatchResult};
 ghost use Rattle.pl_read.specs.Options.{settled_schema};
 ghost use Rattle.pl_csv.specs.Transcoding.{IsValidRead, IsUnread, IsTranscoded, IsTranscodeFault};
 ghost use Rattle.pl_csv.specs.Views.{sink_view};
@@ -14,7 +14,7 @@ use pl_write::options::CsvWriterOptions;
 use pl_write::writer::write_frame;
 use std::alloc::Global;
 
-// The frame that an input means under the schema of the options, which can be written. Refuses the first cause against it,
+// The frame that an input means under its settled schema, which can be written. Refuses the first cause against it,
 // and want of memory.
 fn read_valid(
     alloc: Global,
@@ -22,20 +22,17 @@ fn read_valid(
     read: &CsvReadOptions,
     write: &CsvWriterOptions,
 ) -> PolarsResult<DataFrame>
-    requires given { IsSome read.now.schema }
-    ensures { MatchResult result (IsValidRead read.now (settled_schema read.now) input.now write.now) (IsUnread read.now (settled_schema read.now) input.now write.now) }
+    ensures { MatchResult result (IsValidRead read.now (settled_schema read.now input.now) input.now write.now) (IsUnread read.now (settled_schema read.now input.now) input.now write.now) }
 {
     check_options(read)?;
     if !write.serialize_options.quote_char.is_ascii() {
         return Err(PolarsError::ComputeError(ComputeFault::Quote));
     }
-    match &read.schema {
-        Some(schema) => read_checked(alloc, input, read, schema),
-        None => unreachable!(),
-    }
+    read_checked(alloc, input, read)
 }
 
-/// Reads an input under the schema of the options, writes the text of its frame to a sink, and answers the frame.
+/// Reads an input under the schema of the options, or else under the one that is inferred from it, writes the text of its
+/// frame to a sink, and answers the frame.
 ///
 /// Refuses, before any byte is written, the first cause against the frame (docs/refusals.md), a quote for the output that is
 /// not ASCII standing behind wrong options and before a compressed input. Refuses a fault of the sink (`IO`), which then
@@ -48,7 +45,6 @@ pub fn transcode<S: Sink>(
     write: &CsvWriterOptions,
     sink: &mut S,
 ) -> PolarsResult<DataFrame>
-    requires given { IsSome read.now.schema }
     ensures converted { IfOk result (IsTranscoded read.now write.now input.now (S.received sink.old) (S.received sink.new)) }
     ensures refused { IfErr result (IsTranscodeFault read.now write.now input.now
         (sink_view (S.received sink.old) (S.faults sink.old) (S.wants sink.old))
@@ -81,9 +77,7 @@ mod tests {
         name: &str,
         dtype: DataType,
         places: &[usize],
-    ) -> Result<CsvReadOptions, Fail>
-        ensures { IfOk result (λ read. IsSome read.schema) }
-    {
+    ) -> Result<CsvReadOptions, Fail> {
         let mut schema = Schema::new(alloc);
         schema.with_column(PlSmallStr::from_str(alloc, name)?, dtype)?;
         let places = ColumnPlaces::new(places.to_vec(alloc)?);

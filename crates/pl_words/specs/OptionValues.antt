@@ -34,6 +34,10 @@ quote_of text = if bytes_eq text (codes "none") then Some None else option_map (
 abbrev pub count_of : List ℕ → Option ℕ
 count_of text = if is_digits text && nat_le (length text) 18 then Some (number_of text) else None
 
+-- from how many items types are inferred: NUM, or `all`
+abbrev pub sample_of : List ℕ → Option (Option ℕ)
+sample_of text = if bytes_eq text (codes "all") then Some None else option_map (λ n. Some n) (count_of text)
+
 -- NUM up to 4294967295
 abbrev pub offset_of : List ℕ → Option ℕ
 offset_of text = option_and_then (λ n. if nat_lt n 4294967296 then Some n else None) (count_of text)

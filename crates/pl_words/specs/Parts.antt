@@ -26,6 +26,8 @@ flags =
     ∷ codes "--keep-missing"
     ∷ codes "--truncate"
     ∷ codes "--ignore-errors"
+    ∷ codes "--allow-empty"
+    ∷ codes "--dates"
     ∷ codes "--out-no-header"
     ∷ codes "--out-bom"
     ∷ []
@@ -34,6 +36,8 @@ flags =
 abbrev pub options : List (List ℕ)
 options =
     codes "--schema"
+    ∷ codes "--overwrite"
+    ∷ codes "--infer"
     ∷ codes "--sep"
     ∷ codes "--quote"
     ∷ codes "--eol"

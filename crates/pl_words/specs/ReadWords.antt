@@ -1,6 +1,5 @@
 -- The words that say how an input is read (docs/command-line.md, "Words").
 use Rattle.std.specs.Prelude.{ℕ, Bool, not, if◌then◌else◌, List, codes, Option, Some}
-use Rattle.std.specs.Option.{option_and_then}
 use Rattle.pl_scan.specs.Comment.{prefix_from}
 use Rattle.pl_scan.specs.declared.comment.CommentPrefix.{CommentPrefix}
 use Rattle.pl_cells.specs.declared.utf8.CsvEncoding.{CsvEncoding}
@@ -11,8 +10,8 @@ use Rattle.pl_infer.specs.declared.read_options.CsvReadOptions.{CsvReadOptions}
 use Rattle.pl_words.specs.ColumnWords.{names_of, places_of, row_index_of, types_of}
 use Rattle.pl_words.specs.Defaults.{option_or, set_to, with}
 use Rattle.pl_words.specs.NullWords.{null_values_of}
-use Rattle.pl_words.specs.OptionValues.{byte_of, quote_of, count_of}
-use Rattle.pl_words.specs.Parts.{PartText, value_under, has_name}
+use Rattle.pl_words.specs.OptionValues.{byte_of, quote_of, count_of, sample_of}
+use Rattle.pl_words.specs.Parts.{PartText, has_name}
 use Rattle.pl_words.specs.SchemaText.{schema_of}
 
 -- texts that are not UTF-8 are read as UTF-8 where this is asked
@@ -40,12 +39,14 @@ parse_options_of parts =
       missing_is_null = not (has_name (codes "--keep-missing") parts);
       truncate_ragged_lines = has_name (codes "--truncate") parts;
       comment_prefix = comment_prefix;
+      try_parse_dates = has_name (codes "--dates") parts;
     }))))))
 
--- how an input is read, by the parts: a schema must be there, and each other option has a default
+-- how an input is read, by the parts; each option has a default
 abbrev pub read_options_of : List PartText → Option CsvReadOptions
 read_options_of parts =
-    with (option_and_then schema_of (value_under (codes "--schema") parts)) (λ schema.
+    with (option_or default_read_options.schema (set_to schema_of) (codes "--schema") parts) (λ schema.
+    with (option_or default_read_options.schema_overwrite (set_to schema_of) (codes "--overwrite") parts) (λ schema_overwrite.
     with (option_or default_read_options.dtype_overwrite (set_to types_of) (codes "--dtypes") parts) (λ dtype_overwrite.
     with (parse_options_of parts) (λ parse_options.
     with (option_or default_read_options.skip_lines count_of (codes "--skip-lines") parts) (λ skip_lines.
@@ -57,8 +58,10 @@ read_options_of parts =
     with (row_index_of parts) (λ row_index.
     with (option_or default_read_options.n_threads (set_to count_of) (codes "--workers") parts) (λ n_threads.
     with (option_or default_read_options.chunk_size count_of (codes "--piece") parts) (λ chunk_size.
+    with (option_or default_read_options.infer_schema_length sample_of (codes "--infer") parts) (λ infer_schema_length.
     Some (record default_read_options {
-      schema = Some schema;
+      schema = schema;
+      schema_overwrite = schema_overwrite;
       dtype_overwrite = dtype_overwrite;
       parse_options = parse_options;
       has_header = not (has_name (codes "--no-header") parts);
@@ -71,5 +74,7 @@ read_options_of parts =
       row_index = row_index;
       n_threads = n_threads;
       chunk_size = chunk_size;
+      infer_schema_length = infer_schema_length;
+      raise_if_empty = not (has_name (codes "--allow-empty") parts);
       ignore_errors = has_name (codes "--ignore-errors") parts;
-    })))))))))))))
+    })))))))))))))))

@@ -1,7 +1,7 @@
 //! What the values of options write.
 ghost use Rattle.std.specs.Prelude.{◌≡◌, ◌<◌, MatchOption};
 ghost use Rattle.std.specs.Option.{option_map};
-ghost use Rattle.pl_words.specs.OptionValues.{hexadecimal_digit, hexadecimal_pair, byte_of, quote_of, count_of, offset_of, terminator_named, style_named};
+ghost use Rattle.pl_words.specs.OptionValues.{hexadecimal_digit, hexadecimal_pair, byte_of, quote_of, count_of, sample_of, offset_of, terminator_named, style_named};
 
 use crate::from_text::{FromText, meant};
 use crate::words::WordsFault;
@@ -65,6 +65,19 @@ fn parse_count(text: &str) -> Option<usize>
     }
     match number_of(text.as_bytes()) {
         Some(number) => Some(number as usize),
+        None => None,
+    }
+}
+
+/// From how many items types are inferred, as a text writes it: a number, or `all`.
+pub(crate) fn parse_sample(text: &str) -> Option<Option<usize>>
+    ensures { result ≡ sample_of text.now }
+{
+    if text == "all" {
+        return Some(None);
+    }
+    match parse_count(text) {
+        Some(number) => Some(Some(number)),
         None => None,
     }
 }

@@ -39,6 +39,8 @@ fn is_flag(word: &str) -> bool
             | "--keep-missing"
             | "--truncate"
             | "--ignore-errors"
+            | "--allow-empty"
+            | "--dates"
             | "--out-no-header"
             | "--out-bom"
     )
@@ -51,6 +53,8 @@ fn is_option(name: &str) -> bool
     matches!(
         name,
         "--schema"
+            | "--overwrite"
+            | "--infer"
             | "--sep"
             | "--quote"
             | "--eol"

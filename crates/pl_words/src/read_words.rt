@@ -1,21 +1,17 @@
 //! How an input is read, as words give it.
-ghost use Rattle.std.specs.Prelude.{◌≡◌, None, Some, IsSome, IfOk, IsErrOf};
-ghost use Rattle.std.specs.Option.{option_and_then};
+ghost use Rattle.std.specs.Prelude.{◌≡◌, None, Some, IfOk, IsErrOf};
 ghost use Rattle.pl_words.specs.Defaults.{option_or};
-ghost use Rattle.pl_words.specs.OptionValues.{quote_of};
-ghost use Rattle.pl_words.specs.Parts.{part_texts, value_under};
+ghost use Rattle.pl_words.specs.OptionValues.{quote_of, sample_of};
+ghost use Rattle.pl_words.specs.Parts.{part_texts};
 ghost use Rattle.pl_words.specs.ReadWords.{encoding_of, comment_of, parse_options_of, read_options_of};
-ghost use Rattle.pl_words.specs.SchemaText.{schema_of};
 
 use crate::column_words::row_index_of;
 use crate::from_text::{FromText, meant, set_or, set_under};
 use crate::null_words::null_values_of;
-use crate::option_values::parse_quote;
+use crate::option_values::{parse_quote, parse_sample};
 use crate::parts::{Part, has_name, value_under};
-use crate::schema_text::parse_schema;
 use crate::words::WordsFault;
 use pl_cells::utf8::CsvEncoding;
-use pl_frame::schema::Schema;
 use pl_infer::parse_options::CsvParseOptions;
 use pl_infer::read_options::CsvReadOptions;
 use pl_scan::comment::CommentPrefix;
@@ -44,14 +40,18 @@ fn quote_or(parts: &[Part<'_>], name: &str, default: Option<u8>) -> Result<Optio
     }
 }
 
-// The schema under a name. Refuses where there is none or a text without a meaning, and want of memory.
-fn schema_under(alloc: Global, parts: &[Part<'_>], name: &str) -> Result<Schema, WordsFault>
-    ensures known { IfOk result (λ schema. option_and_then schema_of (value_under name.now (part_texts parts.now)) ≡ Some schema) }
-    ensures refused { IsErrOf result WordsFault.Words → option_and_then schema_of (value_under name.now (part_texts parts.now)) ≡ None }
+// From how many items types are inferred, as the value under a name says it, or else the default.
+fn sample_or(
+    parts: &[Part<'_>],
+    name: &str,
+    default: Option<usize>,
+) -> Result<Option<usize>, WordsFault>
+    ensures known { IfOk result (λ sample. option_or default sample_of name.now (part_texts parts.now) ≡ Some sample) }
+    ensures refused { IsErrOf result WordsFault.Words → option_or default sample_of name.now (part_texts parts.now) ≡ None }
 {
     match value_under(parts, name) {
-        Some(value) => parse_schema(alloc, value),
-        None => Err(WordsFault::Words),
+        Some(value) => meant(parse_sample(value)),
+        None => Ok(default),
     }
 }
 
@@ -85,21 +85,22 @@ fn parse_options_of(alloc: Global, parts: &[Part<'_>]) -> Result<CsvParseOptions
         .with_null_values(null_values)
         .with_encoding(encoding_of(has_name(parts, "--lossy")))
         .with_missing_is_null(!has_name(parts, "--keep-missing"))
-        .with_truncate_ragged_lines(has_name(parts, "--truncate"));
+        .with_truncate_ragged_lines(has_name(parts, "--truncate"))
+        .with_try_parse_dates(has_name(parts, "--dates"));
     Ok(options)
 }
 
-/// How an input is read. Refuses parts without a schema, values without a meaning, and want of memory.
+/// How an input is read. Refuses values without a meaning, and want of memory.
 pub(crate) fn read_options_of(
     alloc: Global,
     parts: &[Part<'_>],
 ) -> Result<CsvReadOptions, WordsFault>
     ensures options { IfOk result (λ options. read_options_of (part_texts parts.now) ≡ Some options) }
-    ensures given { IfOk result (λ options. IsSome options.schema) }
     ensures refused { IsErrOf result WordsFault.Words → read_options_of (part_texts parts.now) ≡ None }
 {
     let defaults = CsvReadOptions::new(alloc);
-    let schema = schema_under(alloc, parts, "--schema")?;
+    let schema = set_under(alloc, parts, "--schema")?;
+    let schema_overwrite = set_under(alloc, parts, "--overwrite")?;
     let dtype_overwrite = set_under(alloc, parts, "--dtypes")?;
     let parse_options = parse_options_of(alloc, parts)?;
     let skip_lines = set_or(alloc, parts, "--skip-lines", defaults.skip_lines)?;
@@ -112,8 +113,10 @@ pub(crate) fn read_options_of(
     let row_index = row_index_of(alloc, parts)?;
     let n_threads = set_under(alloc, parts, "--workers")?;
     let chunk_size = set_or(alloc, parts, "--piece", defaults.chunk_size)?;
+    let infer_schema_length = sample_or(parts, "--infer", defaults.infer_schema_length)?;
     let options = defaults
-        .with_schema(Some(schema))
+        .with_schema(schema)
+        .with_schema_overwrite(schema_overwrite)
         .with_dtype_overwrite(dtype_overwrite)
         .with_parse_options(parse_options)
         .with_has_header(!has_name(parts, "--no-header"))
@@ -126,6 +129,8 @@ pub(crate) fn read_options_of(
         .with_row_index(row_index)
         .with_n_threads(n_threads)
         .with_chunk_size(chunk_size)
+        .with_infer_schema_length(infer_schema_length)
+        .with_raise_if_empty(!has_name(parts, "--allow-empty"))
         .with_ignore_errors(has_name(parts, "--ignore-errors"));
     Ok(options)
 }

@@ -1,5 +1,5 @@
 //! The words of the command line.
-ghost use Rattle.std.specs.Prelude.{◌≡◌, None, Some, IsSome, map, string_bytes, IfOk, IsErrOf};
+ghost use Rattle.std.specs.Prelude.{◌≡◌, None, Some, map, string_bytes, IfOk, IsErrOf};
 ghost use Rattle.pl_words.specs.Parts.{part_texts};
 ghost use Rattle.pl_words.specs.Words.{conversion_of_parts, conversion_of_words};
 
@@ -17,10 +17,9 @@ pub enum WordsFault {
     OutOfMemory,
 }
 
-// What parts mean. Refuses parts without a schema, values without a meaning, and want of memory.
+// What parts mean. Refuses values without a meaning, and want of memory.
 fn conversion_of_parts(alloc: Global, parts: &[Part<'_>]) -> Result<Conversion, WordsFault>
     ensures conversion { IfOk result (λ conversion. conversion_of_parts (part_texts parts.now) ≡ Some conversion) }
-    ensures given { IfOk result (λ conversion. IsSome conversion.read.schema) }
     ensures refused { IsErrOf result WordsFault.Words → conversion_of_parts (part_texts parts.now) ≡ None }
 {
     let read = read_options_of(alloc, parts)?;
@@ -28,11 +27,10 @@ fn conversion_of_parts(alloc: Global, parts: &[Part<'_>]) -> Result<Conversion, 
     Ok(Conversion { read, write })
 }
 
-/// What the words mean: flags and options, each at most once, a schema among them (docs/command-line.md, "Words").
-/// The conversion gives a schema. Refuses `Words` only where they mean nothing, and want of memory.
+/// What the words mean: flags and options, each at most once (docs/command-line.md, "Words"). Refuses `Words` only where
+/// they mean nothing, and want of memory.
 pub fn parse_words(alloc: Global, words: &[String]) -> Result<Conversion, WordsFault>
     ensures conversion { IfOk result (λ conversion. conversion_of_words (map string_bytes words.now) ≡ Some conversion) }
-    ensures given { IfOk result (λ conversion. IsSome conversion.read.schema) }
     ensures refused { IsErrOf result WordsFault.Words → conversion_of_words (map string_bytes words.now) ≡ None }
 {
     let parts = cut_parts(alloc, words)?;
@@ -78,6 +76,8 @@ mod tests {
                 "--workers",
                 "0",
                 "--piece=64",
+                "--infer=all",
+                "--dates",
                 "--out-sep=|",
             ],
         )?;
@@ -96,6 +96,8 @@ mod tests {
                 );
                 assert_eq!(rt; read.n_threads, Some(0));
                 assert_eq!(rt; read.chunk_size, 64);
+                assert_eq!(rt; read.infer_schema_length, None);
+                assert!(rt; read.parse_options.try_parse_dates && read.raise_if_empty);
                 assert_eq!(rt; write.serialize_options.separator, b'|');
             }
             Err(_) => panic!(rt; "these words have a meaning"),
@@ -108,6 +110,7 @@ mod tests {
         for words in [
             ["--schema=a:int64", "--row-offset=1"],
             ["--schema=a:int64", "--schema=a:int64"],
+            ["--infer=ALL", "--allow-empty"],
         ] {
             let words = words_of(rt.alloc(), &words)?;
             let refused = parse_words(rt.alloc(), &words);

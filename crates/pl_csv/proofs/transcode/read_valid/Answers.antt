@@ -1,10 +1,13 @@
 use Rattle.std.proofs.Common.{rules}
+use Rattle.pl_read.specs.Options.{settled_schema}
 use Rattle.pl_csv.specs.Transcoding.{HasAsciiQuote}
 use Rattle.pl_csv.proofs.TranscodeLaws.{valid-or-unread}
 use Rattle.pl_csv.proofs.transcode.read_valid.Goals as goal
 
 pub returns : goal.returns
 returns c =
+    let read = c.args.read.now in
+    let input = c.args.input.now in
     let small : HasAsciiQuote c.args.write.now = search rules in
-    valid-or-unread c.args.read.now c.in-Some.schema c.args.input.now c.args.write.now c.read_checked.result c.in_ok-check_options.ensures.passed small c.in-Some.is
+    valid-or-unread read (settled_schema read input) input c.args.write.now c.read_checked.result c.in_ok-check_options.ensures.passed small
     c.read_checked.ensures.frame c.read_checked.ensures.sound c.read_checked.ensures.refused

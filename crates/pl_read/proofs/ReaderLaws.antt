@@ -68,22 +68,36 @@ else-causes o schema input is_dialect =
     let some = data_of o input in
     let past : List ℕ → Option PolarsError = λ records. index_past o.row_index (length (rows_in o records)) (data_columns o schema records) in
     let in_data : AllByRecursion IsElse (
-    option_and_then (nothing_read o schema) some ∷ option_and_then (faulty_record o schema) some ∷ option_and_then past some ∷ []) =
-    (else-then (nothing_read o schema) some (λ y. else-when _ _ (λ e. cc)),
-    (else-then (faulty_record o schema) some (λ y. else-map _ _ (λ z e. cc)),
-    (else-then past some (λ records. else-index o.row_index (length (rows_in o records)) (data_columns o schema records)), tt))) in
+    option_and_then (nothing_read o schema) some ∷ option_and_then (faulty_record o schema) some ∷ option_and_then past some ∷ []) = (
+      else-then (nothing_read o schema) some (λ y. else-when _ _ (λ e. cc)),
+      (
+        else-then (faulty_record o schema) some (λ y. else-map _ _ (λ z e. cc)),
+        (else-then past some (λ records. else-index o.row_index (length (rows_in o records)) (data_columns o schema records)), tt),
+      ),
+    ) in
     let behind : AllByRecursion IsElse (
     unknown o schema ∷ when (is_none some) (error.NoData no_data.Skip) ∷ out_of_bounds o schema ∷ duplicate o schema
     ∷ option_and_then (nothing_read o schema) some ∷ option_and_then (faulty_record o schema) some ∷ option_and_then past some ∷ []) =
     (else-map _ _ (λ y e. cc), (else-when _ _ (λ e. cc), (else-map _ _ (λ y e. cc), (else-map _ _ (λ y e. cc), in_data)))) in
-    else-first (read_causes o schema input is_dialect)
-    (else-when _ _ (λ e. cc),
-    (else-when _ _ (λ e. cc),
-    (else-when _ _ (λ e. cc),
-    (else-unless o.schema (empty inference input) (else-when _ _ (λ e. cc)),
-    (else-unless o.schema (repeated schema) (else-map _ _ (λ y e. cc)),
-    (else-when _ _ (λ e. cc),
-    (else-map _ _ (λ y e. cc), behind)))))))
+    else-first (read_causes o schema input is_dialect) (
+      else-when _ _ (λ e. cc),
+      (
+        else-when _ _ (λ e. cc),
+        (
+          else-when _ _ (λ e. cc),
+          (
+            else-unless o.schema (empty inference input) (else-when _ _ (λ e. cc)),
+            (
+              else-unless o.schema (repeated schema) (else-map _ _ (λ y e. cc)),
+              (
+                else-when _ _ (λ e. cc),
+                (else-map _ _ (λ y e. cc), behind),
+              ),
+            ),
+          ),
+        ),
+      ),
+    )
 
 -- so none refuses an input with it
 pub no-io : (o : CsvReadOptions) (schema : List Entry) (input : List ℕ) → IsRefusal o schema input error.IO → ⊥
@@ -227,4 +241,4 @@ module _ {R : Type 0} (lent left : R → Option (List ℕ)) (faults : R → ℕ)
       → AnswersUnlessFailed result meaning (faults reader.source) (faults now)
   complete-seen reader is h =
       subst (λ (r : Reader R). (input : List ℕ) (meaning : Result (List ColumnValue) PolarsError) → input_of (lent r.source) (left r.source) ≡ Some input → IsMeaning r.options input meaning
-          → AnswersUnlessFailed result meaning (faults r.source) (faults now)) is h
+      → AnswersUnlessFailed result meaning (faults r.source) (faults now)) is h

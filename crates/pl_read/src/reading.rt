@@ -30,11 +30,7 @@ use std::alloc::Global;
 
 /// The frame that an input means under its settled schema. Refuses the first cause against it (docs/refusals.md), and want of
 /// memory.
-pub fn read_frame(
-    alloc: Global,
-    input: &[u8],
-    options: &CsvReadOptions,
-) -> PolarsResult<DataFrame>
+pub fn read_frame(alloc: Global, input: &[u8], options: &CsvReadOptions) -> PolarsResult<DataFrame>
     ensures { MatchResult result (IsRead options.now (settled_schema options.now input.now) input.now) (IsReadFault options.now (settled_schema options.now input.now) input.now) }
 {
     match check_options(options) {

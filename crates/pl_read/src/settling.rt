@@ -21,11 +21,7 @@ use std::alloc::Global;
 
 // The schema of an input for which none is given. Refuses an input without a record, where that is asked (`Empty`), then the
 // first name that an earlier column has (`Duplicate`), and want of memory.
-fn inferred_schema(
-    alloc: Global,
-    input: &[u8],
-    options: &CsvReadOptions,
-) -> PolarsResult<Schema>
+fn inferred_schema(alloc: Global, input: &[u8], options: &CsvReadOptions) -> PolarsResult<Schema>
     requires { AreDistinct (marks_of options.now.parse_options) }
     ensures inferred { IfOk result (λ schema. schema ≡ inferred (inference_of options.now) input.now) }
     ensures sound { OnOk result (first_some (inference_causes (inference_of options.now) input.now) ≡ None) }
@@ -99,11 +95,7 @@ fn with_given_types(options: &CsvReadOptions, given: Schema) -> PolarsResult<Sch
 /// The settled schema of an input, where the options may stand. Refuses the first cause against it, in this order: where no
 /// schema is given, an input without a record (`Empty`) and a name that an earlier column has (`Duplicate`); more types than
 /// there are columns (`Overrides`), the least column whose type can't be read (`Dtype`); and want of memory.
-pub fn settled_schema(
-    alloc: Global,
-    input: &[u8],
-    options: &CsvReadOptions,
-) -> PolarsResult<Schema>
+pub fn settled_schema(alloc: Global, input: &[u8], options: &CsvReadOptions) -> PolarsResult<Schema>
     requires { MayRead options.now }
     ensures settled { IfOk result (λ schema. schema ≡ settled_schema options.now input.now) }
     ensures sound { OnOk result (settling_cause options.now input.now ≡ None) }

@@ -117,7 +117,7 @@ due-read words input status c was frame read (inr (inr (inr due))) =
     let invalid = due.1 in
     let d = invalid.conversion in
     let same = same_some _ c d was.meaning invalid.meaning in
-    absurd (no_cause d.read (settled_schema d.read) input d.write frame due.0 (subst (λ e. Valid e input frame) same read) invalid.is)
+    absurd (no_cause d.read (settled_schema d.read input) input d.write frame due.0 (subst (λ e. Valid e input frame) same read) invalid.is)
 
 -- what is due to an input that has a cause
 pub due-invalid : (words : List (List ℕ)) (input : List ℕ) (status : ℕ) (c : Conversion) (was : WasRead words input c) (first : PolarsError) → Cause c input first → IsDue words input status
@@ -128,12 +128,12 @@ due-invalid words input status c was first is (inr (inr (inl due))) =
     let valid = due.0 in
     let d = valid.conversion in
     let same = same_some _ c d was.meaning valid.meaning in
-    absurd (no_cause d.read (settled_schema d.read) input d.write valid.frame first valid.read (subst (λ e. Cause e input first) same is))
+    absurd (no_cause d.read (settled_schema d.read input) input d.write valid.frame first valid.read (subst (λ e. Cause e input first) same is))
 due-invalid words input status c was first is (inr (inr (inr due))) =
     let invalid = due.1 in
     let d = invalid.conversion in
     let same = same_some _ c d was.meaning invalid.meaning in
-    due.2 ∙ ap status_of_fault (one_cause d.read (settled_schema d.read) input d.write due.0 first invalid.is (subst (λ e. Cause e input first) same is))
+    due.2 ∙ ap status_of_fault (one_cause d.read (settled_schema d.read input) input d.write due.0 first invalid.is (subst (λ e. Cause e input first) same is))
 
 -- what is due where a cause was found
 due-cause : (words : List (List ℕ)) (left left_now : Option (List ℕ)) (input : List ℕ) (status : ℕ) (first : PolarsError) → HasCause words left left_now first

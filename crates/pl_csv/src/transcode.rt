@@ -24,11 +24,15 @@ fn read_valid(
 ) -> PolarsResult<DataFrame>
     ensures { MatchResult result (IsValidRead read.now (settled_schema read.now input.now) input.now write.now) (IsUnread read.now (settled_schema read.now input.now) input.now write.now) }
 {
-    check_options(read)?;
-    if !write.serialize_options.quote_char.is_ascii() {
-        return Err(PolarsError::ComputeError(ComputeFault::Quote));
+    match check_options(read) {
+        Ok(()) => {
+            if !write.serialize_options.quote_char.is_ascii() {
+                return Err(PolarsError::ComputeError(ComputeFault::Quote));
+            }
+            read_checked(alloc, input, read)
+        }
+        Err(fault) => Err(fault),
     }
-    read_checked(alloc, input, read)
 }
 
 /// Reads an input under the schema of the options, or else under the one that is inferred from it, writes the text of its

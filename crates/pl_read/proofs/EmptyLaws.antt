@@ -1,13 +1,11 @@
 -- Inputs whose inferred schema has no column.
-use Rattle.std.proofs.Common.{◌≡◌, ℕ, zero, suc, ◌+◌, ◌<◌, Bool, true, false, ◌&&◌, cond, List, [], ◌∷◌, ◌++◌, map, length, refl, sym, ◌∙◌, ap, arith}
-use Rattle.std.specs.Prelude.{◌↔◌, Option, None, Some, is_none, unwrap_or}
-use Rattle.std.specs.List.{range_with_len}
+use Rattle.std.proofs.Common.{◌≡◌, ℕ, Bool, true, false, ◌&&◌, List, [], ◌∷◌, ◌++◌, map, length, refl, sym, ◌∙◌, ap, arith}
+use Rattle.std.specs.Prelude.{Option, None, Some, is_none, unwrap_or}
 use Rattle.std.specs.Option.{option_map_or}
 use Rattle.std.proofs.lemmas.List.FromFn.{length-map-range_with_len}
 use Rattle.std.proofs.lemmas.List.{length-map}
 use Rattle.pl_frame.specs.declared.data_type.DataType.{DataType}
 use Rattle.pl_frame.specs.declared.error.NoDataFault.TheVariants as no_data
-use Rattle.pl_frame.specs.declared.error.PolarsError.{PolarsError}
 use Rattle.pl_frame.specs.declared.error.PolarsError.TheVariants as error
 use Rattle.pl_frame.specs.Dialect.{Marks}
 use Rattle.pl_frame.specs.Frame.{ColumnValue}
@@ -15,14 +13,14 @@ use Rattle.pl_frame.specs.Schema.{Entry}
 use Rattle.pl_scan.specs.Fields.{fields}
 use Rattle.pl_scan.proofs.ItemLaws.{fields-some}
 use Rattle.pl_infer.specs.declared.read_options.CsvReadOptions.{CsvReadOptions}
-use Rattle.pl_infer.specs.Causes.{when, first_some, IsFirstCause}
+use Rattle.pl_infer.specs.Causes.{when}
 use Rattle.pl_infer.specs.Text.{marks_of}
-use Rattle.pl_schema.specs.Header.{field_name, apart_behind, counted_names, column_names}
+use Rattle.pl_schema.specs.Header.{field_name, apart_behind, column_names}
 use Rattle.pl_schema.specs.Inference.{Inference, inference_of, first_record, names_of, data_in, types_of_names, overwritten_columns, inferred, empty}
 use Rattle.pl_read.specs.Laws.{SchemaIsEmptyWithoutRecord}
-use Rattle.pl_read.specs.Options.{with_types, schema_of, settled, settled_schema}
+use Rattle.pl_read.specs.Options.{schema_of, settled_schema}
 use Rattle.pl_read.specs.Reading.{IsRead}
-use Rattle.pl_read.specs.Refusals.{unless_given, no_record, early_causes, late_causes, read_causes}
+use Rattle.pl_read.specs.Refusals.{unless_given, no_record, read_causes}
 use Rattle.pl_read.proofs.SelectionLaws.{each-none}
 use Rattle.pl_read.proofs.SettlingLaws.{length-with_types, schema-inferred}
 

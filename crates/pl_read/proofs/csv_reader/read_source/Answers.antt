@@ -1,4 +1,4 @@
-use Rattle.std.proofs.Common.{◌∙◌, rules}
+use Rattle.std.proofs.Common.{rules}
 use Rattle.pl_read.specs.CsvReader.{IsInput}
 use Rattle.pl_read.proofs.ReaderLaws.{is-input, frame-is, refused-is, refused-failed, complete-of}
 use Rattle.pl_read.proofs.csv_reader.read_source.Goals as goal

@@ -1,4 +1,4 @@
-use Rattle.std.proofs.Common.{◌≡◌, false, sym, ◌∙◌, ap, subst}
+use Rattle.std.proofs.Common.{◌≡◌, false, sym, ◌∙◌, subst}
 use Rattle.std.specs.Prelude.{IfOk, OnOk, IfErr, None}
 use Rattle.pl_frame.specs.Compression.{is_compressed}
 use Rattle.pl_infer.specs.Causes.{IsFault}

@@ -131,7 +131,13 @@ fn sample_of(
         null_values: null_values.as_ref(),
         dates: options.parse_options.try_parse_dates,
     };
-    take_sample(alloc, data, options.infer_schema_length, names.len(), &rules)
+    take_sample(
+        alloc,
+        data,
+        options.infer_schema_length,
+        names.len(),
+        &rules,
+    )
 }
 
 // The schema of columns of these names and types. Refuses the first name that an earlier column has, and want of memory.
@@ -412,9 +418,21 @@ mod tests {
     #[test]
     fn a_long_text_leaves_one_worker(rt: HostRuntime) -> Result<(), Fail> {
         let mut n_threads = Some(3);
-        infer(rt.alloc(), b"a\n\"\n\n\n\n\n\n\n\n\"\n", None, true, &mut n_threads)?;
+        infer(
+            rt.alloc(),
+            b"a\n\"\n\n\n\n\n\n\n\n\"\n",
+            None,
+            true,
+            &mut n_threads,
+        )?;
         assert_eq!(rt; n_threads, Some(3));
-        infer(rt.alloc(), b"a\n\"\n\n\n\n\n\n\n\n\n\"\n", None, true, &mut n_threads)?;
+        infer(
+            rt.alloc(),
+            b"a\n\"\n\n\n\n\n\n\n\n\n\"\n",
+            None,
+            true,
+            &mut n_threads,
+        )?;
         assert_eq!(rt; n_threads, Some(1));
         Ok(())
     }

@@ -138,8 +138,13 @@ mod tests {
         let alloc = rt.alloc();
         let text = ReaderBytes::Borrowed(b"a,b\n1,x\n");
         let mut options = CsvReadOptions::new(alloc);
-        let read = SchemaInferenceResult::try_from_reader_bytes_and_options(alloc, &text, &options)?;
-        assert_eq!(rt; (read.rows_read, read.bytes_read, read.bytes_total), (1, 7, 8));
+        let read = SchemaInferenceResult::try_from_reader_bytes_and_options(
+            alloc, &text, &options,
+        )?;
+        assert_eq!(rt;
+            (read.rows_read, read.bytes_read, read.bytes_total),
+            (1, 7, 8)
+        );
         let mut copy = read.try_clone()?;
         assert!(rt; copy.get_inferred_schema() == read.get_inferred_schema());
         assert_eq!(rt; copy.get_estimated_n_rows(), 1);

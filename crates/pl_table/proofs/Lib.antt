@@ -1,0 +1,12 @@
+pub mod BitLaws
+pub mod PrefixLaws
+pub mod WordLaws
+pub mod FlagLaws
+pub mod EntryLaws
+pub mod WrittenLaws
+pub mod CutLaws
+pub mod RowLaws
+pub mod IndexLaws
+pub mod TableLaws
+pub mod FillLaws
+pub mod TableRowLaws

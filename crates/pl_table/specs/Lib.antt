@@ -1,0 +1,6 @@
+pub mod Bits
+pub mod Ends
+pub mod Entries
+pub mod Tables
+pub mod Index
+pub mod Rows

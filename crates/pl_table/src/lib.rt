@@ -1,0 +1,7 @@
+//! Texts cut into tables of fields, 64 bytes at a time.
+#![tactic(auto)]
+
+mod block;
+mod index;
+mod masks;
+pub mod table;

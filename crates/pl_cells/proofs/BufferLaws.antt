@@ -146,7 +146,7 @@ quoted_text reading q type text is = rw is refl
 
 -- ---- faults that are ignored
 
-softened_ok : (ignore : Bool) (c : Cell) (value : Option Scalar) → c ≡ Ok value → softened ignore c ≡ Ok value
+pub softened_ok : (ignore : Bool) (c : Cell) (value : Option Scalar) → c ≡ Ok value → softened ignore c ≡ Ok value
 softened_ok true c value e = rw e refl
 softened_ok false c value e = rw e refl
 

@@ -1,14 +1,19 @@
 mod AsciiLaws
 pub mod BufferLaws
 pub mod CastLaws
+pub mod ColumnLaws
 pub mod CutLaws
 pub mod DateLaws
+pub mod DecimalAtLaws
 pub mod DecimalLaws
 pub mod EnumLaws
 pub mod IntegerLaws
+pub mod LaneLaws
 pub mod NullEqualLaws
 pub mod NullLaws
 pub mod PlaceLaws
+pub mod PlacedLaws
 pub mod QuotingLaws
 mod Rows
+pub mod SeenLaws
 pub mod TimeLaws

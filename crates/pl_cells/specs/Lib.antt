@@ -5,12 +5,14 @@ pub mod CastPlaces
 pub mod Casts
 pub mod Cells
 pub mod Dates
+pub mod Columns
 pub mod DecimalParts
 pub mod Decimals
 pub mod EnumPlaces
 pub mod Faults
 pub mod InitBuffers
 pub mod Integers
+pub mod Lanes
 pub mod Laws
 pub mod NullEqual
 pub mod NullTest

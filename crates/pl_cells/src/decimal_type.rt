@@ -5,6 +5,7 @@ ghost use Rattle.pl_frame.specs.Columns.{HoldsType, number_cells};
 ghost use Rattle.pl_frame.specs.Frame.{Number};
 ghost use Rattle.pl_frame.specs.Types.{is_readable_decimal};
 
+use crate::decimal_at::decimal_at;
 use crate::decimals::parse_decimal;
 use crate::value_types::ValueType;
 use pl_frame::column::Column;
@@ -42,6 +43,11 @@ impl ValueType for Decimal {
     #[inline]
     fn parse(&self, text: &[u8]) -> Option<i128> {
         parse_decimal(text, self.precision, self.scale)
+    }
+
+    #[inline(always)]
+    fn parse_at(&self, upto: &[u8], start: usize) -> Option<i128> {
+        decimal_at(upto, start, self.precision, self.scale)
     }
 
     fn column(self, name: PlSmallStr, values: Numbers<i128>) -> Column

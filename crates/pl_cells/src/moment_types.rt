@@ -5,6 +5,7 @@ ghost use Rattle.pl_frame.specs.Columns.{HoldsType, number_cells};
 ghost use Rattle.pl_frame.specs.Frame.{Number};
 
 use crate::dates::parse_date;
+use crate::plain_at::number_text;
 use crate::times::{parse_datetime, parse_time};
 use crate::value_types::ValueType;
 use pl_frame::column::Column;
@@ -38,6 +39,14 @@ impl ValueType for Date {
     #[inline]
     fn parse(&self, text: &[u8]) -> Option<i64> {
         parse_date(text)
+    }
+
+    #[inline(always)]
+    fn parse_at(&self, upto: &[u8], start: usize) -> Option<i64> {
+        match number_text(upto, start) {
+            Some(text) => parse_date(text),
+            None => None,
+        }
     }
 
     fn column(self, name: PlSmallStr, values: Numbers<i64>) -> Column
@@ -76,6 +85,14 @@ impl ValueType for Time {
         parse_time(text)
     }
 
+    #[inline(always)]
+    fn parse_at(&self, upto: &[u8], start: usize) -> Option<i64> {
+        match number_text(upto, start) {
+            Some(text) => parse_time(text),
+            None => None,
+        }
+    }
+
     fn column(self, name: PlSmallStr, values: Numbers<i64>) -> Column
         requires { HoldsType dtype.Time (number_cells values) }
         ensures { result ≡ record { name = name; dtype = dtype.Time; values = number_cells values } }
@@ -112,6 +129,14 @@ impl ValueType for Datetime {
     #[inline]
     fn parse(&self, text: &[u8]) -> Option<i64> {
         parse_datetime(text, self.unit)
+    }
+
+    #[inline(always)]
+    fn parse_at(&self, upto: &[u8], start: usize) -> Option<i64> {
+        match number_text(upto, start) {
+            Some(text) => parse_datetime(text, self.unit),
+            None => None,
+        }
     }
 
     fn column(self, name: PlSmallStr, values: Numbers<i64>) -> Column

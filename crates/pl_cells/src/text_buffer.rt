@@ -4,10 +4,13 @@ ghost use Rattle.pl_frame.specs.declared.error.PolarsError.TheVariants as error;
 ghost use Rattle.pl_frame.specs.Types.{is_text};
 ghost use Rattle.pl_cells.specs.BufferValue.{Answers, ListAnswers, with_value, cut_to, reading_of, reading_with, column_of};
 ghost use Rattle.pl_cells.specs.Cells.{missing_value, plain_cell, quoted_cell, softened, text_cell};
+ghost use Rattle.pl_cells.specs.Columns.{IsSeen};
 ghost use Rattle.pl_cells.specs.Quoting.{undouble};
+ghost use Rattle.pl_table.specs.Tables.{placed_text};
 
 use crate::cell_fault::CellFault;
 use crate::column_settings::ColumnSettings;
+use crate::plain_at::plain_text;
 use crate::quoting::undouble_into;
 use crate::text_types::TextType;
 use crate::utf8::CsvEncoding;
@@ -15,6 +18,7 @@ use memchr::memchr;
 use pl_frame::column::Series;
 use pl_frame::data_type::DataType;
 use pl_frame::error::PolarsResult;
+use pl_table::table::Placed;
 use std::alloc::{AllocError, Global};
 use std::marker::Model;
 
@@ -127,6 +131,26 @@ impl<L: TextType> TextBuffer<L> {
         ensures err { OnErr result (self.new ≡ self.old) }
     {
         self.texts.add_missing(is_null)
+    }
+
+    /// Puts the text of a field at the end where it is plain at sight, and else leaves all as it was. No text means null.
+    /// Refuses only want of memory, and is then as it was.
+    #[inline(always)]
+    pub(crate) fn add_seen(
+        &mut self,
+        field: Placed<'_>,
+        quote_char: Option<u8>,
+    ) -> Result<bool, AllocError>
+        ensures seen { IfOk result (λ seen. IsSeen quote_char (placed_text field.entry) self.old self.new seen) }
+        ensures err { OnErr result (self.new ≡ self.old) }
+    {
+        match plain_text(field.upto, field.start, quote_char) {
+            Some(text) => {
+                let seen = self.texts.add_known(text)?;
+                Ok(seen)
+            }
+            None => Ok(false),
+        }
     }
 
     /// Puts the cell of a plain text at the end. Refuses a text that is not UTF-8 (`Utf8`) and one that is none of the

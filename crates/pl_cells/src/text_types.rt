@@ -1,5 +1,5 @@
 //! Lists of texts, one for each type whose cells are texts.
-ghost use Rattle.std.specs.Prelude.{◌≡◌, ◌++◌, ◌∷◌, [], Bool, List, Option, true, false, length, map, take, IsUtf8, OnOk, OnErr, IfOk, IsOkUnless, MatchOption};
+ghost use Rattle.std.specs.Prelude.{◌≡◌, ◌++◌, ◌∷◌, [], Bool, List, Option, true, false, length, map, take, IsUtf8, OnOk, OnErr, IfOk, IfSome, IsOkUnless, MatchOption};
 ghost use Rattle.std.specs.Str.{is_utf8};
 ghost use Rattle.std.specs.Str.Lossy.{utf8_lossy};
 ghost use Rattle.std.specs.Option.{option_map};
@@ -11,6 +11,7 @@ ghost use Rattle.pl_frame.specs.Frame.{Scalar, Letters};
 ghost use Rattle.pl_frame.specs.Types.{is_text};
 ghost use Rattle.pl_cells.specs.BufferValue.{ListAnswers, reading_with};
 ghost use Rattle.pl_cells.specs.Cells.{missing_value, text_cell};
+ghost use Rattle.pl_cells.specs.Columns.{IsKnown};
 
 use crate::ascii::is_seen_ascii;
 use crate::cell_fault::CellFault;
@@ -66,6 +67,18 @@ pub trait TextType {
         ensures dtype { dtype self.new ≡ dtype self.old }
         ensures is_text { is_text (dtype self.old) ≡ true };
 
+    /// Puts a text that is not empty at the end, where each text is one of the type, and else leaves all as it was. Refuses only
+    /// want of memory, and is then as it was.
+    #[inline(always)]
+    fn add_known(&mut self, _text: &str) -> Result<bool, AllocError>
+        requires { is_utf8 _text.now ≡ true }
+        ensures seen { IfOk result (λ seen. IsKnown (dtype self.old) _text.now (values self.old) (values self.new) seen) }
+        ensures err { OnErr result (values self.new ≡ values self.old) }
+        ensures dtype { dtype self.new ≡ dtype self.old }
+    {
+        Ok(false)
+    }
+
     /// The column of a name, without taking memory.
     fn column(self, name: PlSmallStr) -> Column
         ensures { result ≡ record { name = name; dtype = dtype self; values = values self } };
@@ -78,6 +91,19 @@ fn known_text(bytes: &[u8]) -> &str
     ensures { result.now ≡ bytes.now }
 {
     unsafe { str::from_utf8_unchecked(bytes) }
+}
+
+// The bytes as text, where they are ASCII at sight.
+#[inline(always)]
+pub(crate) fn seen_text(bytes: &[u8]) -> Option<&str>
+    ensures utf8 { IfSome result (λ _. is_utf8 bytes.now ≡ true) }
+    ensures text { IfSome result (λ text. text.now ≡ bytes.now) }
+{
+    if is_seen_ascii(bytes) {
+        Some(known_text(bytes))
+    } else {
+        None
+    }
 }
 
 // The bytes as text, where they are UTF-8: most are ASCII, which is seen faster.
@@ -150,6 +176,12 @@ impl TextType for Texts {
         Ok(())
     }
 
+    #[inline(always)]
+    fn add_known(&mut self, text: &str) -> Result<bool, AllocError> {
+        self.push(text)?;
+        Ok(true)
+    }
+
     fn column(self, name: PlSmallStr) -> Column {
         Column::from_string(name, self)
     }
@@ -195,6 +227,12 @@ impl TextType for CodesBuilder {
             None => return Err(CellFault::Utf8),
         }
         Ok(())
+    }
+
+    #[inline(always)]
+    fn add_known(&mut self, text: &str) -> Result<bool, AllocError> {
+        self.push(text)?;
+        Ok(true)
     }
 
     fn column(self, name: PlSmallStr) -> Column {

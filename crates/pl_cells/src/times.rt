@@ -40,24 +40,26 @@ fn parse_clock(text: &[u8]) -> Option<u64>
     second_of(hour, minute, second)
 }
 
+// The powers of ten. A constant would be made again at each call.
+static POWERS: [u64; 10] = [
+    1,
+    10,
+    100,
+    1_000,
+    10_000,
+    100_000,
+    1_000_000,
+    10_000_000,
+    100_000_000,
+    1_000_000_000,
+];
+
 // Ten to a power of at most 9.
 #[inline]
 fn power_of_ten(exponent: usize) -> u64
     requires { exponent ≤ 9 }
     ensures { result ≡ 10 ^ exponent }
 {
-    const POWERS: [u64; 10] = [
-        1,
-        10,
-        100,
-        1_000,
-        10_000,
-        100_000,
-        1_000_000,
-        10_000_000,
-        100_000_000,
-        1_000_000_000,
-    ];
     POWERS[exponent]
 }
 

@@ -1,9 +1,11 @@
 //! Buffers of truth values and of numbers.
-ghost use Rattle.std.specs.Prelude.{◌≡◌, true, [], length, OnOk, OnErr, None};
+ghost use Rattle.std.specs.Prelude.{◌≡◌, true, [], length, IfOk, OnOk, OnErr, None};
 ghost use Rattle.pl_frame.specs.Types.{is_text};
 ghost use Rattle.pl_cells.specs.BufferValue.{Answers, with_value, cut_to, reading_of, column_of};
 ghost use Rattle.pl_cells.specs.Cells.{missing_value, plain_cell, quoted_cell, softened, value_or_null, value_text};
+ghost use Rattle.pl_cells.specs.Columns.{IsSeen, is_number_quote};
 ghost use Rattle.pl_cells.specs.Integers.{without_blanks};
+ghost use Rattle.pl_table.specs.Tables.{placed_text};
 
 use crate::cell_fault::CellFault;
 use crate::column_settings::ColumnSettings;
@@ -11,6 +13,7 @@ use crate::value_types::ValueType;
 use pl_frame::column::Series;
 use pl_frame::data_type::DataType;
 use pl_frame::numbers::Numbers;
+use pl_table::table::Placed;
 use std::alloc::{AllocError, Global};
 use std::marker::Model;
 
@@ -60,6 +63,17 @@ fn value_text<'a, K: ValueType>(kind: &K, text: &'a [u8]) -> &'a [u8]
         skip_blanks(text)
     } else {
         text
+    }
+}
+
+// Whether a quote may be the first byte of a number.
+#[inline(always)]
+fn is_number_quote(quote_char: Option<u8>) -> bool
+    ensures { result ≡ is_number_quote quote_char }
+{
+    match quote_char {
+        Some(quote) => quote.is_ascii_digit() || quote == b'-',
+        None => false,
     }
 }
 
@@ -136,6 +150,29 @@ impl<K: ValueType> ValueBuffer<K> {
             None => return Err(CellFault::Value),
         }
         Ok(())
+    }
+
+    /// Puts the value of a field at the end where it is soon seen which it is, and else leaves all as it was. No text means
+    /// null. Refuses only want of memory, and is then as it was.
+    #[inline(always)]
+    pub(crate) fn add_seen(
+        &mut self,
+        field: Placed<'_>,
+        quote_char: Option<u8>,
+    ) -> Result<bool, AllocError>
+        ensures seen { IfOk result (λ seen. IsSeen quote_char (placed_text field.entry) self.old self.new seen) }
+        ensures err { OnErr result (self.new ≡ self.old) }
+    {
+        if is_number_quote(quote_char) {
+            return Ok(false);
+        }
+        match self.kind.parse_at(field.upto, field.start) {
+            Some(value) => {
+                self.values.push(value)?;
+                Ok(true)
+            }
+            None => Ok(false),
+        }
     }
 
     /// Puts the cell of a plain text at the end. Refuses a text without a value (`Value`), where errors are not ignored,

@@ -1,11 +1,13 @@
 //! The types whose cells are truth values or numbers, each with the values that texts have.
-ghost use Rattle.std.specs.Prelude.{◌≡◌, refl, List, Option, map, true, false, IfSome};
+ghost use Rattle.std.specs.Prelude.{◌≡◌, refl, List, Option, Some, map, drop, true, false, IfSome};
 ghost use Rattle.std.specs.Option.{option_map};
 ghost use Rattle.pl_frame.specs.declared.data_type.DataType.{DataType};
 ghost use Rattle.pl_frame.specs.declared.data_type.DataType.TheVariants as dtype;
 ghost use Rattle.pl_frame.specs.Columns.{is_value_of, HoldsType, truth_cells};
 ghost use Rattle.pl_frame.specs.Frame.{Scalar, Truth};
 ghost use Rattle.pl_frame.specs.Types.{is_text, is_whole_number};
+ghost use Rattle.pl_cells.specs.Columns.{begins_number};
+ghost use Rattle.pl_cells.specs.Quoting.{strip};
 ghost use Rattle.pl_cells.specs.Values.{value_of_text};
 
 use crate::booleans::parse_boolean;
@@ -35,6 +37,18 @@ pub trait ValueType {
     fn parse(&self, text: &[u8]) -> Option<Self::Kept>
         ensures value { option_map scalar result ≡ value_of_text (dtype self.now) text.now }
         ensures held { IfSome result (λ v. is_value_of (dtype self.now) (scalar v) ≡ true) };
+
+    /// The value of the text from a place of another to its end, where it is soon seen which it is, and else none. The text
+    /// then begins with a digit or a minus, and ends with no carriage return.
+    #[inline(always)]
+    fn parse_at(&self, _upto: &[u8], _start: usize) -> Option<Self::Kept>
+        ensures value { IfSome result (λ v. value_of_text (dtype self.now) (drop _start _upto.now) ≡ Some (scalar v)) }
+        ensures held { IfSome result (λ v. is_value_of (dtype self.now) (scalar v) ≡ true) }
+        ensures front { IfSome result (λ _. begins_number (drop _start _upto.now) ≡ true) }
+        ensures back { IfSome result (λ _. strip (drop _start _upto.now) ≡ drop _start _upto.now) }
+    {
+        None
+    }
 
     /// A column of values of the type, which it takes over without taking memory.
     fn column(self, name: PlSmallStr, values: Numbers<Self::Kept>) -> Column

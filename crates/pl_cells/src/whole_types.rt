@@ -8,6 +8,7 @@ use crate::integers::{
     parse_int64, parse_int128, parse_narrow, parse_uint64, parse_unsigned_narrow,
 };
 use crate::value_types::ValueType;
+use crate::whole_at::{natural_at, whole_at};
 use pl_frame::column::Column;
 use pl_frame::data_type::DataType;
 use pl_frame::name::PlSmallStr;
@@ -39,6 +40,11 @@ impl ValueType for Int8 {
     #[inline]
     fn parse(&self, text: &[u8]) -> Option<i64> {
         parse_narrow(text, -128, 127)
+    }
+
+    #[inline(always)]
+    fn parse_at(&self, upto: &[u8], start: usize) -> Option<i64> {
+        whole_at(upto, start, -128, 127)
     }
 
     fn column(self, name: PlSmallStr, values: Numbers<i64>) -> Column
@@ -77,6 +83,11 @@ impl ValueType for Int16 {
         parse_narrow(text, -32_768, 32_767)
     }
 
+    #[inline(always)]
+    fn parse_at(&self, upto: &[u8], start: usize) -> Option<i64> {
+        whole_at(upto, start, -32_768, 32_767)
+    }
+
     fn column(self, name: PlSmallStr, values: Numbers<i64>) -> Column
         requires { HoldsType dtype.Int16 (number_cells values) }
         ensures { result ≡ record { name = name; dtype = dtype.Int16; values = number_cells values } }
@@ -113,6 +124,11 @@ impl ValueType for Int32 {
         parse_narrow(text, -2_147_483_648, 2_147_483_647)
     }
 
+    #[inline(always)]
+    fn parse_at(&self, upto: &[u8], start: usize) -> Option<i64> {
+        whole_at(upto, start, -2_147_483_648, 2_147_483_647)
+    }
+
     fn column(self, name: PlSmallStr, values: Numbers<i64>) -> Column
         requires { HoldsType dtype.Int32 (number_cells values) }
         ensures { result ≡ record { name = name; dtype = dtype.Int32; values = number_cells values } }
@@ -147,6 +163,11 @@ impl ValueType for Int64 {
     #[inline]
     fn parse(&self, text: &[u8]) -> Option<i64> {
         parse_int64(text)
+    }
+
+    #[inline(always)]
+    fn parse_at(&self, upto: &[u8], start: usize) -> Option<i64> {
+        whole_at(upto, start, i64::MIN, i64::MAX)
     }
 
     fn column(self, name: PlSmallStr, values: Numbers<i64>) -> Column
@@ -221,6 +242,11 @@ impl ValueType for UInt8 {
         parse_unsigned_narrow(text, 255)
     }
 
+    #[inline(always)]
+    fn parse_at(&self, upto: &[u8], start: usize) -> Option<i64> {
+        natural_at(upto, start, 255)
+    }
+
     fn column(self, name: PlSmallStr, values: Numbers<i64>) -> Column
         requires { HoldsType dtype.UInt8 (number_cells values) }
         ensures { result ≡ record { name = name; dtype = dtype.UInt8; values = number_cells values } }
@@ -257,6 +283,11 @@ impl ValueType for UInt16 {
         parse_unsigned_narrow(text, 65_535)
     }
 
+    #[inline(always)]
+    fn parse_at(&self, upto: &[u8], start: usize) -> Option<i64> {
+        natural_at(upto, start, 65_535)
+    }
+
     fn column(self, name: PlSmallStr, values: Numbers<i64>) -> Column
         requires { HoldsType dtype.UInt16 (number_cells values) }
         ensures { result ≡ record { name = name; dtype = dtype.UInt16; values = number_cells values } }
@@ -291,6 +322,11 @@ impl ValueType for UInt32 {
     #[inline]
     fn parse(&self, text: &[u8]) -> Option<i64> {
         parse_unsigned_narrow(text, 4_294_967_295)
+    }
+
+    #[inline(always)]
+    fn parse_at(&self, upto: &[u8], start: usize) -> Option<i64> {
+        natural_at(upto, start, 4_294_967_295)
     }
 
     fn column(self, name: PlSmallStr, values: Numbers<i64>) -> Column

@@ -1,0 +1,120 @@
+-- Numbers that are read in place.
+use Rattle.std.proofs.Common.{◌≡◌, ◌≢◌, ℕ, zero, suc, ◌+◌, ◌-◌, ◌<◌, ◌≤◌, ◌==◌, nat_eq, ℤ, pos, neg_ℤ, Bool, true, false, ◌&&◌, ◌||◌, if◌then◌else◌, List, [], ◌∷◌, length, take, drop, get_or, Option, Some, None, refl, sym, ◌∙◌, ap, subst, arith, rules}
+use Rattle.std.proofs.lemmas.Bool.Decides.{nat_tests}
+use Rattle.std.proofs.lemmas.List.{drop_more, length-drop, get_or-drop}
+use Rattle.std.specs.Char.{is_ascii_digit}
+use Rattle.std.specs.Cmp.Lexicographic.{pointwise}
+use Rattle.std.specs.List.{ends_with}
+use Rattle.std.specs.Str.{all_ascii_digits}
+use Rattle.pl_cells.specs.Columns.{begins_number}
+use Rattle.pl_cells.specs.Integers.{is_digits, without_minus, without_sign}
+use Rattle.pl_cells.specs.Quoting.{strip}
+use Rattle.pl_cells.proofs.IntegerLaws.{all_ascii_digits_spoilt, all_ascii_digits-is}
+
+-- ---- no carriage return at the end
+
+pub digit_no_return : (x : ℕ) → is_ascii_digit x ≡ true → nat_eq 13 x ≡ false
+digit_no_return x digit = grind (arith, nat_tests)
+
+last_digit : (xs : List ℕ) (k : ℕ) → k < length xs → all_ascii_digits xs ≡ true → is_ascii_digit (get_or xs k 0) ≡ true
+last_digit xs k inside digits = by (is_ascii_digit (get_or xs k 0)) refl
+  where
+    by : (t : Bool) → is_ascii_digit (get_or xs k 0) ≡ t → is_ascii_digit (get_or xs k 0) ≡ true
+    by true e = e
+    by false e = let spoilt = all_ascii_digits_spoilt xs k inside e in absurd (cc)
+
+pub strip_same : (xs : List ℕ) → 0 < length xs → nat_eq 13 (get_or xs (length xs - 1) 0) ≡ false → strip xs ≡ xs
+strip_same xs some other =
+    let back = drop_more xs (length xs - 1) 0 (omega arith) in
+    let test : ends_with nat_eq xs (13 ∷ []) ≡ false = ap (λ (l : List ℕ). pointwise nat_eq (13 ∷ []) l) back ∙ ap (λ t. t && pointwise nat_eq [] (drop (length xs - 1 + 1) xs)) other in
+    (λ j. if test j then take (length xs - 1) xs else xs)
+
+digits_some : (xs : List ℕ) → is_digits xs ≡ true → 0 < length xs
+digits_some [] digits = absurd (cc)
+digits_some (x ∷ xs) digits = omega arith
+
+pub strip_digits : (xs : List ℕ) → is_digits xs ≡ true → strip xs ≡ xs
+strip_digits [] digits = absurd (cc)
+strip_digits (x ∷ xs) digits = strip_same (x ∷ xs) (omega arith) (digit_no_return (get_or (x ∷ xs) (length (x ∷ xs) - 1) 0) (last_digit (x ∷ xs) (length (x ∷ xs) - 1) (omega arith) digits))
+
+pub strip_whole : (text : List ℕ) → is_digits (without_minus text) ≡ true → strip text ≡ text
+strip_whole [] digits = absurd (cc)
+strip_whole (x ∷ xs) digits = by (x == 45) digits
+  where
+    by : (t : Bool) → is_digits (if t then xs else x ∷ xs) ≡ true → strip (x ∷ xs) ≡ x ∷ xs
+    by false all = strip_digits (x ∷ xs) all
+    by true all =
+        let some : 0 < length xs = digits_some xs all in
+        let place : length (x ∷ xs) - 1 ≡ suc (length xs - 1) = omega arith in
+        let last : is_ascii_digit (get_or (x ∷ xs) (length (x ∷ xs) - 1) 0) ≡ true =
+        ap (λ k. is_ascii_digit (get_or (x ∷ xs) k 0)) place ∙ last_digit xs (length xs - 1) (omega arith) (all_ascii_digits-is xs all) in
+        strip_same (x ∷ xs) (omega arith) (digit_no_return (get_or (x ∷ xs) (length (x ∷ xs) - 1) 0) last)
+
+-- a text that ends in digits
+pub strip_drop : (upto : List ℕ) (start later : ℕ) → start ≤ later → is_digits (drop later upto) ≡ true → strip (drop start upto) ≡ drop start upto
+strip_drop upto start later le digits =
+    let back = drop later upto in
+    let field = drop start upto in
+    let some : 0 < length back = digits_some back digits in
+    let long : length back ≡ length upto - later = length-drop later upto in
+    let wide : length field ≡ length upto - start = length-drop start upto in
+    let same : later + (length back - 1) ≡ start + (length field - 1) = omega (arith, some, long, wide) in
+    let last : get_or back (length back - 1) 0 ≡ get_or field (length field - 1) 0 =
+    get_or-drop later upto (length back - 1) 0 ∙ ap (λ k. get_or upto k 0) same ∙ sym (get_or-drop start upto (length field - 1) 0) in
+    let digit : is_ascii_digit (get_or field (length field - 1) 0) ≡ true = ap is_ascii_digit (sym last) ∙ last_digit back (length back - 1) (omega (arith, some)) (all_ascii_digits-is back digits) in
+    strip_same field (omega (arith, some, long, wide)) (digit_no_return (get_or field (length field - 1) 0) digit)
+
+-- a text of a minus and a digit, or a digit
+pub front_digit : (text : List ℕ) (n : ℕ) → is_digits (take n text) ≡ true → is_digits (take 1 text) ≡ true
+front_digit [] zero digits = absurd (cc)
+front_digit [] (suc n) digits = absurd (cc)
+front_digit (x ∷ xs) zero digits = absurd (cc)
+front_digit (x ∷ xs) (suc n) digits = by (is_ascii_digit x) digits
+  where
+    by : (t : Bool) → (t && all_ascii_digits (take n xs)) ≡ true → (t && true) ≡ true
+    by true e = refl
+    by false e = absurd (cc)
+
+first_is : (x : ℕ) (xs : List ℕ) → is_digits (take 1 (x ∷ xs)) ≡ true → is_ascii_digit x ≡ true
+first_is x xs digits = by (is_ascii_digit x) digits
+  where
+    by : (t : Bool) → (t && true) ≡ true → t ≡ true
+    by true e = refl
+    by false e = e
+
+pub front_number : (text : List ℕ) → is_digits (take 1 (without_minus text)) ≡ true → begins_number text ≡ true
+front_number [] digits = absurd (cc)
+front_number (x ∷ xs) digits = by (x == 45) digits
+  where
+    by : (t : Bool) → is_digits (take 1 (if t then xs else x ∷ xs)) ≡ true → (is_ascii_digit x || t) ≡ true
+    by true e = or_true (is_ascii_digit x)
+      where
+        or_true : (s : Bool) → (s || true) ≡ true
+        or_true true = refl
+        or_true false = refl
+    by false e = ap (λ s. s || false) (first_is x xs e)
+
+pub minus_sign : (text : List ℕ) → is_digits (take 1 (without_minus text)) ≡ true → without_sign text ≡ without_minus text
+minus_sign [] digits = refl
+minus_sign (x ∷ xs) digits = by (x == 45) (x == 43) refl digits
+  where
+    by : (t s : Bool) → (x == 43) ≡ s → is_digits (take 1 (if t then xs else x ∷ xs)) ≡ true → (if s || t then xs else x ∷ xs) ≡ (if t then xs else x ∷ xs)
+    by true true h e = refl
+    by true false h e = refl
+    by false false h e = refl
+    by false true h e = let digit = first_is x xs e in absurd (grind (arith, nat_tests, h, digit))
+
+-- ---- texts that are plain at sight
+
+-- the last byte of what stands from a place on
+last_byte : (upto : List ℕ) (start : ℕ) → start < length upto → get_or (drop start upto) (length (drop start upto) - 1) 0 ≡ get_or upto (length upto - 1) 0
+last_byte upto start inside =
+    let long : length (drop start upto) ≡ length upto - start = length-drop start upto in
+    get_or-drop start upto (length (drop start upto) - 1) 0 ∙ ap (λ k. get_or upto k 0) (omega (arith, long))
+
+pub strip_last : (upto : List ℕ) (start : ℕ) → start < length upto → nat_eq 13 (get_or upto (length upto - 1) 0) ≡ false → strip (drop start upto) ≡ drop start upto
+strip_last upto start inside other =
+    strip_same (drop start upto) (omega (arith, length-drop start upto)) (ap (nat_eq 13) (last_byte upto start inside) ∙ other)
+
+pub begins_at : (upto : List ℕ) (start : ℕ) → start < length upto → (is_ascii_digit (get_or upto start 0) || get_or upto start 0 == 45) ≡ true → begins_number (drop start upto) ≡ true
+begins_at upto start inside first = ap begins_number (drop_more upto start 0 inside) ∙ first

@@ -1,0 +1,78 @@
+-- The cells of numbers that are read in place.
+use Rattle.std.proofs.Common.{◌≡◌, ◌<◌, ℕ, ◌==◌, length, Bool, true, false, ◌||◌, if◌then◌else◌, List, [], ◌∷◌, ◌++◌, map, Option, Some, None, Ok, Err, refl, sym, ◌∙◌, ap, ap₂, subst, arith}
+use Rattle.std.proofs.lemmas.Bool.Decides.{nat_tests}
+use Rattle.std.proofs.lemmas.List.{map-append}
+use Rattle.std.specs.Char.{is_ascii_digit}
+use Rattle.std.specs.Option.{option_map}
+use Rattle.pl_frame.specs.declared.data_type.DataType.{DataType}
+use Rattle.pl_frame.specs.Frame.{Scalar}
+use Rattle.pl_frame.specs.Types.{is_text, is_whole_number}
+use Rattle.pl_scan.specs.Fields.{begins_quoted, is_quote}
+use Rattle.pl_cells.specs.declared.utf8.CsvEncoding.{CsvEncoding}
+use Rattle.pl_cells.specs.BufferValue.{BufferValue, with_value, reading_of}
+use Rattle.pl_cells.specs.Cells.{Cell, Reading, cell, stripped_cell, plain_cell, value_or_null, value_cell, value_text, softened}
+use Rattle.pl_cells.specs.Columns.{begins_number, is_number_quote, AddsSeen}
+use Rattle.pl_cells.specs.Faults as fault
+use Rattle.pl_cells.specs.Integers.{without_blanks}
+use Rattle.pl_cells.specs.NullTest.{nothing_is_null}
+use Rattle.pl_cells.specs.Quoting.{strip, quote_of}
+use Rattle.pl_cells.specs.Values.{value_of_text}
+use Rattle.pl_cells.proofs.BufferLaws.{record_of, plain_value, softened_ok}
+
+-- a number does not begin with such a quote
+unquoted : (quote : Option ℕ) (text : List ℕ) → begins_number text ≡ true → is_number_quote quote ≡ false → quote_of quote text ≡ None
+unquoted quote [] front other = absurd (cc)
+unquoted None (x ∷ xs) front other = refl
+unquoted (Some q) (x ∷ xs) front other = by (is_quote (Some q) x) refl
+  where
+    by : (t : Bool) → is_quote (Some q) x ≡ t → (if t then Some q else None) ≡ None
+    by false e = refl
+    by true e = absurd (grind (arith, nat_tests, e, front, other))
+
+-- nor with a blank
+unblanked : (type : DataType) (text : List ℕ) → begins_number text ≡ true → value_text type text ≡ text
+unblanked type [] front = absurd (cc)
+unblanked type (x ∷ xs) front = by (is_whole_number type)
+  where
+    digit : (x == 32 || x == 9) ≡ false
+    digit = grind (arith, nat_tests, front)
+
+    first : (t : Bool) → t ≡ false → (elim t [ true ↦ without_blanks xs | false ↦ x ∷ xs ]) ≡ x ∷ xs
+    first true e = absurd (cc)
+    first false e = refl
+
+    by : (t : Bool) → (if t then without_blanks (x ∷ xs) else x ∷ xs) ≡ x ∷ xs
+    by true = first (x == 32 || x == 9) digit
+    by false = refl
+
+some_cell : (type : DataType) (text : List ℕ) (value : Scalar) → begins_number text ≡ true → value_of_text type text ≡ Some value → value_or_null type text ≡ Ok (Some value)
+some_cell type [] value front is = absurd (cc)
+some_cell type (x ∷ xs) value front is = ap cell_of is
+  where
+    cell_of : Option Scalar → Cell
+    cell_of None = Err fault.Value
+    cell_of (Some v) = Ok (Some v)
+
+seen_cell : (reading : Reading) (quote : Option ℕ) (type : DataType) (text : List ℕ) (value : Scalar) → is_text type ≡ false → begins_number text ≡ true → strip text ≡ text → is_number_quote quote ≡ false
+    → value_of_text type text ≡ Some value → cell reading nothing_is_null quote type text ≡ Ok (Some value)
+seen_cell reading quote type text value no_text front back other is =
+    ap₂ (λ (q : Option ℕ) (t : List ℕ). stripped_cell reading nothing_is_null q type t) (unquoted quote text front other) back
+    ∙ softened_ok reading.ignore_errors (plain_cell reading type text) (Some value)
+    (plain_value reading type text no_text ∙ ap (value_or_null type) (unblanked type text front) ∙ some_cell type text value front is)
+
+pub seen_adds : (old new : BufferValue) (quote : Option ℕ) (type : DataType) (text : List ℕ) (value : Scalar) → type ≡ old.dtype → is_text type ≡ false → begins_number text ≡ true → strip text ≡ text
+    → is_number_quote quote ≡ false → value_of_text type text ≡ Some value → new ≡ with_value old (Some value) → AddsSeen quote text old new
+seen_adds old new quote type text value same no_text front back other is pushed missing ignore = record {
+  value = Some value;
+  is = ap (λ (t : DataType). cell (reading_of old missing ignore) nothing_is_null quote t text) (sym same) ∙ seen_cell (reading_of old missing ignore) quote type text value no_text front back other is;
+  pushed = pushed;
+}
+
+-- a buffer with one more value
+pub one_more : {X : Type 0} (old : BufferValue) (name : List ℕ) (type : DataType) (quote : Option ℕ) (encoding : CsvEncoding) (f : X → Scalar) (values new : List (Option X)) (value : X)
+    → record_of name type quote encoding (map (option_map f) values) ≡ old → new ≡ values ++ Some value ∷ []
+    → record_of name type quote encoding (map (option_map f) new) ≡ with_value old (Some (f value))
+one_more {X} old name type quote encoding f values new value is pushed =
+    ap (λ (l : List (Option X)). record_of name type quote encoding (map (option_map f) l)) pushed
+    ∙ ap (record_of name type quote encoding) (map-append (option_map f) values (Some value ∷ []))
+    ∙ ap (λ (b : BufferValue). with_value b (Some (f value))) is

@@ -1,0 +1,52 @@
+-- The cells of a column of records, and of fields that are read in place (docs/types.md, "Cells").
+use Rattle.std.specs.Prelude.{◌≡◌, ℕ, Bool, true, false, ◌||◌, ◌==◌, List, [], ◌∷◌, ◌++◌, map, Option, None, Some, slice_get, unwrap_or}
+use Rattle.std.specs.Char.{is_ascii_digit}
+use Rattle.std.specs.List.{AllByRecursion}
+use Rattle.pl_frame.specs.declared.data_type.DataType.{DataType}
+use Rattle.pl_frame.specs.Frame.{Scalar}
+use Rattle.pl_cells.specs.BufferValue.{BufferValue, Adds, with_value, with_values, reading_of}
+use Rattle.pl_cells.specs.Cells.{Cell, Reading, cell, text_cell, value_of, fault_of}
+use Rattle.pl_cells.specs.NullTest.{NullTest, nothing_is_null}
+
+-- the field of a record in a column, or the empty one where the record has fewer
+abbrev pub field_in : List (List ℕ) → ℕ → List ℕ
+field_in fields column = unwrap_or (slice_get fields column) []
+
+-- the cells of records in a column
+abbrev pub column_cells : Reading → NullTest → Option ℕ → DataType → ℕ → List (List (List ℕ)) → List Cell
+column_cells reading is_null quote type column records = map (λ fields. cell reading is_null quote type (field_in fields column)) records
+
+-- none of them has a fault
+abbrev pub AreSound : List Cell → Type 0
+AreSound cells = AllByRecursion (λ c. fault_of c ≡ None) cells
+
+-- none of the cells has a fault, and their values stand at the end
+pub record AddsCells (cells : List Cell) (old new : BufferValue) : Type 0 where
+  pub added : new ≡ with_values old (map value_of cells)
+  pub sound : AreSound cells
+
+-- where no text means null, the cell of a field has a value, which was added
+abbrev pub AddsSeen : Option ℕ → List ℕ → BufferValue → BufferValue → Type 0
+AddsSeen quote field old new = (missing ignore : Bool) → Adds with_value old new (cell (reading_of old missing ignore) nothing_is_null quote old.dtype field)
+
+-- the field was seen to have a value, or nothing changed
+abbrev pub IsSeen : Option ℕ → List ℕ → BufferValue → BufferValue → Bool → Type 0
+IsSeen quote field old new true = AddsSeen quote field old new
+IsSeen quote field old new false = new ≡ old
+
+-- a text was added to the values of a type, as its cell however it is read, or nothing changed
+abbrev pub IsKnown : DataType → List ℕ → List (Option Scalar) → List (Option Scalar) → Bool → Type 0
+IsKnown type text old new true = (reading : Reading) → Adds (λ values value. values ++ value ∷ []) old new (text_cell reading type text)
+IsKnown type text old new false = new ≡ old
+
+-- ---- numbers that are read in place
+
+-- the first byte is a digit or a minus
+abbrev pub begins_number : List ℕ → Bool
+begins_number [] = false
+begins_number (x ∷ xs) = is_ascii_digit x || x == 45
+
+-- a quote may be the first byte of a number
+abbrev pub is_number_quote : Option ℕ → Bool
+is_number_quote None = false
+is_number_quote (Some q) = is_ascii_digit q || q == 45

@@ -1,0 +1,159 @@
+//! The cells of a column of the records of a table into a buffer.
+ghost use Rattle.std.specs.Prelude.{◌≡◌, ◌≤◌, ◌<◌, suc, length, take, map, slice_index_or, [], OnOk, OnErr, IfSome};
+ghost use Rattle.std.specs.Option.{option_copied, unwrap_or, option_map};
+ghost use Rattle.pl_table.specs.Tables.{AreWithin, fields_of, placed_text};
+ghost use Rattle.pl_cells.specs.BufferValue.{Answers, with_values, cut_to, reading_of};
+ghost use Rattle.pl_cells.specs.Cells.{cell, value_of};
+ghost use Rattle.pl_cells.specs.Columns.{field_in, column_cells, AreSound, AddsCells};
+ghost use Rattle.pl_cells.specs.InitBuffers.{state_of};
+ghost use Rattle.pl_cells.specs.NullValues.{HaveTexts, means_null};
+
+use crate::buffer::Buffer;
+use crate::cell_buffer::{CellBuffer, put_field};
+use crate::cell_fault::CellFault;
+use crate::null_values::NullValuesCompiled;
+use pl_table::table::{Placed, Table};
+
+// The field of a record in a column, or the empty one where the record has fewer.
+#[inline(always)]
+fn placed_in<'a>(table: &Table, text: &'a [u8], row: usize, column: usize) -> Placed<'a>
+    requires within { AreWithin (length text.now) table.now }
+    requires row { row < length table.now }
+    ensures field { placed_text result ≡ field_in (slice_index_or (fields_of text.now table.now) row []) column }
+    ensures inside { result.start ≤ length result.upto.now }
+{
+    match table.front(text, row, column) {
+        Some(placed) => placed,
+        None => Placed {
+            upto: &[],
+            start: 0,
+        },
+    }
+}
+
+// Puts the cell of a field of a column at the end. Refuses the cell's fault, and want of memory; the buffer is then as it was.
+#[inline(always)]
+fn put_placed<B: CellBuffer>(
+    buffer: &mut B,
+    field: Placed<'_>,
+    quote_char: Option<u8>,
+    null_values: Option<&NullValuesCompiled>,
+    column: usize,
+    ignore_errors: bool,
+    missing_is_null: bool,
+) -> Result<(), CellFault>
+    requires inside { field.start ≤ length field.upto.now }
+    requires texts { HaveTexts null_values (suc column) }
+    ensures { Answers (B.state buffer.old) (B.state buffer.new) (cell (reading_of (B.state buffer.old) missing_is_null ignore_errors) (means_null (option_copied null_values.entry) column) quote_char (B.state buffer.old).dtype (placed_text field.entry)) result }
+{
+    if null_values.is_none() && buffer.put_seen(field, quote_char)? {
+        return Ok(());
+    }
+    let bytes = &field.upto[field.start..];
+    put_field(
+        buffer,
+        bytes,
+        quote_char,
+        null_values,
+        column,
+        ignore_errors,
+        missing_is_null,
+    )
+}
+
+// Puts the cells of the first records in a column at the end. Refuses the first fault, and want of memory; the buffer then
+// holds some of the cells.
+#[inline(always)]
+fn put_column<B: CellBuffer>(
+    buffer: &mut B,
+    text: &[u8],
+    table: &Table,
+    rows: usize,
+    quote_char: Option<u8>,
+    null_values: Option<&NullValuesCompiled>,
+    column: usize,
+    ignore_errors: bool,
+    missing_is_null: bool,
+) -> Result<(), CellFault>
+    requires within { AreWithin (length text.now) table.now }
+    requires rows { rows ≤ length table.now }
+    requires texts { HaveTexts null_values (suc column) }
+    ensures added { OnOk result (AddsCells (column_cells (reading_of (B.state buffer.old) missing_is_null ignore_errors) (means_null (option_copied null_values.entry) column) quote_char (B.state buffer.old).dtype column (take rows (fields_of text.now table.now))) (B.state buffer.old) (B.state buffer.new)) }
+    ensures kept { OnErr result (cut_to (length (B.state buffer.old).values) (B.state buffer.new) ≡ B.state buffer.old) }
+{
+    buffer.make_room(rows)?;
+    for row in 0..rows {
+        let field = placed_in(table, text, row, column);
+        let put = put_placed(
+            buffer,
+            field,
+            quote_char,
+            null_values,
+            column,
+            ignore_errors,
+            missing_is_null,
+        );
+        match put {
+            Ok(()) => {}
+            Err(fault) => return Err(fault),
+        }
+    }
+    Ok(())
+}
+
+// The same for the buffer of each type.
+macro_rules! for_each_type {
+    ($given:expr, $buffer:ident => $call:expr) => {
+        match $given {
+            Buffer::Boolean($buffer) => $call,
+            Buffer::Int8($buffer) => $call,
+            Buffer::Int16($buffer) => $call,
+            Buffer::Int32($buffer) => $call,
+            Buffer::Int64($buffer) => $call,
+            Buffer::Int128($buffer) => $call,
+            Buffer::UInt8($buffer) => $call,
+            Buffer::UInt16($buffer) => $call,
+            Buffer::UInt32($buffer) => $call,
+            Buffer::UInt64($buffer) => $call,
+            Buffer::String($buffer) => $call,
+            Buffer::Categorical($buffer) => $call,
+            Buffer::Enum($buffer) => $call,
+            Buffer::Date($buffer) => $call,
+            Buffer::Time($buffer) => $call,
+            Buffer::Datetime($buffer) => $call,
+            Buffer::Decimal($buffer) => $call,
+        }
+    };
+}
+
+impl Buffer {
+    /// Puts the cells of the first `rows` records of a table of a text in a column at the end; a record without a field there
+    /// has the cell of the empty field. `quote_char` is the buffer's, and under `Columns` there must be texts for so many
+    /// columns.
+    ///
+    /// Refuses where a cell has a fault (the first is told), and want of memory. The buffer then holds some of the cells, and
+    /// is as it was once it is cut back to its length before.
+    pub fn add_column(
+        &mut self,
+        text: &[u8],
+        table: &Table,
+        rows: usize,
+        quote_char: Option<u8>,
+        null_values: Option<&NullValuesCompiled>,
+        column: usize,
+        ignore_errors: bool,
+        missing_is_null: bool,
+    ) -> Result<(), CellFault>
+        requires within { AreWithin (length text.now) table.now }
+        requires rows { rows ≤ length table.now }
+        requires quote { quote_char ≡ (state_of self.old).quote_char }
+        requires texts { HaveTexts null_values (suc column) }
+        ensures added { OnOk result (state_of self.new ≡ with_values (state_of self.old) (map value_of (column_cells (reading_of (state_of self.old) missing_is_null ignore_errors) (means_null (option_copied null_values.entry) column) quote_char (state_of self.old).dtype column (take rows (fields_of text.now table.now))))) }
+        ensures sound { OnOk result (AreSound (column_cells (reading_of (state_of self.old) missing_is_null ignore_errors) (means_null (option_copied null_values.entry) column) quote_char (state_of self.old).dtype column (take rows (fields_of text.now table.now)))) }
+        ensures kept { OnErr result (cut_to (length (state_of self.old).values) (state_of self.new) ≡ state_of self.old) }
+    {
+        for_each_type!(self, buffer => put_column(
+            buffer, text, table, rows, quote_char, null_values, column, ignore_errors, missing_is_null,
+        ))
+    }
+}

@@ -36,7 +36,8 @@ use Rattle.pl_rows.specs.Cells.{RowRules}
 use Rattle.pl_rows.specs.Columns.{entries_in, columns_in, frame_of_rows}
 use Rattle.pl_rows.specs.Plan.{rules_of as plan_rules}
 use Rattle.pl_rows.specs.Ranges.{limited, judged_rows, has_unjudged, sound_rows, IsRangeRead}
-use Rattle.pl_rows.specs.Rows.{Row, rows, first_faulty}
+use Rattle.pl_rows.specs.Rows.{first_faulty}
+use Rattle.pl_table.specs.Rows.{Row, rows}
 use Rattle.pl_rows.proofs.FrameLaws.{IsFrame-rows}
 use Rattle.pl_rows.proofs.RangeLaws.{rows-nil}
 use Rattle.pl_rows.proofs.WholeLaws.{judged-last, sound-all, none-first, fault-first}

@@ -25,7 +25,8 @@ use Rattle.pl_rows.specs.Cells.{RowRules, cell}
 use Rattle.pl_rows.specs.Columns.{read_column, entries_in, frame_of_rows}
 use Rattle.pl_rows.specs.Plan.{Columns}
 use Rattle.pl_rows.specs.Ranges.{limited}
-use Rattle.pl_rows.specs.Rows.{Row, rows, field_at, first_fault, first_faulty}
+use Rattle.pl_rows.specs.Rows.{field_at, first_fault, first_faulty}
+use Rattle.pl_table.specs.Rows.{Row, rows}
 use Rattle.pl_infer.specs.Causes.{when, first_some}
 use Rattle.pl_infer.specs.Text.{marks_of, comment_of}
 use Rattle.pl_schema.specs.Schemas.{is_categorical}

@@ -24,7 +24,8 @@ use Rattle.pl_scan.proofs.AppendStartLaws.{HaveEnds, data_left-append, ended-dat
 use Rattle.pl_scan.proofs.StartLaws.{IsEndOf-data_left}
 use Rattle.pl_rows.specs.Columns.{entries_in, frame_of_rows}
 use Rattle.pl_rows.specs.Ranges.{limited}
-use Rattle.pl_rows.specs.Rows.{Row, row_of, rows, first_faulty}
+use Rattle.pl_rows.specs.Rows.{first_faulty}
+use Rattle.pl_table.specs.Rows.{Row, row_of, rows}
 use Rattle.pl_read.specs.Laws.{HoldsLines, behind_line, Decides, LimitedReadDependsOnPrefix}
 use Rattle.pl_infer.specs.Causes.{Tells, IsFirstCause, when, first_some}
 use Rattle.pl_infer.specs.Text.{marks_of, comment_of, skips_of}

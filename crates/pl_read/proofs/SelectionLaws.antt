@@ -23,7 +23,8 @@ use Rattle.pl_infer.specs.declared.row_index.RowIndex.{RowIndex}
 use Rattle.pl_rows.specs.Cells.{RowRules}
 use Rattle.pl_rows.specs.Columns.{read_column, entries_in, columns_in, frame_of_rows}
 use Rattle.pl_rows.specs.Plan.{Columns}
-use Rattle.pl_rows.specs.Rows.{Row, column_fault, excess_fault, passes_excess, first_or, first_fault, first_faulty}
+use Rattle.pl_rows.specs.Rows.{column_fault, excess_fault, passes_excess, first_or, first_fault, first_faulty}
+use Rattle.pl_table.specs.Rows.{Row}
 use Rattle.pl_read.specs.Laws.{unprojected, selected, ProjectionSelects}
 use Rattle.pl_infer.specs.Causes.{when, first_some}
 use Rattle.pl_read.specs.Options.{data_of, rules_of}

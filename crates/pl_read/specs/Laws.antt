@@ -9,7 +9,7 @@ use Rattle.pl_frame.specs.declared.error.PolarsError.{PolarsError}
 use Rattle.pl_infer.specs.declared.read_options.CsvReadOptions.{CsvReadOptions}
 use Rattle.pl_infer.specs.declared.row_index.RowIndex.{RowIndex}
 use Rattle.pl_scan.specs.Closing.{ends_open}
-use Rattle.pl_rows.specs.Rows.{rows}
+use Rattle.pl_table.specs.Rows.{rows}
 use Rattle.pl_infer.specs.Text.{marks_of, comment_of}
 use Rattle.pl_schema.specs.Inference.{inference_of, first_record}
 use Rattle.pl_read.specs.Options.{data_of, settled_schema}

@@ -8,7 +8,7 @@ use Rattle.pl_infer.specs.declared.row_index.RowIndex.{RowIndex}
 use Rattle.pl_rows.specs.Columns.{entries_in, columns_in, frame_of_rows}
 use Rattle.pl_rows.specs.Plan.{Columns}
 use Rattle.pl_rows.specs.Ranges.{limited}
-use Rattle.pl_rows.specs.Rows.{Row, rows}
+use Rattle.pl_table.specs.Rows.{Row, rows}
 use Rattle.pl_infer.specs.Text.{marks_of, comment_of}
 use Rattle.pl_read.specs.Options.{rules_of}
 use Rattle.pl_read.specs.Projection.{projected}

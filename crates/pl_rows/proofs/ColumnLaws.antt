@@ -9,7 +9,8 @@ use Rattle.pl_cells.specs.Cells.{value_of}
 use Rattle.pl_rows.specs.Cells.{RowRules, cell}
 use Rattle.pl_rows.specs.Columns.{column_cells, with_columns}
 use Rattle.pl_rows.specs.Plan.{state_types}
-use Rattle.pl_rows.specs.Rows.{Row, field_at}
+use Rattle.pl_rows.specs.Rows.{field_at}
+use Rattle.pl_table.specs.Rows.{Row}
 use Rattle.pl_rows.specs.Steps.{without_last, cut_back}
 
 pub with_columns-none : (rules : RowRules) (places : List ℕ) (buffers : List BufferValue) → length places ≡ length buffers → with_columns rules [] places buffers ≡ buffers

@@ -18,7 +18,8 @@ use Rattle.pl_cells.specs.Faults as cell
 use Rattle.pl_rows.specs.declared.row_rest.RowRest.{RowRest}
 use Rattle.pl_rows.specs.declared.row_rest.RowRest.TheVariants as rest
 use Rattle.pl_rows.specs.RowRest.{fields_left, behind_row, IsDone, HasMore}
-use Rattle.pl_rows.specs.Rows.{Row, field_at, is_forgiven, excess_fault, row_at}
+use Rattle.pl_rows.specs.Rows.{field_at, is_forgiven, excess_fault}
+use Rattle.pl_table.specs.Rows.{Row, row_at}
 use Rattle.pl_rows.specs.Steps.{IsRowFault, row_fault_of}
 use Rattle.pl_rows.proofs.RestLaws.{field_at-drop}
 

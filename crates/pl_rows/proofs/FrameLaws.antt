@@ -17,7 +17,8 @@ use Rattle.pl_cells.specs.NullValues.{HaveTexts}
 use Rattle.pl_rows.specs.declared.plan.RangePlan.{RangePlan}
 use Rattle.pl_rows.specs.Plan.{state_types, Columns, AreRising, CanRead, FollowsRules, rules_of, plan_columns}
 use Rattle.pl_rows.specs.Ranges.{judged_rows, sound_rows, with_range, range_frame}
-use Rattle.pl_rows.specs.Rows.{Row, field_at}
+use Rattle.pl_rows.specs.Rows.{field_at}
+use Rattle.pl_table.specs.Rows.{Row}
 use Rattle.pl_rows.proofs.RuleLaws.{FollowRules-empty}
 
 -- a list that was written back as a whole

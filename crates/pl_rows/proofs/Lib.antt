@@ -8,3 +8,4 @@ pub mod OpenLaws
 pub mod FrameLaws
 pub mod PlanLaws
 pub mod WholeLaws
+pub mod BlockLaws

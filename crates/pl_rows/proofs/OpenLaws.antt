@@ -17,7 +17,8 @@ use Rattle.pl_rows.specs.declared.range.RangeEnd.TheVariants as end
 use Rattle.pl_rows.specs.Laws.{OpenEndsWithin}
 use Rattle.pl_rows.specs.Plan.{rules_of}
 use Rattle.pl_rows.specs.Ranges.{limited, rows_of, judged_rows, has_unjudged, end_of}
-use Rattle.pl_rows.specs.Rows.{Row, rows, first_faulty}
+use Rattle.pl_rows.specs.Rows.{first_faulty}
+use Rattle.pl_table.specs.Rows.{Row, rows}
 use Rattle.pl_rows.proofs.RangeLaws.{rows-nil, rows-step, rows-comment}
 
 -- a row's last field is open

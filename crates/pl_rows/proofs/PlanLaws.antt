@@ -12,7 +12,7 @@ use Rattle.pl_cells.specs.BufferValue.{BufferValue}
 use Rattle.pl_rows.specs.declared.plan.RangePlan.{RangePlan}
 use Rattle.pl_rows.specs.Columns.{with_columns}
 use Rattle.pl_rows.specs.Plan.{AreRising, CanRead, rules_of, plan_columns, state_types, FollowsRules}
-use Rattle.pl_rows.specs.Rows.{Row}
+use Rattle.pl_table.specs.Rows.{Row}
 use Rattle.pl_rows.proofs.ColumnLaws.{length-with_columns, state_types-with_columns}
 use Rattle.pl_rows.proofs.RuleLaws.{FollowRules-with_columns}
 

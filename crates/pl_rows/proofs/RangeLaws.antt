@@ -23,8 +23,10 @@ use Rattle.pl_rows.specs.Cells.{RowRules}
 use Rattle.pl_rows.specs.Columns.{with_columns}
 use Rattle.pl_rows.specs.Plan.{Columns, CanRead, plan_columns, rules_of}
 use Rattle.pl_rows.specs.Ranges.{limited, rows_of, is_judged, judged_rows, has_unjudged, end_of, range_end, sound_rows, with_range}
-use Rattle.pl_rows.specs.Rows.{Row, row_at, row_of, rows, first_fault, first_faulty}
+use Rattle.pl_rows.specs.Rows.{first_fault, first_faulty}
+use Rattle.pl_table.specs.Rows.{Row, row_at, row_of, rows}
 use Rattle.pl_rows.specs.Steps.{is_below, HasReadRow, cut_back}
+use Rattle.pl_rows.specs.Blocks.{left_below, rows_left, HasReadRows}
 use Rattle.pl_rows.proofs.ColumnLaws.{with_columns-none, with_columns-append}
 use Rattle.pl_rows.proofs.PlanLaws.{plan_columns-more}
 use Rattle.pl_rows.proofs.RowLaws.{rows-back}
@@ -54,11 +56,21 @@ rows-comment m comment b some starts =
     ∙ ap (λ t. cons_option (row_of m (item_by t m b, drop (length (text_of (item_by t m b))) b)) (rows m comment (drop (length (text_of (item_by t m b)) + 1) b))) starts
     ∙ ap (λ k. rows m comment (drop (k + 1) b)) (length-prefix_len (λ x. not (x == m.line_end)) b)
 
--- ---- the rows that are left below the limit
+-- each row has a byte at least
+few_rows : (m : Marks) (comment : Option (List ℕ)) → AreDistinct m → (n : ℕ) (b : List ℕ) → length b ≤ n → length (rows m comment b) ≤ length b
+few_rows m comment distinct n [] few = omega (arith, ap length (rows-nil m comment))
+few_rows m comment distinct zero (x ∷ b) few = absurd (omega arith)
+few_rows m comment distinct (suc n) (x ∷ b) few = by (is_comment comment (x ∷ b)) refl (λ k. few_rows m comment distinct n (drop (k + 1) (x ∷ b)) (omega (arith, length-drop (k + 1) (x ∷ b))))
+  where
+    by : (t : Bool) → is_comment comment (x ∷ b) ≡ t → ((k : ℕ) → length (rows m comment (drop (k + 1) (x ∷ b))) ≤ length (drop (k + 1) (x ∷ b))) → length (rows m comment (x ∷ b)) ≤ length (x ∷ b)
+    by true starts others =
+        let k = prefix_len (λ y. not (y == m.line_end)) (x ∷ b) in
+        omega (arith, length-drop (k + 1) (x ∷ b), others k, ap length (rows-comment m comment (x ∷ b) (omega arith) starts))
+    by false plain others =
+        let k = extent m (x ∷ b) in
+        omega (arith, length-drop (k + 1) (x ∷ b), others k, ap length (rows-step m comment (x ∷ b) distinct (omega arith) plain))
 
-abbrev pub left_below : {X : Type 0} → Option ℕ → ℕ → List X → List X
-left_below None n xs = xs
-left_below (Some limit) n xs = take (limit - n) xs
+-- ---- the rows that are left below the limit
 
 left_below-start : {X : Type 0} (limit : Option ℕ) (xs : List X) → left_below limit 0 xs ≡ limited limit xs
 left_below-start None xs = refl
@@ -88,7 +100,7 @@ left_below-past (Some limit) n xs past =
 
 -- ---- judged and sound rows, one after another
 
-filter-kept : {X : Type 0} (p : X → Bool) (x : X) (xs : List X) → p x ≡ true → filter p (x ∷ xs) ≡ x ∷ filter p xs
+pub filter-kept : {X : Type 0} (p : X → Bool) (x : X) (xs : List X) → p x ≡ true → filter p (x ∷ xs) ≡ x ∷ filter p xs
 filter-kept p x xs e = ap (λ t. cond t (x ∷ filter p xs) (filter p xs)) e
 
 filter-left_out : {X : Type 0} (p : X → Bool) (x : X) (xs : List X) → p x ≡ false → filter p (x ∷ xs) ≡ filter p xs
@@ -106,7 +118,7 @@ sound_rows-fault rules columns row others found e =
     take_while-cons (λ r. is_none (first_fault rules columns r)) row others
     ∙ ap (λ o. cond (is_none o) (row ∷ sound_rows rules columns others) []) e
 
-first_faulty-more : (rules : RowRules) (columns : Columns) (n : ℕ) (row : Row) (others : List Row) → first_fault rules columns row ≡ None
+pub first_faulty-more : (rules : RowRules) (columns : Columns) (n : ℕ) (row : Row) (others : List Row) → first_fault rules columns row ≡ None
     → first_faulty rules columns n (row ∷ others) ≡ first_faulty rules columns (n + 1) others
 first_faulty-more rules columns n row others e = rw (e, first_faulty) refl
 
@@ -114,25 +126,10 @@ first_faulty-here : (rules : RowRules) (columns : Columns) (n : ℕ) (row : Row)
     → first_faulty rules columns n (row ∷ others) ≡ Some (n, found)
 first_faulty-here rules columns n row others found e = rw (e, first_faulty) refl
 
--- the rows of a text that a plan reads, from a number on
-abbrev pub rows_left : RangePlan → ℕ → List ℕ → List Row
-rows_left plan n left = left_below plan.limit n (rows (marks_of plan.dialect) (comment_of plan.dialect) left)
-
--- what a loop over the rows of a range has done where these bytes are left, behind so many rows
-pub record HasReadRows (plan : RangePlan) (range : List ℕ) (before now : List BufferValue) (left : List ℕ) (n : ℕ) : Type 0 where
-  pub done : List Row
-  pub count : length done ≡ n
-  pub filled : now ≡ with_columns (rules_of plan) done plan.projection.places.now before
-  pub sound : sound_rows (rules_of plan) (plan_columns plan before) (judged_rows plan range)
-      ≡ done ++ sound_rows (rules_of plan) (plan_columns plan before) (filter (is_judged plan) (rows_left plan n left))
-  pub faulty : first_faulty (rules_of plan) (plan_columns plan before) 0 (judged_rows plan range)
-      ≡ first_faulty (rules_of plan) (plan_columns plan before) n (filter (is_judged plan) (rows_left plan n left))
-  pub unjudged : has_unjudged plan range ≡ list_any (λ row. not (is_judged plan row)) (rows_left plan n left)
-  pub few : n + length left ≤ length range
-
 pub HasReadRows-start : (plan : RangePlan) (range : List ℕ) (before : List BufferValue) → CanRead plan before → HasReadRows plan range before before range 0
 HasReadRows-start plan range before can =
-    let given = rows (marks_of plan.dialect) (comment_of plan.dialect) range in
+    let m = marks_of plan.dialect in
+    let given = rows m (comment_of plan.dialect) range in
     let same : rows_of plan range ≡ rows_left plan 0 range = sym (left_below-start plan.limit given) in
     record {
       done = [];
@@ -141,7 +138,7 @@ HasReadRows-start plan range before can =
       sound = ap (λ rs. sound_rows (rules_of plan) (plan_columns plan before) (filter (is_judged plan) rs)) same;
       faulty = ap (λ rs. first_faulty (rules_of plan) (plan_columns plan before) 0 (filter (is_judged plan) rs)) same;
       unjudged = ap (list_any (λ row. not (is_judged plan row))) same;
-      few = omega arith;
+      few = let all = few_rows m (comment_of plan.dialect) can.apart (length range) range (omega arith) in omega (arith, all);
     }
 
 -- where the loop comes to a row
@@ -183,7 +180,7 @@ HasReadRows-more plan range before now after left behind rest n can at read one 
       unjudged =
           read.unjudged ∙ ap (list_any (λ r. not (is_judged plan r))) step
           ∙ ap (λ t. not t || list_any (λ r. not (is_judged plan r)) others) one.judged;
-      few = omega (arith, read.few, at.some, ap length there, length-drop (extent m left + 1) left);
+      few = omega (arith, read.few, ap length (rows-step m (comment_of plan.dialect) left can.apart at.some at.plain ∙ ap (λ r. row ∷ rows m (comment_of plan.dialect) r) (sym there)));
     }
 
 -- a comment adds nothing
@@ -203,7 +200,7 @@ HasReadRows-comment plan range before now left rest n some starts read rest_is =
       sound = read.sound ∙ ap (λ rs. read.done ++ sound_rows rules columns (filter (is_judged plan) rs)) same;
       faulty = read.faulty ∙ ap (λ rs. first_faulty rules columns n (filter (is_judged plan) rs)) same;
       unjudged = read.unjudged ∙ ap (list_any (λ r. not (is_judged plan r))) same;
-      few = omega (arith, read.few, ap length rest_is, length-drop (prefix_len (λ x. not (x == m.line_end)) left + 1) left);
+      few = omega (arith, read.few, ap length (rows-comment m (comment_of plan.dialect) left some starts ∙ sym (ap (rows m (comment_of plan.dialect)) rest_is)));
     }
 
 -- what was read when nothing more is

@@ -22,7 +22,8 @@ use Rattle.pl_rows.specs.Cells.{RowRules, cell}
 use Rattle.pl_rows.specs.Columns.{with_columns}
 use Rattle.pl_rows.specs.Plan.{AreRising, rules_of, plan_columns, state_types}
 use Rattle.pl_rows.specs.RowRest.{fields_left, behind_row}
-use Rattle.pl_rows.specs.Rows.{Row, field_at, column_fault, first_or, excess_fault, passes_excess, first_fault, row_at}
+use Rattle.pl_rows.specs.Rows.{field_at, column_fault, first_or, excess_fault, passes_excess, first_fault}
+use Rattle.pl_table.specs.Rows.{Row, row_at}
 use Rattle.pl_rows.specs.Steps.{without_last, cut_back, HaveCells, HasAddedCells, IsCellsFault, IsRowFault, IsRowEnd, passes_more, row_fault_of}
 use Rattle.pl_rows.proofs.ColumnLaws.{with_columns-more, without_last-with_columns}
 use Rattle.pl_rows.proofs.ExcessLaws.{excess_fault-done, excess_fault-more, row_fault-is}
@@ -52,7 +53,7 @@ pub record IsAt (plan : RangePlan) (before now : List BufferValue) (i place : �
   pub is : get_or now i old ≡ old
   pub place_is : place ≡ get_or plan.projection.places.now i 0
 
-here_places : (plan : RangePlan) (before now : List BufferValue) (i place : ℕ) (old : BufferValue) → IsAt plan before now i place old
+pub here_places : (plan : RangePlan) (before now : List BufferValue) (i place : ℕ) (old : BufferValue) → IsAt plan before now i place old
     → drop i plan.projection.places.now ≡ place ∷ drop (i + 1) plan.projection.places.now
 here_places plan before now i place old at =
     let places = plan.projection.places.now in
@@ -62,12 +63,12 @@ here_places plan before now i place old at =
 here_now : (plan : RangePlan) (before now : List BufferValue) (i place : ℕ) (old : BufferValue) → IsAt plan before now i place old → drop i now ≡ old ∷ drop (i + 1) now
 here_now plan before now i place old at = drop_more now i old at.inside ∙ ap (λ s. s ∷ drop (i + 1) now) at.is
 
-here_before : (plan : RangePlan) (before now : List BufferValue) (i place : ℕ) (old : BufferValue) → IsAt plan before now i place old → drop i now ≡ drop i before
+pub here_before : (plan : RangePlan) (before now : List BufferValue) (i place : ℕ) (old : BufferValue) → IsAt plan before now i place old → drop i now ≡ drop i before
     → drop i before ≡ old ∷ drop (i + 1) before
 here_before plan before now i place old at rest =
     sym rest ∙ here_now plan before now i place old at ∙ ap (λ r. old ∷ r) (sym (drop-drop 1 i now) ∙ ap (drop 1) rest ∙ drop-drop 1 i before)
 
-head_before : (before : List BufferValue) (i : ℕ) (old : BufferValue) → i < length before → drop i before ≡ old ∷ drop (i + 1) before → get_or before i old ≡ old
+pub head_before : (before : List BufferValue) (i : ℕ) (old : BufferValue) → i < length before → drop i before ≡ old ∷ drop (i + 1) before → get_or before i old ≡ old
 head_before before i old within is = let more = drop_more before i old within in cc
 
 -- where the next column's field begins
@@ -227,7 +228,7 @@ rows-back plan given n k before now many all count is =
 -- ---- the end of a row
 
 -- more fields are passed over as the plan says
-passes-is : (plan : RangePlan) (before : List BufferValue) → length plan.projection.places.now ≡ length before → passes_excess (rules_of plan) (plan_columns plan before) ≡ passes_more plan
+pub passes-is : (plan : RangePlan) (before : List BufferValue) → length plan.projection.places.now ≡ length before → passes_excess (rules_of plan) (plan_columns plan before) ≡ passes_more plan
 passes-is plan before count =
     let places = plan.projection.places.now in
     let size : length (zip places (state_types before)) ≡ length places = omega (arith, length-zip places (state_types before), length-map before (λ (b : BufferValue). b.dtype)) in

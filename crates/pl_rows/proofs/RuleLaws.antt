@@ -6,7 +6,7 @@ use Rattle.pl_cells.specs.InitBuffers.{empty_buffers}
 use Rattle.pl_rows.specs.Cells.{RowRules}
 use Rattle.pl_rows.specs.Columns.{with_columns}
 use Rattle.pl_rows.specs.Plan.{FollowsRules, FollowRules}
-use Rattle.pl_rows.specs.Rows.{Row}
+use Rattle.pl_table.specs.Rows.{Row}
 
 -- the buffer at a place does
 pub FollowsRules-at : (rules : RowRules) (given : List BufferValue) (i : ℕ) (buffer : BufferValue) (others : List BufferValue) → FollowRules rules given → drop i given ≡ buffer ∷ others

@@ -10,7 +10,8 @@ use Rattle.pl_rows.specs.declared.range.RangeEnd.TheVariants as end
 use Rattle.pl_rows.specs.Cells.{RowRules}
 use Rattle.pl_rows.specs.Plan.{Columns}
 use Rattle.pl_rows.specs.Ranges.{rows_of, is_judged, judged_rows, end_of, sound_rows}
-use Rattle.pl_rows.specs.Rows.{Row, first_fault, first_faulty}
+use Rattle.pl_rows.specs.Rows.{first_fault, first_faulty}
+use Rattle.pl_table.specs.Rows.{Row}
 use Rattle.pl_rows.proofs.RangeLaws.{sound_rows-more}
 
 all_kept : {X : Type 0} (p : X → Bool) (xs : List X) → ((x : X) → p x ≡ true) → filter p xs ≡ xs

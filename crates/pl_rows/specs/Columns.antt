@@ -8,7 +8,8 @@ use Rattle.pl_cells.specs.InitBuffers.{entry_at}
 use Rattle.pl_cells.specs.Cells.{value_of}
 use Rattle.pl_rows.specs.Cells.{RowRules, cell}
 use Rattle.pl_rows.specs.Plan.{Columns}
-use Rattle.pl_rows.specs.Rows.{Row, field_at}
+use Rattle.pl_rows.specs.Rows.{field_at}
+use Rattle.pl_table.specs.Rows.{Row}
 
 -- the cells of a column over rows
 abbrev pub column_cells : RowRules → List Row → ℕ × DataType → List (Option Scalar)

@@ -6,3 +6,4 @@ pub mod Ranges
 pub mod Columns
 pub mod Steps
 pub mod Laws
+pub mod Blocks

@@ -14,7 +14,8 @@ use Rattle.pl_rows.specs.declared.range.RangeEnd.TheVariants as end
 use Rattle.pl_rows.specs.Cells.{RowRules}
 use Rattle.pl_rows.specs.Columns.{with_columns, entries_in, columns_in, frame_of_rows}
 use Rattle.pl_rows.specs.Plan.{Columns, plan_columns, rules_of}
-use Rattle.pl_rows.specs.Rows.{Row, rows, first_fault, first_faulty}
+use Rattle.pl_rows.specs.Rows.{first_fault, first_faulty}
+use Rattle.pl_table.specs.Rows.{Row, rows}
 
 -- the first so many, or all
 abbrev pub limited : {X : Type 0} → Option ℕ → List X → List X

@@ -1,33 +1,13 @@
 -- Records as rows of cells, and the first fault of a row (docs/types.md, "Records and columns").
-use Rattle.std.specs.Prelude.{ℕ, ◌+◌, Bool, not, ◌&&◌, ◌||◌, ◌==◌, nat_lt, if◌then◌else◌, List, [], ◌∷◌, length, drop, Option, None, Some, unwrap_or, slice_get}
+use Rattle.std.specs.Prelude.{ℕ, ◌+◌, Bool, not, ◌&&◌, ◌||◌, ◌==◌, nat_lt, if◌then◌else◌, List, [], ◌∷◌, length, Option, None, Some, unwrap_or, slice_get}
 use Rattle.std.specs.List.{filter_map}
 use Rattle.pl_frame.specs.declared.data_type.DataType.{DataType}
 use Rattle.pl_frame.specs.declared.error.FaultKind.{FaultKind}
 use Rattle.pl_frame.specs.declared.error.FaultKind.TheVariants as fault
-use Rattle.pl_frame.specs.Dialect.{Marks}
-use Rattle.pl_scan.specs.Fields.{fields, extent}
-use Rattle.pl_scan.specs.Items.{ItemText, CommentText, RecordText, items_behind}
+use Rattle.pl_table.specs.Rows.{Row}
 use Rattle.pl_cells.specs.Cells.{fault_of}
 use Rattle.pl_rows.specs.Cells.{RowRules, cell}
 use Rattle.pl_rows.specs.Plan.{Columns}
-
--- a record as it is read: its fields, and whether nothing stands behind it in the text
-pub record Row : Type 0 where
-  pub fields : List (List ℕ)
-  pub is_end : Bool
-
--- the record at the front of a text
-abbrev pub row_at : Marks → List ℕ → Row
-row_at m b = record { fields = fields m b; is_end = length (drop (extent m b) b) == 0 }
-
--- comments give no row
-abbrev pub row_of : Marks → ItemText × List ℕ → Option Row
-row_of m (CommentText text, behind) = None
-row_of m (RecordText text, behind) = Some (record { fields = fields m text; is_end = length behind == 0 })
-
--- the records of a text, numbered from 0
-abbrev pub rows : Marks → Option (List ℕ) → List ℕ → List Row
-rows m comment b = filter_map (row_of m) (items_behind m comment b)
 
 -- the field of a column, where a missing one counts as the empty one
 abbrev pub field_at : List (List ℕ) → ℕ → List ℕ

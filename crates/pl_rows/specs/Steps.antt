@@ -18,7 +18,8 @@ use Rattle.pl_rows.specs.Columns.{with_columns}
 use Rattle.pl_rows.specs.Plan.{plan_columns, rules_of}
 use Rattle.pl_rows.specs.Ranges.{is_judged}
 use Rattle.pl_rows.specs.RowRest.{fields_left, behind_row, IsDone, HasMore}
-use Rattle.pl_rows.specs.Rows.{Row, row_at, first_fault, column_fault}
+use Rattle.pl_rows.specs.Rows.{first_fault, column_fault}
+use Rattle.pl_table.specs.Rows.{Row, row_at}
 use Rattle.std.specs.List.{filter_map}
 
 -- a buffer without its last cells

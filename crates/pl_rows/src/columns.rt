@@ -97,7 +97,7 @@ pub fn read_columns(
     let places = plan.projection.places;
     let quote_char = plan.dialect.quote_char;
     let mut buffers = empty_buffers(alloc, schema, places, quote_char, plan.options.encoding)?;
-    let end = read_range(&mut buffers, range, plan)?;
+    let end = read_range(alloc, &mut buffers, range, plan)?;
     let columns = into_columns(alloc, buffers)?;
     Ok(RangeColumns { columns, end })
 }

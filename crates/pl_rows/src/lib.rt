@@ -1,6 +1,7 @@
 //! A range of records into buffers: rows, their cells and faults, and the columns that they make.
 #![tactic(auto)]
 
+mod blocks;
 pub mod columns;
 mod cut_back;
 mod field;

@@ -1,6 +1,7 @@
 //! How a range is read: by which dialect, which columns of which, under which options, and how much of it.
-ghost use Rattle.std.specs.Prelude.{◌↔◌, IsTrue};
+ghost use Rattle.std.specs.Prelude.{◌≡◌, ◌↔◌, IsTrue};
 ghost use Rattle.pl_rows.specs.Plan.{AreRising};
+ghost use Rattle.pl_rows.specs.Steps.{passes_more};
 
 use pl_cells::null_values::NullValuesCompiled;
 use pl_cells::utf8::CsvEncoding;
@@ -56,4 +57,14 @@ pub struct RangePlan<'a> {
     pub limit: Option<usize>,
     /// Whether the range is the last one; in any other a row that ends within a quoted field is not judged.
     pub last: bool,
+}
+
+impl<'a> RangePlan<'a> {
+    /// Whether more fields than the schema has columns are passed over: where they may be, and where not all columns are read.
+    #[inline]
+    pub(crate) fn passes_more(&self) -> bool
+        ensures { result ≡ passes_more self.now }
+    {
+        self.options.truncate_ragged_lines || self.projection.places.len() != self.projection.width
+    }
 }

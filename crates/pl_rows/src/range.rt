@@ -5,6 +5,7 @@ ghost use Rattle.pl_rows.specs.Plan.{states, plan_columns, CanRead};
 ghost use Rattle.pl_rows.specs.Ranges.{range_end, with_range};
 ghost use Rattle.pl_rows.specs.Steps.{is_below};
 
+use crate::blocks::read_blocks;
 use crate::cut_back::cut_back;
 use crate::plan::RangePlan;
 use crate::row::{RowRead, read_row};
@@ -12,7 +13,7 @@ use memchr::memchr;
 use pl_cells::buffer::Buffer;
 use pl_frame::error::FaultKind;
 use pl_scan::comment::is_comment_line;
-use std::alloc::AllocError;
+use std::alloc::{AllocError, Global};
 
 /// Where the reading of a range ended.
 #[derive(Clone, Copy, Debug, PartialEq, Eq)]
@@ -31,7 +32,7 @@ pub enum RangeEnd {
 
 // Whether a number is below the limit, where there is one.
 #[inline]
-fn is_below(limit: Option<usize>, row: usize) -> bool
+pub(crate) fn is_below(limit: Option<usize>, row: usize) -> bool
     ensures { result ≡ is_below limit row }
 {
     match limit {
@@ -67,6 +68,7 @@ fn behind_comment(bytes: &[u8], eol_char: u8) -> &[u8]
 /// The buffers gain the cells of the judged rows before the first that has a fault. Refuses only want of memory; the buffers
 /// are then as they were.
 pub fn read_range(
+    alloc: Global,
     buffers: &mut [Buffer],
     range: &[u8],
     plan: &RangePlan<'_>,
@@ -76,8 +78,9 @@ pub fn read_range(
     ensures added { OnOk result (states buffers.new ≡ with_range plan.now range.now (states buffers.old)) }
     ensures kept { OnErr result (states buffers.new ≡ states buffers.old) }
 {
-    let mut rest = range;
-    let mut row = 0;
+    let front = read_blocks(alloc, buffers, range, plan);
+    let mut rest = front.rest;
+    let mut row = front.row;
     while !rest.is_empty() && is_below(plan.limit, row) {
         if is_comment_line(rest, plan.dialect.comment_prefix) {
             rest = behind_comment(rest, plan.dialect.eol_char);

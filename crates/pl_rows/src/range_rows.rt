@@ -84,7 +84,7 @@ fn read(
     assert!(rt; plan.projection.is_valid());
     let buffers = init_buffers(alloc, places, 0, schema, Some(b'"'), CsvEncoding::Utf8);
     let mut buffers = buffers.expect(rt, "buffers");
-    let end = read_range(&mut buffers, range, &plan).expect(rt, "memory");
+    let end = read_range(alloc, &mut buffers, range, &plan).expect(rt, "memory");
     let columns = into_columns(alloc, buffers).expect(rt, "columns");
     (columns, end)
 }

@@ -4,7 +4,8 @@ ghost use Rattle.pl_frame.specs.Dialect.{AreDistinct};
 ghost use Rattle.pl_scan.specs.Dialect.{marks_of};
 ghost use Rattle.pl_scan.specs.Fields.{extent};
 ghost use Rattle.pl_rows.specs.Plan.{states, rules_of, plan_columns, CanRead};
-ghost use Rattle.pl_rows.specs.Rows.{row_at, first_fault};
+ghost use Rattle.pl_rows.specs.Rows.{first_fault};
+ghost use Rattle.pl_table.specs.Rows.{row_at};
 ghost use Rattle.pl_rows.specs.Columns.{with_columns};
 ghost use Rattle.pl_rows.specs.Ranges.{is_judged};
 ghost use Rattle.pl_rows.specs.Steps.{row_fault_of, HasAddedCells, IsCellsFault, IsRowFault, IsRowRead, IsRowEnd};
@@ -88,8 +89,7 @@ fn add_cells<'a>(
 fn end_row<'a>(rest: RowRest<'a>, plan: &RangePlan<'_>) -> Result<&'a [u8], RowFault>
     ensures { IsRowEnd plan.now rest.entry result }
 {
-    let is_whole = plan.projection.places.len() == plan.projection.width;
-    if plan.options.truncate_ragged_lines || !is_whole {
+    if plan.passes_more() {
         return Ok(pass_row(rest, &plan.dialect));
     }
     finish_row(rest, plan.projection.width)

@@ -4,11 +4,11 @@ use Rattle.std.proofs.lemmas.List.{length-map}
 use Rattle.pl_rows.specs.Plan.{states}
 use Rattle.pl_rows.proofs.ExcessLaws.{length-nil}
 use Rattle.pl_rows.proofs.PlanLaws.{CanRead-more}
-use Rattle.pl_rows.proofs.RangeLaws.{IsAtRow, HasReadRows-start, HasReadRows-more, HasReadRows-comment, HasReadRange-closed, HasReadRange-open, HasReadRange-fault, HasReadRows-back, rows_left-none}
+use Rattle.pl_rows.proofs.RangeLaws.{IsAtRow, HasReadRows-more, HasReadRows-comment, HasReadRange-closed, HasReadRange-open, HasReadRange-fault, HasReadRows-back, rows_left-none}
 use Rattle.pl_rows.proofs.range.read_range.Goals as goal
 
 pub loop-rest-init : goal.loop-rest-init
-loop-rest-init c = HasReadRows-start c.args.plan.now c.args.range.now (states c.args.buffers.now) c.requires
+loop-rest-init c = c.read_blocks-front.ensures
 
 pub loop-rest-preserved-then-is_comment_line : goal.loop-rest-preserved-then-is_comment_line
 loop-rest-preserved-then-is_comment_line c =

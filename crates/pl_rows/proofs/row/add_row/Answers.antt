@@ -2,7 +2,7 @@ use Rattle.std.proofs.Common.{◌≤◌, ◌∷◌, [], length, refl, ◌∙◌,
 use Rattle.std.proofs.lemmas.List.{length-map}
 use Rattle.pl_scan.specs.Dialect.{marks_of}
 use Rattle.pl_rows.specs.Plan.{states}
-use Rattle.pl_rows.specs.Rows.{row_at}
+use Rattle.pl_table.specs.Rows.{row_at}
 use Rattle.pl_rows.proofs.RowLaws.{row-whole, row-excess, rows-back, cells-back}
 use Rattle.pl_rows.proofs.row.add_row.Goals as goal
 

@@ -4,7 +4,7 @@ use Rattle.std.proofs.lemmas.List.{length-map}
 use Rattle.pl_scan.specs.Dialect.{marks_of}
 use Rattle.pl_rows.specs.Plan.{states}
 use Rattle.pl_rows.specs.Ranges.{is_judged}
-use Rattle.pl_rows.specs.Rows.{row_at}
+use Rattle.pl_table.specs.Rows.{row_at}
 use Rattle.pl_rows.proofs.RangeLaws.{not_true, not_false, judged-behind}
 use Rattle.pl_rows.proofs.RowLaws.{rows-back}
 use Rattle.pl_rows.proofs.row.read_row.Goals as goal

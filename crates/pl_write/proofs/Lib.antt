@@ -9,6 +9,8 @@ mod LeftLaws
 mod LineLaws
 mod PaddedLaws
 mod PointLaws
+pub mod PutLaws
+pub mod SourceLaws
 mod SpecialLaws
 mod TimeLaws
 mod WordLaws

@@ -7,7 +7,7 @@ use Rattle.pl_frame.specs.Printed.{padded, point_text}
 use Rattle.pl_write.proofs.PaddedLaws.{padded-drop, padded-bare, padded-four}
 use Rattle.pl_write.proofs.WordLaws.{decimal-onto_eight, padded-eight}
 
-take-behind : (xs ys : List ℕ) (k : ℕ) → take (length xs + k) (xs ++ ys) ≡ xs ++ take k ys
+pub take-behind : (xs ys : List ℕ) (k : ℕ) → take (length xs + k) (xs ++ ys) ≡ xs ++ take k ys
 take-behind [] ys k = let same : 0 + k ≡ k = omega arith in ap (λ j. take j ys) same
 take-behind (x ∷ xs) ys k = let next : suc (length xs) + k ≡ suc (length xs + k) = omega arith in rw next (ap (λ l. x ∷ l) (take-behind xs ys k))
 

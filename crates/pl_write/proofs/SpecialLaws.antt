@@ -7,7 +7,8 @@ use Rattle.std.proofs.lemmas.List.Sums.{prefix_len_passes}
 use Rattle.std.specs.Bool.{OnTrue}
 use Rattle.std.specs.List.{list_any}
 use lib.Lanes.{chunk, mask_l, zip2, top}
-use Rattle.pl_frame.specs.Text.{is_special}
+use Rattle.std.proofs.lemmas.Bool.Decides.{nat_tests}
+use Rattle.pl_frame.specs.Text.{is_special, needs_quotes}
 use Rattle.pl_write.specs.Special.{HasNoSpecial}
 
 abbrev hit : ℕ → ℕ → ℕ
@@ -79,3 +80,10 @@ none_in p (x ∷ xs) none = rw (none 0 (omega arith) (omega arith)) (none_in p x
 pub clear_text : (b : Bool) (s q : ℕ) (text : List ℕ) → b ≡ true → OnTrue b (HasNoSpecial s q text 0 (length text)) → list_any (is_special s q) text ≡ false
 clear_text true s q text is clear = none_in (is_special s q) text clear
 clear_text false s q text is clear = absurd (cc)
+
+-- a text of some bytes, none of which is special, needs no quotes
+pub clear_bare : (s q : ℕ) (text : List ℕ) → 1 ≤ length text → HasNoSpecial s q text 0 (length text) → needs_quotes s q text ≡ false
+clear_bare s q [] some clear = absurd (omega arith)
+clear_bare s q (x ∷ xs) some clear =
+    let not_empty : (length (x ∷ xs) == 0) ≡ false = grind (arith, nat_tests) in
+    rw (not_empty, none_in (is_special s q) (x ∷ xs) clear) refl

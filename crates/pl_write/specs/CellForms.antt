@@ -1,8 +1,7 @@
 -- How the cells of a column are written, settled once for the column.
-use Rattle.std.specs.Prelude.{◌≡◌, ℕ, ℤ, List, [], ◌∷◌, Option, None, Some}
+use Rattle.std.specs.Prelude.{◌≡◌, ℕ, ℤ, List, Option, None, Some}
 use Rattle.std.specs.Fmt.{signed_decimal}
 use Rattle.pl_frame.specs.declared.data_type.DataType.{DataType}
-use Rattle.pl_frame.specs.Frame.{ColumnValue}
 use Rattle.pl_frame.specs.Printed.{number_text}
 use Rattle.pl_frame.specs.Text.{WriteOptions, written_null, written_value}
 use Rattle.pl_frame.specs.Types.{is_numeric}
@@ -14,13 +13,6 @@ abbrev pub FitsForm : CellForm → WriteOptions → DataType → Type 0
 FitsForm form.Digits o type = (n : ℤ) → written_value o (is_numeric type) (number_text type n) ≡ signed_decimal n
 FitsForm form.AsNeeded o type = o.style ≡ 0
 FitsForm form.ByCell o type = Unit {0}
-
--- one such form for each column
-abbrev pub HaveForms : WriteOptions → List ColumnValue → List CellForm → Type 0
-HaveForms o [] [] = Unit {0}
-HaveForms o [] (form ∷ forms) = ⊥
-HaveForms o (column ∷ columns) [] = ⊥
-HaveForms o (column ∷ columns) (form ∷ forms) = FitsForm form o column.dtype × HaveForms o columns forms
 
 -- the digits of a number, or what stands for a null
 abbrev pub digits_or_null : WriteOptions → Option ℤ → List ℕ

@@ -1,4 +1,5 @@
 pub mod CellForms
+pub mod CellSources
 pub mod CellsLeft
 pub mod Options
 pub mod Serializing

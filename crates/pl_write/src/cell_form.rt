@@ -1,15 +1,13 @@
 //! How the cells of a column are written: settled once for the column, by its type and the style.
-ghost use Rattle.std.specs.Prelude.{◌≡◌, true, IfOk};
+ghost use Rattle.std.specs.Prelude.{◌≡◌, true};
 ghost use Rattle.pl_frame.specs.Text.{is_bare};
 ghost use Rattle.pl_frame.specs.Types.{is_whole_number};
 ghost use Rattle.pl_write.specs.Options.{cell_options, style_number};
 ghost use Rattle.pl_write.specs.declared.cell_form.CellForm.TheVariants as CellForm;
-ghost use Rattle.pl_write.specs.CellForms.{FitsForm, HaveForms};
+ghost use Rattle.pl_write.specs.CellForms.{FitsForm};
 
 use crate::options::{QuoteStyle, SerializeOptions};
-use pl_frame::column::Column;
 use pl_frame::data_type::DataType;
-use std::alloc::{AllocError, Global};
 
 /// How the values of a column are written.
 #[derive(Clone, Copy, Debug, PartialEq, Eq)]
@@ -65,19 +63,4 @@ pub(crate) fn form_of(dtype: &DataType, options: &SerializeOptions) -> CellForm
     } else {
         form_of_others(dtype, options)
     }
-}
-
-/// The form of each column. Refuses only want of memory.
-pub(crate) fn forms_of(
-    alloc: Global,
-    columns: &[Column],
-    options: &SerializeOptions,
-) -> Result<Vec<CellForm>, AllocError>
-    ensures { IfOk result (λ forms. HaveForms (cell_options options.now) columns.now forms.items) }
-{
-    let mut forms = Vec::new(alloc);
-    for column in columns {
-        forms.push(form_of(column.dtype(), options))?;
-    }
-    Ok(forms)
 }

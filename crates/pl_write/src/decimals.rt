@@ -1,11 +1,10 @@
 //! Decimal numbers as text.
-ghost use Rattle.std.specs.Prelude.{◌≡◌, ◌++◌, ◌∷◌, [], ◌<◌, ◌≤◌, ◌+◌, ◌-◌, ◌^◌, length, take, drop, replicate, OnOk, if◌then◌else◌};
+ghost use Rattle.std.specs.Prelude.{◌≡◌, ◌++◌, ◌∷◌, [], ◌<◌, ◌≤◌, ◌+◌, ◌-◌, ◌^◌, length, replicate, OnOk, if◌then◌else◌};
 ghost use Rattle.std.specs.Int.{is_negative};
 ghost use Rattle.pl_frame.specs.Printed.{padded, point_text, decimal_text};
 ghost use Rattle.pl_write.specs.Writing.{StaysInFront};
 
-use crate::digit_words::{bytes_from, eight_digits};
-use crate::wholes::{push_front, push_short, short_digit_count};
+use crate::put_decimals::put_decimal;
 use std::alloc::AllocError;
 
 // Appends a minus, where the number is below zero.
@@ -79,63 +78,6 @@ fn push_filled(block: &mut Vec<u8>, digits: &[u8], scale: usize) -> Result<(), A
     }
 }
 
-// Appends a point, and the first bytes of eight.
-#[tactic(auto, using(crate::proofs::KeptLaws::keeping))]
-#[inline]
-fn push_behind_point(block: &mut Vec<u8>, bytes: [u8; 8], count: usize) -> Result<(), AllocError>
-    requires { count ≤ 8 }
-    ensures text { OnOk result (block.new.items ≡ block.old.items ++ 46 ∷ take count bytes) }
-    ensures kept { StaysInFront block.old.items block.new.items }
-{
-    block.push(b'.')?;
-    push_front(block, bytes, count)
-}
-
-// Appends the last digits of the eight that a number below 10^8 has, with a point before the last of them.
-#[tactic(auto, using(crate::proofs::KeptLaws::keeping))]
-#[inline]
-fn push_last(block: &mut Vec<u8>, n: u32, count: usize, scale: usize) -> Result<(), AllocError>
-    requires small { n < 100000000 }
-    requires some { 1 ≤ scale }
-    requires whole { scale < count }
-    requires few { count ≤ 8 }
-    ensures text { OnOk result (block.new.items ≡ block.old.items ++ point_text scale (drop (8 - count) (padded 8 n))) }
-    ensures kept { StaysInFront block.old.items block.new.items }
-{
-    let word = eight_digits(n);
-    push_front(block, bytes_from(word, 8 - count), count - scale)?;
-    push_behind_point(block, bytes_from(word, 8 - scale), scale)
-}
-
-// Appends a number below 10^8 with a point before the last of its digits.
-#[tactic(auto, using(crate::proofs::KeptLaws::keeping))]
-#[inline]
-fn push_short_scaled(block: &mut Vec<u8>, n: u32, scale: usize) -> Result<(), AllocError>
-    requires small { n < 100000000 }
-    requires some { 1 ≤ scale }
-    requires few { scale ≤ 7 }
-    ensures text { OnOk result (block.new.items ≡ block.old.items ++ point_text scale (padded (scale + 1) n)) }
-    ensures kept { StaysInFront block.old.items block.new.items }
-{
-    let count = short_digit_count(n).max(scale + 1);
-    push_last(block, n, count, scale)
-}
-
-// Appends a number of 9 to 16 digits with a point before the last of them.
-#[tactic(auto, using(crate::proofs::KeptLaws::keeping))]
-#[inline]
-fn push_middle_scaled(block: &mut Vec<u8>, n: u64, scale: usize) -> Result<(), AllocError>
-    requires low { 100000000 ≤ n }
-    requires high { n < 10000000000000000 }
-    requires some { 1 ≤ scale }
-    requires few { scale ≤ 7 }
-    ensures text { OnOk result (block.new.items ≡ block.old.items ++ point_text scale (padded (scale + 1) n)) }
-    ensures kept { StaysInFront block.old.items block.new.items }
-{
-    push_short(block, (n / 100_000_000) as u32)?;
-    push_last(block, (n % 100_000_000) as u32, 8, scale)
-}
-
 // Appends the digits of a size of any width, with a point before the last of them.
 #[tactic(auto, using(crate::proofs::KeptLaws::keeping))]
 fn push_wide_scaled(block: &mut Vec<u8>, size: u128, scale: u32) -> Result<(), AllocError>
@@ -147,22 +89,15 @@ fn push_wide_scaled(block: &mut Vec<u8>, size: u128, scale: u32) -> Result<(), A
     push_filled(block, digits.as_bytes(), scale as usize)
 }
 
-// The same: most sizes have few digits, where printing is faster.
+// Appends a decimal number of any size.
 #[tactic(auto, using(crate::proofs::KeptLaws::keeping))]
-#[inline]
-fn push_scaled(block: &mut Vec<u8>, size: u128, scale: u32) -> Result<(), AllocError>
-    ensures text { OnOk result (block.new.items ≡ block.old.items ++ point_text scale (padded (scale + 1) size)) }
+#[cold]
+fn push_wide_decimal(block: &mut Vec<u8>, number: i128, scale: u32) -> Result<(), AllocError>
+    ensures text { OnOk result (block.new.items ≡ block.old.items ++ decimal_text scale number) }
     ensures kept { StaysInFront block.old.items block.new.items }
 {
-    if scale == 0 || scale > 7 || size >= 10_000_000_000_000_000 {
-        return push_wide_scaled(block, size, scale);
-    }
-    let size = size as u64;
-    if size < 100_000_000 {
-        push_short_scaled(block, size as u32, scale as usize)
-    } else {
-        push_middle_scaled(block, size, scale as usize)
-    }
+    push_sign(block, number)?;
+    push_wide_scaled(block, number.unsigned_abs(), scale)
 }
 
 /// Appends a decimal number of which 10^scale make one: a minus below zero, and digits with a point before the last
@@ -173,6 +108,16 @@ pub(crate) fn push_decimal(block: &mut Vec<u8>, number: i128, scale: u32) -> Res
     ensures text { OnOk result (block.new.items ≡ block.old.items ++ decimal_text scale number) }
     ensures kept { StaysInFront block.old.items block.new.items }
 {
-    push_sign(block, number)?;
-    push_scaled(block, number.unsigned_abs(), scale)
+    let at = block.len();
+    block.resize(at + 26, 0)?;
+    match put_decimal(block, at, number, scale) {
+        Some(end) => {
+            block.truncate(end);
+            Ok(())
+        }
+        None => {
+            block.truncate(at);
+            push_wide_decimal(block, number, scale)
+        }
+    }
 }

@@ -1,7 +1,9 @@
 //! Frames written as CSV: the text of each cell, and of a whole frame.
 #![tactic(auto)]
 
+mod block;
 mod cell_form;
+mod cell_source;
 pub mod cells;
 pub mod csv_writer;
 mod dates;
@@ -9,7 +11,15 @@ mod decimals;
 mod digit_words;
 mod digits;
 pub mod options;
+mod put_cells;
+mod put_decimals;
+mod put_rows;
+mod put_texts;
+mod put_times;
+mod put_wholes;
+mod puts;
 pub mod serializer;
+mod spare;
 mod special;
 mod texts;
 mod times;

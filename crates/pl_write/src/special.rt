@@ -47,7 +47,7 @@ fn is_clear_16(text: &[u8], at: usize, separator: u8, quote: u8) -> bool
 }
 
 #[inline(always)]
-fn is_clear_long(text: &[u8], separator: u8, quote: u8) -> bool
+pub(crate) fn is_clear_long(text: &[u8], separator: u8, quote: u8) -> bool
     requires { 16 ≤ length text.now }
     ensures { OnTrue result (HasNoSpecial separator quote text.now 0 (length text.now)) }
 {
@@ -62,7 +62,7 @@ fn is_clear_long(text: &[u8], separator: u8, quote: u8) -> bool
 }
 
 #[inline(always)]
-fn is_clear_8_to_16(text: &[u8], separator: u8, quote: u8) -> bool
+pub(crate) fn is_clear_8_to_16(text: &[u8], separator: u8, quote: u8) -> bool
     requires { (8 ≤ length text.now) × (length text.now ≤ 16) }
     ensures { OnTrue result (HasNoSpecial separator quote text.now 0 (length text.now)) }
 {
@@ -70,7 +70,7 @@ fn is_clear_8_to_16(text: &[u8], separator: u8, quote: u8) -> bool
 }
 
 #[inline(always)]
-fn is_clear_4_to_8(text: &[u8], separator: u8, quote: u8) -> bool
+pub(crate) fn is_clear_4_to_8(text: &[u8], separator: u8, quote: u8) -> bool
     requires { (4 ≤ length text.now) × (length text.now ≤ 8) }
     ensures { OnTrue result (HasNoSpecial separator quote text.now 0 (length text.now)) }
 {
@@ -94,7 +94,7 @@ fn is_clear(text: &[u8], separator: u8, quote: u8) -> bool
 
 // The same, exactly, byte by byte.
 #[inline]
-fn any_special(text: &[u8], separator: u8, quote: u8) -> bool
+pub(crate) fn any_special(text: &[u8], separator: u8, quote: u8) -> bool
     ensures { result ≡ list_any (is_special separator quote) text.now }
 {
     text.iter().any(|x| *x == separator || *x == b'\n' || *x == b'\r' || *x == quote)

@@ -11,7 +11,7 @@ use std::alloc::AllocError;
 
 // Whether a text is quoted where quotes are written only if necessary.
 #[inline]
-fn is_quoting_needed(text: &[u8], separator: u8, quote: u8) -> bool
+pub(crate) fn is_quoting_needed(text: &[u8], separator: u8, quote: u8) -> bool
     ensures { result ≡ needs_quotes separator quote text.now }
 {
     text.is_empty() || holds_special(text, separator, quote)

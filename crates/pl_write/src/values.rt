@@ -101,7 +101,7 @@ fn is_numeric(dtype: &DataType) -> bool
 
 // Whether a value that is no text is quoted.
 #[inline]
-fn is_quoted(dtype: &DataType, style: QuoteStyle) -> bool
+pub(crate) fn is_quoted(dtype: &DataType, style: QuoteStyle) -> bool
     ensures { result ≡ not (is_bare (style_number style) (is_numeric dtype.now)) }
 {
     match style {

@@ -1,19 +1,22 @@
 //! The text of a frame, written in blocks.
-ghost use Rattle.std.specs.Prelude.{◌≡◌, true, ◌<◌, ◌++◌, ◌≤◌, [], length, None, unwrap_or, slice_get, OnOk, IsErrOf, if◌then◌else◌};
+ghost use Rattle.std.specs.Prelude.{◌≡◌, true, ◌<◌, ◌++◌, ◌≤◌, [], length, None, unwrap_or, slice_get, IfOk, OnOk, IsErrOf, if◌then◌else◌};
 ghost use Rattle.std.specs.Io.KnownBytes.{Appends};
 ghost use Rattle.pl_frame.specs.Causes.{Rose};
 ghost use Rattle.pl_frame.specs.Columns.{is_number_of};
 ghost use Rattle.pl_frame.specs.Types.{is_numeric};
 ghost use Rattle.pl_frame.specs.Frame.{cell_at, HaveHeight, height_of, names_of};
 ghost use Rattle.pl_frame.specs.Printed.{number_text};
-ghost use Rattle.pl_frame.specs.Text.{written_cell, written_value, written_text, row_line, header_line, head_text, byte_order_mark, text_of_frame};
+ghost use Rattle.pl_frame.specs.Text.{written_cell, written_value, written_text, header_line, head_text, byte_order_mark, text_of_frame};
 ghost use Rattle.pl_write.specs.Options.{cell_options, frame_options};
-ghost use Rattle.pl_write.specs.CellForms.{FitsForm, HaveForms, digits_or_null};
+ghost use Rattle.pl_write.specs.CellForms.{FitsForm, digits_or_null};
 ghost use Rattle.pl_write.specs.declared.cell_form.CellForm.TheVariants as CellForm;
-ghost use Rattle.pl_write.specs.Writing.{separator_before, HasRow, AppendsPrefix, StaysInFront};
+ghost use Rattle.pl_write.specs.Writing.{separator_before, AppendsPrefix, StaysInFront};
 
-use crate::cell_form::{CellForm, forms_of};
+use crate::block::Block;
+use crate::cell_form::CellForm;
+use crate::cell_source::sources_of;
 use crate::options::{CsvWriterOptions, SerializeOptions};
+use crate::spare::Spare;
 use crate::texts::{push_as_needed, push_null, push_text};
 use crate::values::{push_number_cell, push_truth_cell};
 use crate::wholes::{push_narrow, push_whole};
@@ -156,26 +159,6 @@ fn push_terminator(block: &mut Vec<u8>, options: &SerializeOptions) -> Result<()
     block.extend_from_slice(options.line_terminator.as_str().as_bytes())
 }
 
-// Appends the line of a row.
-fn push_row(
-    block: &mut Vec<u8>,
-    scratch: &mut Vec<u8>,
-    columns: &[Column],
-    forms: &[CellForm],
-    row: usize,
-    options: &SerializeOptions,
-) -> Result<(), AllocError>
-    requires row { HasRow row columns.now }
-    requires forms { HaveForms (cell_options options.now) columns.now forms.now }
-    ensures { OnOk result (block.new.items ≡ block.old.items ++ row_line (cell_options options.now) columns.now row) }
-{
-    for (place, column) in columns.iter().enumerate() {
-        push_separator(block, options.separator, place)?;
-        push_cell(block, scratch, column, forms[place], row, options)?;
-    }
-    push_terminator(block, options)
-}
-
 // Appends the name of a column, as a text.
 fn push_name(
     block: &mut Vec<u8>,
@@ -227,6 +210,21 @@ fn push_head(
     Ok(())
 }
 
+// A block of what stands before the rows. Refuses only want of memory.
+fn head_block(
+    alloc: Global,
+    columns: &[Column],
+    options: &CsvWriterOptions,
+) -> Result<Block, AllocError>
+    ensures { IfOk result (λ block. block ≡ head_text (frame_options options.now) (names_of columns.now)) }
+{
+    let mut head = Vec::new(alloc);
+    push_head(&mut head, columns, options)?;
+    let mut block = Block::new(alloc);
+    block.append(&head)?;
+    Ok(block)
+}
+
 // The number of rows.
 fn row_count(columns: &[Column]) -> usize
     ensures { result ≡ height_of columns.now }
@@ -253,21 +251,18 @@ pub fn write_frame<Si: Sink>(
     ensures later_wants { Si.wants sink.old ≤ Si.wants sink.new }
     ensures device { IsErrOf result SinkFault.Device → Rose (Si.faults sink.old) (Si.faults sink.new) }
 {
-    let Ok(forms) = forms_of(alloc, columns, &options.serialize_options) else {
+    let Ok(sources) = sources_of(alloc, columns, &options.serialize_options) else {
         return Err(SinkFault::OutOfMemory);
     };
-    let mut block = Vec::new(alloc);
-    let mut scratch = Vec::new(alloc);
-    match push_head(&mut block, columns, options) {
-        Ok(()) => {}
-        Err(_) => return Err(SinkFault::OutOfMemory),
-    }
+    let Ok(mut block) = head_block(alloc, columns, options) else {
+        return Err(SinkFault::OutOfMemory);
+    };
+    let mut spare = Spare::new(alloc);
     for row in 0..row_count(columns) {
-        match push_row(
-            &mut block,
-            &mut scratch,
+        match block.append_row(
+            &mut spare,
             columns,
-            &forms,
+            &sources,
             row,
             &options.serialize_options,
         ) {
@@ -275,11 +270,11 @@ pub fn write_frame<Si: Sink>(
             Err(_) => return Err(SinkFault::OutOfMemory),
         }
         if block.len() >= BLOCK {
-            match write_all(sink, &block) {
+            match write_all(sink, block.as_slice()) {
                 Ok(()) => block.clear(),
                 Err(fault) => return Err(fault),
             }
         }
     }
-    write_all(sink, &block)
+    write_all(sink, block.as_slice())
 }

@@ -1,18 +1,20 @@
-use Rattle.std.proofs.Common.{◌≡◌, ◌+◌, if◌then◌else◌, [], ◌∷◌, ◌++◌, unsigned_abs, ap}
+use Rattle.std.proofs.Common.{◌≡◌, ◌++◌, ◌∙◌, ap, arith}
+use Rattle.std.specs.Int.{w128}
+use Rattle.std.proofs.lemmas.Grind.{common_steps}
 use Rattle.std.proofs.lemmas.Int.{to_z-of_z}
-use Rattle.std.specs.Int.{is_negative, w128}
-use Rattle.pl_frame.specs.Printed.{padded, point_text, decimal_text}
-use Rattle.pl_write.proofs.BlockLaws.{two_parts}
+use Rattle.std.proofs.lemmas.Result.{on_ok_weaker}
+use Rattle.pl_frame.specs.Printed.{decimal_text}
 use Rattle.pl_write.proofs.decimals.push_decimal.Goals as goal
 
-pub returns-clause-text : goal.returns-clause-text
-returns-clause-text c =
+pub returns-in-Some-clause-text : goal.returns-in-Some-clause-text
+returns-in-Some-clause-text c =
+    let put = simp (to_z-of_z w128 c.args.number c.ranges.number) at c.in-Some.ensures.text in
+    grind (arith, common_steps, put)
+
+pub returns-in-None-clause-text : goal.returns-in-None-clause-text
+returns-in-None-clause-text c =
     let given = to_z-of_z w128 c.args.number c.ranges.number in
-    let size : c.unsigned_abs.result ≡ unsigned_abs c.args.number = simp given at c.unsigned_abs.ensures.value in
-    let sign = simp given at c.in_ok-push_sign.ensures.text in
-    let scale = c.args.scale in
-    two_parts c.push_scaled.result c.args.block.now.items c.push_sign.new.block.items c.push_scaled.new.block.items
-    (if is_negative c.args.number then 45 ∷ [] else []) (point_text scale (padded (scale + 1) c.unsigned_abs.result)) (decimal_text scale c.args.number)
-    sign
-    (ap (λ n. (if is_negative c.args.number then 45 ∷ [] else []) ++ point_text scale (padded (scale + 1) n)) size)
-    c.push_scaled.ensures.text
+    let back : c.truncate-in-None.new.self.items ≡ c.args.block.now.items = grind (arith, common_steps) in
+    on_ok_weaker c.push_wide_decimal.result
+    (λ e. e ∙ (ap (λ n. c.truncate-in-None.new.self.items ++ decimal_text c.args.scale n) given ∙ ap (λ l. l ++ decimal_text c.args.scale c.args.number) back))
+    c.push_wide_decimal.ensures.text

@@ -7,7 +7,7 @@ use Rattle.pl_write.proofs.writer.write_frame.Given as goal
 
 abbrev pub invariant-loop-row : goal.invariant-loop-row
 invariant-loop-row g l = record {
-  writing : IsWriting (g.Si.Sink.received l.fn.sink) (g.Si.Sink.received l.sink) l.block.items
+  writing : IsWriting (g.Si.Sink.received l.fn.sink) (g.Si.Sink.received l.sink) l.block
       (row_lines (frame_options l.options) l.columns l.row (height_of l.columns - l.row)) (text_of_frame (frame_options l.options) l.columns);
   later : g.Si.Sink.faults l.fn.sink ≤ g.Si.Sink.faults l.sink;
   later_wants : g.Si.Sink.wants l.fn.sink ≤ g.Si.Sink.wants l.sink;

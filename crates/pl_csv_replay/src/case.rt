@@ -67,6 +67,24 @@ impl<'a> Case<'a> {
         Ok(())
     }
 
+    // Whether the words tell how comments begin, or mean nothing.
+    fn is_settled(&self) -> bool {
+        self.wanted.status == 2 || self.words.iter().any(|word| word.starts_with("--comment"))
+    }
+
+    /// The same case with a comment prefix that no line begins with, where the words give none. With comments an input is read
+    /// record by record, and without them a block at a time: the answers are the same.
+    pub fn with_comments(self, alloc: Global) -> Result<Option<Case<'a>>> {
+        if self.is_settled() {
+            return Ok(None);
+        }
+        let mut case = self;
+        for word in ["--comment", "\u{1}\u{2}"] {
+            case.words.push(String::from_str(alloc, word)?)?;
+        }
+        Ok(Some(case))
+    }
+
     /// What `run` answers.
     pub fn answer(&self, alloc: Global) -> Result<Answer> {
         let mut source = MemSource::new(&self.input);

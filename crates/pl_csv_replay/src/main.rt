@@ -37,6 +37,16 @@ fn replay(rt: &(impl Print + AllocGlobal), case: &Case) -> Result<bool> {
     Ok(passed)
 }
 
+// Replays the case of these lines, and once more with comments.
+fn replay_twice(rt: &(impl Print + AllocGlobal), lines: &str, tally: &mut Tally) -> Result<()> {
+    let case = Case::from_lines(rt.alloc(), lines)?;
+    tally.count(replay(rt, &case)?);
+    if let Some(case) = case.with_comments(rt.alloc())? {
+        tally.count(replay(rt, &case)?);
+    }
+    Ok(())
+}
+
 // Replays the cases of a file: an empty line stands behind each.
 fn replay_file<R: Files + Print + AllocGlobal>(
     rt: &R,
@@ -46,8 +56,7 @@ fn replay_file<R: Files + Print + AllocGlobal>(
     let text = fs::read_to_string(rt, path)?;
     for lines in text.split("\n\n") {
         if !lines.is_empty() {
-            let case = Case::from_lines(rt.alloc(), lines)?;
-            tally.count(replay(rt, &case)?);
+            replay_twice(rt, lines, tally)?;
         }
     }
     Ok(())

@@ -2,7 +2,7 @@
 ghost use Rattle.std.specs.Prelude.{◌≡◌, ◌<◌, [], ◌∷◌, ◌++◌, true, false, not, length, IfOk, OnOk, IfErr, position, None, Some, IsOkUnless};
 ghost use Rattle.std.specs.Option.{option_map};
 ghost use Rattle.pl_frame.specs.Categories.{AreCodes, decoded};
-ghost use Rattle.pl_frame.specs.Columns.{truth_cells, number_cells, text_cells, is_number, is_enum, categories_of, misfits, first_misfit, IsFirstFault};
+ghost use Rattle.pl_frame.specs.Columns.{truth_cells, number_cells, text_cells, is_number, is_enum, is_coded, categories_of, misfits, first_misfit, IsFirstFault};
 ghost use Rattle.pl_frame.specs.Frame.{Letters};
 ghost use Rattle.pl_frame.specs.Names.{first_repeat};
 ghost use Rattle.pl_frame.specs.Types.{is_readable, is_text, is_outside, signed_range};
@@ -227,6 +227,7 @@ fn push_place(
 mod tests {
     use super::*;
     use crate::column::Value;
+    use std::process::Abort;
     use std::test::Fail;
 
     #[test]
@@ -241,53 +242,66 @@ mod tests {
         assert_eq!(rt; refused, Some(ColumnFault::OutOfRange { row: 2 }));
     }
 
-    fn some(alloc: Global, text: &str) -> Result<Option<PlSmallStr>, Fail> {
-        Ok(Some(PlSmallStr::from_str(alloc, text)?))
+    // Texts and nulls.
+    fn texts(alloc: Global, given: &[Option<&str>]) -> Result<Vec<Option<PlSmallStr>>, Fail> {
+        let mut texts = Vec::new(alloc);
+        for text in given {
+            match text {
+                Some(text) => texts.push(Some(PlSmallStr::from_str(alloc, text)?))?,
+                None => texts.push(None)?,
+            }
+        }
+        Ok(texts)
+    }
+
+    // These are the codes of the rows.
+    fn assert_codes(rt: &impl Abort, column: &Column, codes: &[Option<u64>])
+        requires { is_coded column.now.dtype ≡ true }
+    {
+        assert!(rt; column.len() == codes.len());
+        for row in 0..column.len() {
+            assert!(rt; row < codes.len() && column.code(row) == codes[row]);
+        }
+    }
+
+    // These are the texts of the codes.
+    fn assert_categories(rt: &impl Abort, column: &Column, texts: &[&str])
+        requires { is_coded column.now.dtype ≡ true }
+    {
+        let categories = column.categories();
+        assert!(rt; categories.len() == texts.len());
+        for (place, category) in categories.iter().enumerate() {
+            assert!(rt; place < texts.len() && category.as_str() == texts[place]);
+        }
     }
 
     #[test]
     fn categories_are_coded_by_first_appearance(rt: HostRuntime) -> Result<(), Fail> {
         let alloc = rt.alloc();
+        let given = texts(alloc, &[Some("q"), Some("p"), Some("q"), None, Some("r")])?;
         let name = PlSmallStr::from_str(alloc, "c")?;
-        let given = vec![in alloc;
-            some(alloc, "q")?,
-            some(alloc, "p")?,
-            some(alloc, "q")?,
-            None,
-            some(alloc, "r")?,
-        ]?;
         let column = Column::text(alloc, name, DataType::Categorical, given)?;
-        for (row, code) in [Some(0), Some(1), Some(0), None, Some(2)]
-            .iter()
-            .enumerate()
-        {
-            assert_eq!(rt; column.code(row), *code);
-        }
-        for (place, text) in ["q", "p", "r"].iter().enumerate() {
-            match column.categories().get(place) {
-                Some(found) => assert_eq!(rt; found.as_str(), *text),
-                None => panic!(rt; "no category at {place}"),
-            }
-        }
-        assert_eq!(rt;
-            (column.len(), column.null_count(), column.categories().len()),
-            (5, 1, 3)
-        );
-        assert!(rt; matches!(column.get(2), Value::Text("q")));
+        assert_codes(&rt, &column, &[Some(0), Some(1), Some(0), None, Some(2)]);
+        assert_categories(&rt, &column, &["q", "p", "r"]);
         Ok(())
+    }
+
+    // Names.
+    fn names(alloc: Global, given: &[&str]) -> Result<Vec<PlSmallStr>, Fail> {
+        let mut names = Vec::new(alloc);
+        for name in given {
+            names.push(PlSmallStr::from_str(alloc, name)?)?;
+        }
+        Ok(names)
     }
 
     #[test]
     fn texts_of_an_enum_are_its_categories(rt: HostRuntime) -> Result<(), Fail> {
         let alloc = rt.alloc();
-        let name = PlSmallStr::from_str(alloc, "e")?;
-        let texts = vec![in alloc;
-            PlSmallStr::from_str(alloc, "x")?,
-            PlSmallStr::from_str(alloc, "y")?,
-        ]?;
-        let dtype = DataType::Enum(Some(Categories::new(texts)));
-        let given = vec![in alloc; some(alloc, "y")?, None, some(alloc, "z")?]?;
+        let dtype = DataType::Enum(Some(Categories::new(names(alloc, &["x", "y"])?)));
         if dtype.readable() {
+            let given = texts(alloc, &[Some("y"), None, Some("z")])?;
+            let name = PlSmallStr::from_str(alloc, "e")?;
             let refused = Column::text(alloc, name, dtype, given).err();
             assert_eq!(rt; refused, Some(ColumnFault::OutOfRange { row: 2 }));
         }
@@ -295,22 +309,34 @@ mod tests {
     }
 
     #[test]
-    fn keeps_truth_values_texts_and_nulls(rt: HostRuntime) -> Result<(), Fail> {
+    fn keeps_truth_values_and_nulls(rt: HostRuntime) -> Result<(), Fail> {
         let alloc = rt.alloc();
         let given = vec![in alloc; Some(true), None]?;
         let truths = Column::boolean(alloc, PlSmallStr::from_str(alloc, "b")?, given)?;
         assert!(rt; matches!(truths.get(0), Value::Boolean(true)));
         assert!(rt; matches!(truths.get(1), Value::Null));
-        let given = vec![in alloc; some(alloc, "é")?]?;
-        let name = PlSmallStr::from_str(alloc, "t")?;
-        let texts = Column::text(alloc, name, DataType::String, given)?;
-        assert!(rt; matches!(texts.get(0), Value::Text("é")));
-        assert!(rt; matches!(texts.dtype(), DataType::String));
-        let nulls = Column::nulls(PlSmallStr::from_str(alloc, "n")?, 3)?;
-        assert_eq!(rt;
-            (nulls.name(), nulls.len(), nulls.null_count()),
-            ("n", 3, 3)
-        );
+        Ok(())
+    }
+
+    #[test]
+    fn keeps_texts(rt: HostRuntime) -> Result<(), Fail> {
+        let alloc = rt.alloc();
+        let given = vec![in alloc; Some(PlSmallStr::from_str(alloc, "é")?)]?;
+        let column = Column::text(
+            alloc,
+            PlSmallStr::from_str(alloc, "t")?,
+            DataType::String,
+            given,
+        )?;
+        assert!(rt; matches!(column.get(0), Value::Text("é")));
+        assert!(rt; matches!(column.dtype(), DataType::String));
+        Ok(())
+    }
+
+    #[test]
+    fn keeps_a_number_of_nulls(rt: HostRuntime) -> Result<(), Fail> {
+        let nulls = Column::nulls(PlSmallStr::from_str(rt.alloc(), "n")?, 3)?;
+        assert!(rt; nulls.name() == "n" && nulls.len() == 3 && nulls.null_count() == 3);
         Ok(())
     }
 }

@@ -108,54 +108,63 @@ mod tests {
     }
 
     #[test]
-    fn tells_each_error(rt: HostRuntime) -> Result<(), Fail> {
-        let alloc = rt.alloc();
-        let overrides = OpFault::Overrides {
+    fn tells_what_cannot_be_done(rt: HostRuntime) -> Result<(), Fail> {
+        let fault = OpFault::Overrides {
             given: 3,
             columns: 2,
         };
-        let record = ComputeFault::Record {
+        shows(
+            &rt,
+            rt.alloc(),
+            PolarsError::InvalidOperation(fault),
+            "invalid operation: Overrides { given: 3, columns: 2 }",
+        )
+    }
+
+    #[test]
+    fn tells_what_cannot_be_computed(rt: HostRuntime) -> Result<(), Fail> {
+        let fault = ComputeFault::Record {
             row: 4,
             column: 1,
             kind: FaultKind::Escape,
         };
+        shows(
+            &rt,
+            rt.alloc(),
+            PolarsError::ComputeError(fault),
+            "cannot compute: Record { row: 4, column: 1, kind: Escape }",
+        )
+    }
+
+    #[test]
+    fn tells_names(rt: HostRuntime) -> Result<(), Fail> {
+        let alloc = rt.alloc();
+        let absent = PolarsError::ColumnNotFound(PlSmallStr::from_str(alloc, "é")?);
+        shows(&rt, alloc, absent, "column not found: é")?;
         let twice = PolarsError::Duplicate {
             name: PlSmallStr::from_str(alloc, "c")?,
             at: NamePlace::Schema,
         };
-        let absent = PolarsError::ColumnNotFound(PlSmallStr::from_str(alloc, "é")?);
+        shows(&rt, alloc, twice, "the name c stands twice: Schema")
+    }
+
+    #[test]
+    fn tells_the_others(rt: HostRuntime) -> Result<(), Fail> {
+        let alloc = rt.alloc();
+        let none = PolarsError::NoData(NoDataFault::Skip);
         let outside = PolarsError::OutOfBounds {
             index: 7,
             length: 2,
         };
-        shows(
-            &rt,
-            alloc,
-            PolarsError::InvalidOperation(overrides),
-            "invalid operation: Overrides { given: 3, columns: 2 }",
-        )?;
-        shows(
-            &rt,
-            alloc,
-            PolarsError::ComputeError(record),
-            "cannot compute: Record { row: 4, column: 1, kind: Escape }",
-        )?;
-        shows(
-            &rt,
-            alloc,
-            PolarsError::NoData(NoDataFault::Skip),
-            "no data: Skip",
-        )?;
-        shows(&rt, alloc, absent, "column not found: é")?;
+        shows(&rt, alloc, none, "no data: Skip")?;
         shows(&rt, alloc, outside, "index 7 is out of bounds for length 2")?;
-        shows(&rt, alloc, twice, "the name c stands twice: Schema")?;
+        shows(&rt, alloc, PolarsError::IO, "input or output failed")?;
+        shows(&rt, alloc, PolarsError::OutOfMemory, "out of memory")?;
         shows(
             &rt,
             alloc,
             PolarsError::EmptyProjection,
             "the projection is empty",
-        )?;
-        shows(&rt, alloc, PolarsError::IO, "input or output failed")?;
-        shows(&rt, alloc, PolarsError::OutOfMemory, "out of memory")
+        )
     }
 }

@@ -1,0 +1,5 @@
+pub mod Cutting
+pub mod Fields
+pub mod Log
+pub mod Pieces
+pub mod States

@@ -121,6 +121,8 @@ impl<'a, D: Done> BoardState<'a, D> {
     pub fn take(&mut self) -> PolarsResult<Option<Piece<'a>>>
         ensures finished { IfOk result (λ r. MatchOption r (is_finished self.old.setup self.old.log ≡ true) (λ _. is_finished self.old.setup self.old.log ≡ false)) }
         ensures piece { IfOk result (λ r. IfSome r (λ piece. piece ≡ next_piece self.old.setup self.old.log)) }
+        ensures some { IfOk result (λ r. IfSome r (λ piece. piece.from < piece.to)) }
+        ensures within { IfOk result (λ r. IfSome r (λ piece. piece.to ≤ length self.old.setup.bytes)) }
         ensures taken { IfOk result (λ r. IfSome r (λ piece. self.new ≡ after_take self.old)) }
         ensures none { IfOk result (λ r. IfNone r (self.new ≡ self.old)) }
         ensures refused { IsOkUnless result error.OutOfMemory }

@@ -1,9 +1,9 @@
 -- Rows of a block, many at once.
-use Rattle.std.proofs.Common.{◌≡◌, ℕ, zero, suc, ◌+◌, ◌-◌, ◌<◌, ◌≤◌, Bool, true, false, cond, not, ◌||◌, ltb, List, [], ◌∷◌, ◌++◌, map, length, take, drop, set, get_or, refl, sym, ◌∙◌, ap, subst, append-nil, append_assoc, arith, length-drop, length-append}
+use Rattle.std.proofs.Common.{◌≡◌, ℕ, zero, suc, ◌+◌, ◌-◌, ◌<◌, ◌≤◌, Bool, true, false, cond, not, ◌||◌, ltb, List, [], ◌∷◌, ◌++◌, map, length, take, drop, set, refl, sym, ◌∙◌, ap, subst, append-nil, append_assoc, arith, length-drop, length-append}
 use Rattle.std.specs.Borrow.{Bor}
 use Rattle.std.specs.Prelude.{Option, None, Some, is_some, filter}
 use Rattle.std.specs.Option.{option_copied}
-use Rattle.std.specs.List.{filter_map, cons_option, zip, list_any, AllByRecursion}
+use Rattle.std.specs.List.{filter_map, cons_option, list_any, AllByRecursion}
 use Rattle.std.proofs.lemmas.Bool.Decides.{nat_tests}
 use Rattle.std.proofs.lemmas.List.{length-take-le, length-map, drop-drop, drop_all, take_all, take_more, take_more_set, drop-set-lt, take-append-drop}
 use Rattle.pl_frame.specs.declared.data_type.DataType.{DataType}
@@ -183,7 +183,7 @@ any-front : {X : Type 0} (p : X → Bool) (xs others : List X) → AllByRecursio
 any-front p [] others all = refl
 any-front p (x ∷ xs) others all = ap (λ t. not t || list_any (λ y. not (p y)) (xs ++ others)) all.0 ∙ any-front p xs others all.1
 
-sound-front : (rules : RowRules) (columns : Columns) (given others : List Row) → AllByRecursion (λ row. first_fault rules columns row ≡ None) given
+pub sound-front : (rules : RowRules) (columns : Columns) (given others : List Row) → AllByRecursion (λ row. first_fault rules columns row ≡ None) given
     → sound_rows rules columns (given ++ others) ≡ given ++ sound_rows rules columns others
 sound-front rules columns [] others all = refl
 sound-front rules columns (row ∷ given) others all = sound_rows-more rules columns row (given ++ others) all.0 ∙ ap (λ l. row ∷ l) (sound-front rules columns given others all.1)
@@ -241,34 +241,32 @@ drop-front zero xs others few = refl
 drop-front (suc k) [] others few = absurd (omega arith)
 drop-front (suc k) (x ∷ xs) others few = drop-front k xs others (omega arith)
 
--- the rows of a block were read
-pub HasReadRows-block : (plan : RangePlan) (range : List ℕ) (before now after : List BufferValue) (left block behind rest : List ℕ) (n taken size : ℕ)
-    → CanRead plan before → comment_of plan.dialect ≡ None → HasReadRows plan range before now left n → left ≡ block ++ behind
-    → HasReadBlock plan n block taken size now after → rest ≡ drop size left → HasReadRows plan range before after rest (n + taken)
-HasReadRows-block plan range before now after left block behind rest n taken size can plain read left_is one rest_is =
+-- rows at the front of what is left were read, as far as the limit goes
+pub HasReadRows-rows : (plan : RangePlan) (range : List ℕ) (before now after : List BufferValue) (left rest : List ℕ) (n taken : ℕ) (found : List Row)
+    → CanRead plan before → HasReadRows plan range before now left n
+    → rows (marks_of plan.dialect) (comment_of plan.dialect) left ≡ found ++ rows (marks_of plan.dialect) (comment_of plan.dialect) rest
+    → taken ≡ within_limit plan.limit n (length found) → AllByRecursion (λ row. is_judged plan row ≡ true) found → HaveAllRows plan (take taken found) now after
+    → HasReadRows plan range before after rest (n + taken)
+HasReadRows-rows plan range before now after left rest n taken found can read front count all_judged one =
     let m = marks_of plan.dialect in
     let rules = rules_of plan in
     let columns = plan_columns plan before in
     let places = plan.projection.places.now in
-    let given = take taken one.found in
-    let there : rest ≡ drop size block ++ behind = rest_is ∙ ap (drop size) left_is ∙ drop-front size block behind one.inside in
-    let front : rows m (comment_of plan.dialect) left ≡ one.found ++ rows m (comment_of plan.dialect) rest =
-    ap (λ l. rows m (comment_of plan.dialect) l) left_is ∙ ap (λ o. rows m o (block ++ behind)) plain ∙ one.cut behind
-    ∙ ap (λ o. one.found ++ rows m o (drop size block ++ behind)) (sym plain) ∙ ap (λ l. one.found ++ rows m (comment_of plan.dialect) l) (sym there) in
+    let given = take taken found in
     let others = rows_left plan (n + taken) rest in
     let left_rows : rows_left plan n left ≡ given ++ others =
-    ap (left_below plan.limit n) front ∙ left_below-front plan.limit n one.found (rows m (comment_of plan.dialect) rest)
-    ∙ ap (λ k. take k one.found ++ left_below plan.limit (n + k) (rows m (comment_of plan.dialect) rest)) (sym one.count) in
-    let some : taken ≤ length one.found = let few = within-le plan.limit n (length one.found) in omega (arith, one.count) in
-    let many : length given ≡ taken = length-take-le taken one.found some in
-    let judged = All-take (λ row. is_judged plan row ≡ true) taken one.found one.judged in
+    ap (left_below plan.limit n) front ∙ left_below-front plan.limit n found (rows m (comment_of plan.dialect) rest)
+    ∙ ap (λ k. take k found ++ left_below plan.limit (n + k) (rows m (comment_of plan.dialect) rest)) (sym count) in
+    let some : taken ≤ length found = let few = within-le plan.limit n (length found) in omega (arith, count) in
+    let many : length given ≡ taken = length-take-le taken found some in
+    let judged = All-take (λ row. is_judged plan row ≡ true) taken found all_judged in
     let same = plan_columns-more plan read.done before now read.filled can in
-    let whole : AllByRecursion (λ row. first_fault rules columns row ≡ None) given = subst (λ c. AllByRecursion (λ row. first_fault rules c row ≡ None) given) same one.read.whole in
+    let whole : AllByRecursion (λ row. first_fault rules columns row ≡ None) given = subst (λ c. AllByRecursion (λ row. first_fault rules c row ≡ None) given) same one.whole in
     let kept : filter (is_judged plan) (rows_left plan n left) ≡ given ++ filter (is_judged plan) others = ap (filter (is_judged plan)) left_rows ∙ filter-front (is_judged plan) given others judged in
     record {
       done = read.done ++ given;
       count = omega (arith, read.count, many, length-append read.done given);
-      filled = one.read.added ∙ ap (with_columns rules given places) read.filled ∙ with_columns-append rules read.done given places before;
+      filled = one.added ∙ ap (with_columns rules given places) read.filled ∙ with_columns-append rules read.done given places before;
       sound =
           read.sound ∙ ap (λ rs. read.done ++ sound_rows rules columns rs) kept
           ∙ ap (λ rs. read.done ++ rs) (sound-front rules columns given (filter (is_judged plan) others) whole)
@@ -277,8 +275,20 @@ HasReadRows-block plan range before now after left block behind rest n taken siz
           read.faulty ∙ ap (first_faulty rules columns n) kept ∙ faulty-front rules columns n given (filter (is_judged plan) others) whole
           ∙ ap (λ k. first_faulty rules columns (n + k) (filter (is_judged plan) others)) many;
       unjudged = read.unjudged ∙ ap (list_any (λ r. not (is_judged plan r))) left_rows ∙ any-front (is_judged plan) given others judged;
-      few = omega (arith, read.few, some, ap length front, length-append one.found (rows m (comment_of plan.dialect) rest));
+      few = omega (arith, read.few, some, ap length front, length-append found (rows m (comment_of plan.dialect) rest));
     }
+
+-- the rows of a block were read
+HasReadRows-block : (plan : RangePlan) (range : List ℕ) (before now after : List BufferValue) (left block behind rest : List ℕ) (n taken size : ℕ)
+    → CanRead plan before → comment_of plan.dialect ≡ None → HasReadRows plan range before now left n → left ≡ block ++ behind
+    → HasReadBlock plan n block taken size now after → rest ≡ drop size left → HasReadRows plan range before after rest (n + taken)
+HasReadRows-block plan range before now after left block behind rest n taken size can plain read left_is one rest_is =
+    let m = marks_of plan.dialect in
+    let there : rest ≡ drop size block ++ behind = rest_is ∙ ap (drop size) left_is ∙ drop-front size block behind one.inside in
+    let front : rows m (comment_of plan.dialect) left ≡ one.found ++ rows m (comment_of plan.dialect) rest =
+    ap (λ l. rows m (comment_of plan.dialect) l) left_is ∙ ap (λ o. rows m o (block ++ behind)) plain ∙ one.cut behind
+    ∙ ap (λ o. one.found ++ rows m o (drop size block ++ behind)) (sym plain) ∙ ap (λ l. one.found ++ rows m (comment_of plan.dialect) l) (sym there) in
+    HasReadRows-rows plan range before now after left rest n taken one.found can read front one.count one.judged one.read
 
 -- ---- the records of a table
 

@@ -22,7 +22,7 @@ use Rattle.pl_table.specs.Rows.{Row, rows}
 use Rattle.pl_rows.proofs.RangeLaws.{rows-nil, rows-step, rows-comment}
 
 -- a row's last field is open
-abbrev is_open_row : Marks → Row → Bool
+abbrev pub is_open_row : Marks → Row → Bool
 is_open_row m row = have_open_end m row.fields
 
 -- the item at the front, by whether a comment begins there
@@ -92,13 +92,13 @@ open_within m comment apart (suc n) (x ∷ xs) h before closed =
         open_record m comment (x ∷ xs) before apart (omega arith) is (deeper (drop (size + 1) (x ∷ xs)) (omega (arith, length-drop (size + 1) (x ∷ xs))))
 
 -- some row is open exactly where the text ends so
-open_rows : (m : Marks) (comment : Option (List ℕ)) (b : List ℕ) → AreDistinct m → ends_open m comment b ≡ list_any (is_open_row m) (rows m comment b)
+pub open_rows : (m : Marks) (comment : Option (List ℕ)) (b : List ℕ) → AreDistinct m → ends_open m comment b ≡ list_any (is_open_row m) (rows m comment b)
 open_rows m comment b apart = open_within m comment apart (length b + 1) b (omega arith) None refl
 
 -- ---- where a range is open
 
 -- a row is not judged, given whether the range is the last one
-abbrev unjudged : Bool → Marks → Row → Bool
+abbrev pub unjudged : Bool → Marks → Row → Bool
 unjudged last m row = not (last || not (have_open_end m row.fields))
 
 twice : (t : Bool) → not (not t) ≡ t
@@ -109,7 +109,7 @@ unjudged-last : (m : Marks) (given : List Row) → list_any (unjudged true m) gi
 unjudged-last m [] = refl
 unjudged-last m (row ∷ others) = unjudged-last m others
 
-unjudged-open : (m : Marks) (given : List Row) → list_any (unjudged false m) given ≡ list_any (is_open_row m) given
+pub unjudged-open : (m : Marks) (given : List Row) → list_any (unjudged false m) given ≡ list_any (is_open_row m) given
 unjudged-open m [] = refl
 unjudged-open m (row ∷ others) =
     ap (λ t. t || list_any (unjudged false m) others) (twice (have_open_end m row.fields)) ∙ ap (λ t. have_open_end m row.fields || t) (unjudged-open m others)

@@ -17,16 +17,15 @@ use Rattle.pl_scan.proofs.ItemLaws.{IsRecordAt-extent, items_behind-nil, items_b
 use Rattle.pl_scan.proofs.RecordLaws.{fields-text, have_open_end-closed}
 use Rattle.pl_cells.specs.BufferValue.{BufferValue}
 use Rattle.pl_rows.specs.declared.plan.RangePlan.{RangePlan}
-use Rattle.pl_rows.specs.declared.range.RangeEnd.{RangeEnd}
 use Rattle.pl_rows.specs.declared.range.RangeEnd.TheVariants as end
 use Rattle.pl_rows.specs.Cells.{RowRules}
 use Rattle.pl_rows.specs.Columns.{with_columns}
 use Rattle.pl_rows.specs.Plan.{Columns, CanRead, plan_columns, rules_of}
-use Rattle.pl_rows.specs.Ranges.{limited, rows_of, is_judged, judged_rows, has_unjudged, end_of, range_end, sound_rows, with_range}
+use Rattle.pl_rows.specs.Ranges.{limited, rows_of, is_judged, has_unjudged, end_of, sound_rows, rows_read}
 use Rattle.pl_rows.specs.Rows.{first_fault, first_faulty}
 use Rattle.pl_table.specs.Rows.{Row, row_at, row_of, rows}
 use Rattle.pl_rows.specs.Steps.{is_below, HasReadRow, cut_back}
-use Rattle.pl_rows.specs.Blocks.{left_below, rows_left, HasReadRows}
+use Rattle.pl_rows.specs.Blocks.{left_below, rows_left, HasReadRows, HasReadRange}
 use Rattle.pl_rows.proofs.ColumnLaws.{with_columns-none, with_columns-append}
 use Rattle.pl_rows.proofs.PlanLaws.{plan_columns-more}
 use Rattle.pl_rows.proofs.RowLaws.{rows-back}
@@ -103,7 +102,7 @@ left_below-past (Some limit) n xs past =
 pub filter-kept : {X : Type 0} (p : X → Bool) (x : X) (xs : List X) → p x ≡ true → filter p (x ∷ xs) ≡ x ∷ filter p xs
 filter-kept p x xs e = ap (λ t. cond t (x ∷ filter p xs) (filter p xs)) e
 
-filter-left_out : {X : Type 0} (p : X → Bool) (x : X) (xs : List X) → p x ≡ false → filter p (x ∷ xs) ≡ filter p xs
+pub filter-left_out : {X : Type 0} (p : X → Bool) (x : X) (xs : List X) → p x ≡ false → filter p (x ∷ xs) ≡ filter p xs
 filter-left_out p x xs e = ap (λ t. cond t (x ∷ filter p xs) (filter p xs)) e
 
 pub sound_rows-more : (rules : RowRules) (columns : Columns) (row : Row) (others : List Row) → first_fault rules columns row ≡ None
@@ -122,7 +121,7 @@ pub first_faulty-more : (rules : RowRules) (columns : Columns) (n : ℕ) (row : 
     → first_faulty rules columns n (row ∷ others) ≡ first_faulty rules columns (n + 1) others
 first_faulty-more rules columns n row others e = rw (e, first_faulty) refl
 
-first_faulty-here : (rules : RowRules) (columns : Columns) (n : ℕ) (row : Row) (others : List Row) (found : ℕ × FaultKind) → first_fault rules columns row ≡ Some found
+pub first_faulty-here : (rules : RowRules) (columns : Columns) (n : ℕ) (row : Row) (others : List Row) (found : ℕ × FaultKind) → first_fault rules columns row ≡ Some found
     → first_faulty rules columns n (row ∷ others) ≡ Some (n, found)
 first_faulty-here rules columns n row others found e = rw (e, first_faulty) refl
 
@@ -203,28 +202,24 @@ HasReadRows-comment plan range before now left rest n some starts read rest_is =
       few = omega (arith, read.few, ap length (rows-comment m (comment_of plan.dialect) left some starts ∙ sym (ap (rows m (comment_of plan.dialect)) rest_is)));
     }
 
--- what was read when nothing more is
-pub record HasReadRange (plan : RangePlan) (range : List ℕ) (before now : List BufferValue) (given : RangeEnd) : Type 0 where
-  pub end_is : given ≡ range_end plan (plan_columns plan before) range
-  pub added : now ≡ with_range plan range before
-
 -- where no judged row without a fault is left, all that is read was
 range_read : (plan : RangePlan) (range : List ℕ) (before now after : List BufferValue) (left : List ℕ) (n : ℕ) (first : Option (ℕ × (ℕ × FaultKind))) (unjudged : Bool)
     → HasReadRows plan range before now left n → after ≡ now
     → sound_rows (rules_of plan) (plan_columns plan before) (filter (is_judged plan) (rows_left plan n left)) ≡ []
     → first_faulty (rules_of plan) (plan_columns plan before) n (filter (is_judged plan) (rows_left plan n left)) ≡ first
     → list_any (λ row. not (is_judged plan row)) (rows_left plan n left) ≡ unjudged
-    → HasReadRange plan range before after (end_of first unjudged)
-range_read plan range before now after left n first unjudged read kept none is any = record {
-  end_is = sym (ap (λ f. end_of f (has_unjudged plan range)) (read.faulty ∙ is) ∙ ap (end_of first) (read.unjudged ∙ any));
-  added =
-      kept ∙ read.filled
-      ∙ ap (λ rs. with_columns (rules_of plan) rs plan.projection.places.now before) (sym (read.sound ∙ ap (λ rs. read.done ++ rs) none ∙ append-nil read.done));
-}
+    → HasReadRange plan range before after (end_of first unjudged) n
+range_read plan range before now after left n first unjudged read kept none is any =
+    let all : rows_read plan (plan_columns plan before) range ≡ read.done = read.sound ∙ ap (λ rs. read.done ++ rs) none ∙ append-nil read.done in
+    record {
+      end_is = sym (ap (λ f. end_of f (has_unjudged plan range)) (read.faulty ∙ is) ∙ ap (end_of first) (read.unjudged ∙ any));
+      added = kept ∙ read.filled ∙ ap (λ rs. with_columns (rules_of plan) rs plan.projection.places.now before) (sym all);
+      count = sym (ap length all ∙ read.count);
+    }
 
 -- no row is left
 pub HasReadRange-closed : (plan : RangePlan) (range : List ℕ) (before now : List BufferValue) (left : List ℕ) (n : ℕ) → HasReadRows plan range before now left n
-    → rows_left plan n left ≡ [] → HasReadRange plan range before now end.Closed
+    → rows_left plan n left ≡ [] → HasReadRange plan range before now end.Closed n
 HasReadRange-closed plan range before now left n read empty =
     let rules = rules_of plan in
     let columns = plan_columns plan before in
@@ -245,7 +240,7 @@ rows_left-past plan n left past = left_below-past plan.limit n (rows (marks_of p
 pub HasReadRange-fault : (plan : RangePlan) (range : List ℕ) (before now after : List BufferValue) (left : List ℕ) (n column : ℕ) (kind : FaultKind) → CanRead plan before → IsAtRow plan left n
     → HasReadRows plan range before now left n → is_judged plan (row_at (marks_of plan.dialect) left) ≡ true
     → first_fault (rules_of plan) (plan_columns plan now) (row_at (marks_of plan.dialect) left) ≡ Some (column, kind) → after ≡ now
-    → HasReadRange plan range before after (end.Fault n column kind)
+    → HasReadRange plan range before after (end.Fault n column kind) n
 HasReadRange-fault plan range before now after left n column kind can at read judged wrong kept =
     let m = marks_of plan.dialect in
     let rules = rules_of plan in
@@ -296,7 +291,7 @@ judged-behind plan left behind apart is some = by (is_judged plan (row_at (marks
 
 -- the row at the front is not judged
 pub HasReadRange-open : (plan : RangePlan) (range : List ℕ) (before now after : List BufferValue) (left : List ℕ) (n : ℕ) → CanRead plan before → IsAtRow plan left n
-    → HasReadRows plan range before now left n → is_judged plan (row_at (marks_of plan.dialect) left) ≡ false → after ≡ now → HasReadRange plan range before after end.Open
+    → HasReadRows plan range before now left n → is_judged plan (row_at (marks_of plan.dialect) left) ≡ false → after ≡ now → HasReadRange plan range before after end.Open n
 HasReadRange-open plan range before now after left n can at read passed kept =
     let m = marks_of plan.dialect in
     let rules = rules_of plan in

@@ -1,5 +1,5 @@
 -- Rows of a range, one after another or many at once (docs/architecture.md, "A block at a time").
-use Rattle.std.specs.Prelude.{◌≡◌, ℕ, ◌+◌, ◌-◌, ◌≤◌, Bool, true, false, not, nat_lt, if◌then◌else◌, List, [], ◌++◌, length, take, drop, Option, None, Some, filter}
+use Rattle.std.specs.Prelude.{◌≡◌, ℕ, ◌+◌, ◌-◌, ◌≤◌, true, not, nat_lt, if◌then◌else◌, List, [], ◌++◌, length, take, drop, Option, None, Some, filter}
 use Rattle.std.specs.List.{filter_map, list_any, AllByRecursion}
 use Rattle.pl_scan.specs.Dialect.{marks_of, comment_of}
 use Rattle.pl_cells.specs.BufferValue.{BufferValue, with_values}
@@ -8,7 +8,8 @@ use Rattle.pl_rows.specs.declared.blocks.BlockRead.{BlockRead}
 use Rattle.pl_rows.specs.declared.blocks.BlockRead.TheVariants as block_read
 use Rattle.pl_rows.specs.Columns.{column_cells, with_columns}
 use Rattle.pl_rows.specs.Plan.{plan_columns, rules_of}
-use Rattle.pl_rows.specs.Ranges.{is_judged, judged_rows, has_unjudged, sound_rows}
+use Rattle.pl_rows.specs.declared.range.RangeEnd.{RangeEnd}
+use Rattle.pl_rows.specs.Ranges.{is_judged, judged_rows, has_unjudged, sound_rows, rows_read, range_end, with_range}
 use Rattle.pl_rows.specs.Rows.{column_fault, first_fault, first_faulty}
 use Rattle.pl_table.specs.Rows.{Row, rows}
 
@@ -37,6 +38,12 @@ pub record HasReadRows (plan : RangePlan) (range : List ℕ) (before now : List 
       ≡ first_faulty (rules_of plan) (plan_columns plan before) n (filter (is_judged plan) (rows_left plan n left))
   pub unjudged : has_unjudged plan range ≡ list_any (λ row. not (is_judged plan row)) (rows_left plan n left)
   pub few : n + length (rows (marks_of plan.dialect) (comment_of plan.dialect) left) ≤ length range
+
+-- a range was read to an end, and the buffers gained so many rows
+pub record HasReadRange (plan : RangePlan) (range : List ℕ) (before now : List BufferValue) (given : RangeEnd) (n : ℕ) : Type 0 where
+  pub end_is : given ≡ range_end plan (plan_columns plan before) range
+  pub added : now ≡ with_range plan range before
+  pub count : n ≡ length (rows_read plan (plan_columns plan before) range)
 
 -- the buffer has the cells of a column of rows at its end, none of which has a fault
 pub record HasAddedColumn (plan : RangePlan) (column : ℕ) (given : List Row) (old new : BufferValue) : Type 0 where

@@ -7,3 +7,4 @@ pub mod Columns
 pub mod Steps
 pub mod Laws
 pub mod Blocks
+pub mod Pieces

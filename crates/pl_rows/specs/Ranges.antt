@@ -52,16 +52,18 @@ range_end plan columns range = end_of (first_faulty (rules_of plan) columns 0 (j
 abbrev pub sound_rows : RowRules → Columns → List Row → List Row
 sound_rows rules columns given = take_while (λ row. is_none (first_fault rules columns row)) given
 
--- each buffer with the cells of its column over the judged rows of a range before the first that has a fault
-abbrev pub with_range : RangePlan → List ℕ → List BufferValue → List BufferValue
-with_range plan range buffers =
-    with_columns (rules_of plan) (sound_rows (rules_of plan) (plan_columns plan buffers) (judged_rows plan range)) plan.projection.places.now buffers
+-- the rows of a range that columns gain: the judged ones before the first that has a fault
+abbrev pub rows_read : RangePlan → Columns → List ℕ → List Row
+rows_read plan columns range = sound_rows (rules_of plan) columns (judged_rows plan range)
 
--- columns of a schema over the judged rows of a range before the first that has a fault
+-- each buffer with the cells of its column over the rows of a range that are read
+abbrev pub with_range : RangePlan → List ℕ → List BufferValue → List BufferValue
+with_range plan range buffers = with_columns (rules_of plan) (rows_read plan (plan_columns plan buffers) range) plan.projection.places.now buffers
+
+-- columns of a schema over the rows of a range that are read
 abbrev pub range_frame : RangePlan → List Entry → List ℕ → List ColumnValue
 range_frame plan schema range =
-    frame_of_rows (rules_of plan) (entries_in schema plan.projection.places.now)
-    (sound_rows (rules_of plan) (columns_in schema plan.projection.places.now) (judged_rows plan range))
+    frame_of_rows (rules_of plan) (entries_in schema plan.projection.places.now) (rows_read plan (columns_in schema plan.projection.places.now) range)
 
 -- what was read of a range of columns of a schema
 pub record IsRangeRead (plan : RangePlan) (schema : List Entry) (range : List ℕ) (read : RangeColumns) : Type 0 where

@@ -6,6 +6,7 @@ pub mod columns;
 mod cut_back;
 mod field;
 pub mod laws;
+pub mod pieces;
 pub mod plan;
 pub mod range;
 #[cfg(test)]

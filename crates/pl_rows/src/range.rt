@@ -2,6 +2,7 @@
 ghost use Rattle.std.specs.Prelude.{◌≡◌, ◌+◌, drop, OnOk, IfOk, OnErr, not, ◌==◌};
 ghost use Rattle.std.specs.List.{prefix_len};
 ghost use Rattle.pl_rows.specs.Plan.{states, plan_columns, CanRead};
+ghost use Rattle.pl_rows.specs.Blocks.{HasReadRange};
 ghost use Rattle.pl_rows.specs.Ranges.{range_end, with_range};
 ghost use Rattle.pl_rows.specs.Steps.{is_below};
 
@@ -62,6 +63,59 @@ fn behind_comment(bytes: &[u8], eol_char: u8) -> &[u8]
     }
 }
 
+/// What reading a range gave: where it ended, and how many rows the buffers gained.
+#[derive(Clone, Copy)]
+pub(crate) struct RangeRead {
+    pub(crate) end: RangeEnd,
+    pub(crate) rows: usize,
+}
+
+/// Reads the records of a range into the buffers, as `read_range` does, and counts the rows that they gain.
+pub(crate) fn read_counted(
+    alloc: Global,
+    buffers: &mut [Buffer],
+    range: &[u8],
+    plan: &RangePlan<'_>,
+) -> Result<RangeRead, AllocError>
+    requires { CanRead plan.now (states buffers.old) }
+    ensures read { IfOk result (λ read. HasReadRange plan.now range.now (states buffers.old) (states buffers.new) read.end read.rows) }
+    ensures kept { OnErr result (states buffers.new ≡ states buffers.old) }
+{
+    let front = read_blocks(alloc, buffers, range, plan);
+    let mut rest = front.rest;
+    let mut row = front.row;
+    while !rest.is_empty() && is_below(plan.limit, row) {
+        if is_comment_line(rest, plan.dialect.comment_prefix) {
+            rest = behind_comment(rest, plan.dialect.eol_char);
+            continue;
+        }
+        match read_row(buffers, rest, plan) {
+            RowRead::Read(behind) => rest = behind_line_end(behind),
+            RowRead::Open => {
+                return Ok(RangeRead {
+                    end: RangeEnd::Open,
+                    rows: row,
+                });
+            }
+            RowRead::Fault { column, kind } => {
+                return Ok(RangeRead {
+                    end: RangeEnd::Fault { row, column, kind },
+                    rows: row,
+                });
+            }
+            RowRead::OutOfMemory => {
+                cut_back(buffers, buffers.len(), row);
+                return Err(AllocError);
+            }
+        }
+        row += 1;
+    }
+    Ok(RangeRead {
+        end: RangeEnd::Closed,
+        rows: row,
+    })
+}
+
 /// Reads the records of a range into the buffers, one for each projected column, a row each; comments give no row. Its first
 /// byte is where an item starts, and its last byte counts as the last of the input.
 ///
@@ -78,24 +132,8 @@ pub fn read_range(
     ensures added { OnOk result (states buffers.new ≡ with_range plan.now range.now (states buffers.old)) }
     ensures kept { OnErr result (states buffers.new ≡ states buffers.old) }
 {
-    let front = read_blocks(alloc, buffers, range, plan);
-    let mut rest = front.rest;
-    let mut row = front.row;
-    while !rest.is_empty() && is_below(plan.limit, row) {
-        if is_comment_line(rest, plan.dialect.comment_prefix) {
-            rest = behind_comment(rest, plan.dialect.eol_char);
-            continue;
-        }
-        match read_row(buffers, rest, plan) {
-            RowRead::Read(behind) => rest = behind_line_end(behind),
-            RowRead::Open => return Ok(RangeEnd::Open),
-            RowRead::Fault { column, kind } => return Ok(RangeEnd::Fault { row, column, kind }),
-            RowRead::OutOfMemory => {
-                cut_back(buffers, buffers.len(), row);
-                return Err(AllocError);
-            }
-        }
-        row += 1;
+    match read_counted(alloc, buffers, range, plan) {
+        Ok(read) => Ok(read.end),
+        Err(fault) => Err(fault),
     }
-    Ok(RangeEnd::Closed)
 }

@@ -1,6 +1,4 @@
-use Rattle.std.proofs.Common.{◌∙◌, ap, sym}
 use Rattle.pl_cells.specs.InitBuffers.{state_of}
-use Rattle.pl_cells.specs.BufferValue.{cut_to}
 use Rattle.pl_rows.proofs.BlockLaws.{HasAddedColumn-cells}
 use Rattle.pl_rows.proofs.blocks.add_column.Goals as goal
 

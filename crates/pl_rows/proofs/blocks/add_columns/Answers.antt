@@ -1,9 +1,8 @@
 use Rattle.std.proofs.Common.{◌≡◌, ◌<◌, ◌≤◌, ◌+◌, ◌∷◌, suc, set, get_or, length, take, drop, refl, sym, ◌∙◌, ap, subst, arith}
-use Rattle.std.proofs.lemmas.List.{get_or-map, map-set, length-map, length-take-le, drop_more}
+use Rattle.std.proofs.lemmas.List.{get_or-map, map-set, length-map, drop_more}
 use Rattle.std.proofs.Math.Seq.{map-set_same}
 use Rattle.pl_cells.specs.InitBuffers.{state_of}
 use Rattle.pl_table.specs.Rows.{table_rows}
-use Rattle.pl_rows.specs.Blocks.{HasAddedColumn}
 use Rattle.pl_rows.specs.Plan.{states, rules_of}
 use Rattle.pl_rows.specs.Steps.{cut_back}
 use Rattle.pl_rows.proofs.BlockLaws.{HaveReadColumns, HaveReadColumns-start, HaveReadColumns-more, HaveReadColumns-all, HaveReadColumns-back, length-table_rows, HaveTexts-below}

@@ -1,4 +1,4 @@
-use Rattle.std.proofs.Common.{take, sym, refl, ◌∙◌}
+use Rattle.std.proofs.Common.{take, refl}
 use Rattle.pl_table.specs.Rows.{table_rows}
 use Rattle.pl_rows.specs.Plan.{states}
 use Rattle.pl_rows.proofs.BlockLaws.{HaveAllRows-columns, narrow-rows}

@@ -1,4 +1,4 @@
-use Rattle.std.proofs.Common.{◌≤◌, sym, arith}
+use Rattle.std.proofs.Common.{sym, arith}
 use Rattle.pl_rows.specs.Plan.{states}
 use Rattle.pl_rows.proofs.BlockLaws.{no_comment, HasReadRows-front}
 use Rattle.pl_rows.proofs.PlanLaws.{CanRead-more}

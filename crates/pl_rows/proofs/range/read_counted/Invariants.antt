@@ -1,7 +1,7 @@
 use Rattle.std.proofs.Common.{length}
 use Rattle.pl_rows.specs.Plan.{states}
 use Rattle.pl_rows.specs.Blocks.{HasReadRows}
-use Rattle.pl_rows.proofs.range.read_range.Given as goal
+use Rattle.pl_rows.proofs.range.read_counted.Given as goal
 
 abbrev pub invariant-loop-rest : goal.invariant-loop-rest
 invariant-loop-rest l = HasReadRows l.plan l.range (states l.fn.buffers) (states l.buffers) l.rest l.row

@@ -1,0 +1,42 @@
+use Rattle.std.proofs.Common.{◌≡◌, ◌≤◌, true, false, length, sym, ◌∙◌, ap, subst, arith}
+use Rattle.std.proofs.lemmas.List.{length-map}
+use Rattle.pl_rows.specs.Blocks.{HaveAllRows}
+use Rattle.pl_rows.specs.Plan.{states}
+use Rattle.pl_rows.specs.Ranges.{rows_of}
+use Rattle.pl_rows.proofs.PieceLaws.{closed-whole, HasReadRange-back}
+use Rattle.pl_rows.proofs.pieces.read_piece.Goals as goal
+use Rattle.pl_rows.proofs.pieces.read_piece.Goals.{then-not-closed, else-not-closed}
+
+pub ends_item-closed-requires-clause-whole : goal.ends_item-closed-requires-clause-whole
+ends_item-closed-requires-clause-whole c = λ is.
+    (closed-whole c.args.plan.now c.args.piece.now (states c.args.buffers.now) (states c.read_counted.new.buffers) c.in-Ok.read.end c.in-Ok.read.rows c.in-Ok.ensures.read is).0
+
+pub returns-clause-done : goal.returns-clause-done
+returns-clause-done c =
+    let plan = c.args.plan.now in
+    let piece = c.args.piece.now in
+    let before = states c.args.buffers.now in
+    let mid = states c.read_counted.new.buffers in
+    let read = c.in-Ok.ensures.read in
+    elim c.if-not-closed.branch [
+      | then-not-closed w ↦
+          let unclosed : c.ends_item-closed.result ≡ false = w.if-not-closed.true in
+          let all : length mid ≤ length c.read_counted.new.buffers = simp length-map (omega arith) in
+          record {
+            ends = λ e. absurd (cc);
+            read = λ e. absurd (cc);
+            kept = λ _. ap states w.buffers-is ∙ w.cut_back.ensures ∙ HasReadRange-back plan piece before mid c.in-Ok.read.end c.in-Ok.read.rows (length c.read_counted.new.buffers) c.requires.can read all;
+          }
+      | else-not-closed w ↦
+          let shut : c.ends_item-closed.result ≡ true = w.if-not-closed.false in
+          let whole = closed-whole plan piece before mid c.in-Ok.read.end c.in-Ok.read.rows read (c.ends_item-closed.ensures.closed shut) in
+          record {
+            ends = λ _. c.ends_item-closed.ensures.ends shut;
+            read = λ _. record {
+              ends = c.ends_item-closed.ensures.ends shut;
+              read = subst (λ b. HaveAllRows plan (rows_of plan piece) before (states b)) (sym w.buffers-is) whole.1;
+              count = whole.0.count;
+            };
+            kept = λ e. absurd (cc);
+          }
+    ]

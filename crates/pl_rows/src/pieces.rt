@@ -1,0 +1,252 @@
+//! A range read piece by piece: pieces of guessed size, as far as each ends where an item does, and the rest as one range.
+ghost use Rattle.std.specs.Prelude.{◌≡◌, ◌*◌, ◌<◌, ◌≤◌, true, false, Some, None, IfOk, OnOk, OnErr, length, drop};
+ghost use Rattle.std.specs.List.{last_or};
+ghost use Rattle.pl_frame.specs.Dialect.{IsDialect, AreDistinct};
+ghost use Rattle.pl_scan.specs.Dialect.{marks_of, comment_of};
+ghost use Rattle.pl_rows.specs.declared.range.RangeEnd.TheVariants as end;
+ghost use Rattle.pl_rows.specs.Blocks.{HasReadRows};
+ghost use Rattle.pl_rows.specs.Pieces.{EndsItem, IsWhole, IsRowFit, plan_behind, end_behind, IsPieceRead};
+ghost use Rattle.pl_rows.specs.Plan.{states, plan_columns, CanRead};
+ghost use Rattle.pl_rows.specs.Ranges.{range_end, with_range};
+
+use crate::cut_back::cut_back;
+use crate::plan::RangePlan;
+use crate::range::{RangeEnd, RangeRead, is_below, read_counted, read_range};
+use pl_board::piece::{Done, Posted};
+use pl_board::state::BoardState;
+use pl_cells::buffer::Buffer;
+use pl_scan::closes::closes;
+use pl_scan::dialect::Dialect;
+use std::alloc::{AllocError, Global};
+
+/// What was read of a piece.
+#[derive(Drop)]
+pub(crate) struct PieceDone<'a> {
+    dialect: Dialect<'a>,
+    rows: usize,
+    closed: bool,
+    stops: bool,
+}
+
+impl<'a> Done for PieceDone<'a> {
+    ghost use Rattle.std.specs.Prelude.{◌≡◌, true};
+    ghost use Rattle.pl_board.specs.declared.event.Mark.{Mark};
+    ghost use Rattle.pl_rows.specs.Pieces.{EndsItem};
+
+    ghost holds_for = { λ done text. done.closed ≡ true → EndsItem done.dialect text };
+
+    ghost mark = { λ done. record { rows = done.rows; closed = done.closed; stops = done.stops } };
+
+    fn rows(&self) -> usize {
+        self.rows
+    }
+
+    fn closed(&self) -> bool {
+        self.closed
+    }
+
+    fn stops(&self) -> bool {
+        self.stops
+    }
+}
+
+// Whether the last byte of a text is this one.
+fn ends_with(bytes: &[u8], byte: u8) -> bool
+    ensures { result ≡ true → last_or (Some byte) bytes.now ≡ Some byte }
+{
+    match bytes {
+        [.., last] => *last == byte,
+        [] => false,
+    }
+}
+
+// Whether a piece ends where an item does, given what was read of it: behind a line end, and not within a quoted field. Only
+// where the limit was reached in the piece is the latter not known from what was read.
+fn ends_item(piece: &[u8], read: RangeRead, plan: &RangePlan<'_>) -> bool
+    requires apart { AreDistinct (marks_of plan.now.dialect) }
+    requires before { plan.now.last ≡ false }
+    requires whole { read.end ≡ end.Closed → IsWhole plan.now piece.now read.rows }
+    ensures ends { result ≡ true → EndsItem plan.now.dialect piece.now }
+    ensures closed { result ≡ true → read.end ≡ end.Closed }
+{
+    let dialect = plan.dialect;
+    match read.end {
+        RangeEnd::Closed if ends_with(piece, dialect.eol_char) => {}
+        _ => return false,
+    }
+    if is_below(plan.limit, read.rows) {
+        return true;
+    }
+    closes(
+        piece,
+        dialect.separator,
+        dialect.quote_char,
+        dialect.eol_char,
+        dialect.comment_prefix,
+    )
+}
+
+// Reads a piece into the buffers. Where it does not end where an item does, or a row of it has a fault, the buffers are as they
+// were.
+fn read_piece<'a>(
+    alloc: Global,
+    buffers: &mut [Buffer],
+    piece: &[u8],
+    plan: &RangePlan<'a>,
+) -> Result<PieceDone<'a>, AllocError>
+    requires can { CanRead plan.now (states buffers.old) }
+    requires before { plan.now.last ≡ false }
+    ensures done { IfOk result (λ done. IsPieceRead plan.now piece.now (states buffers.old) (states buffers.new) done) }
+    ensures kept { OnErr result (states buffers.new ≡ states buffers.old) }
+{
+    let read = match read_counted(alloc, buffers, piece, plan) {
+        Ok(read) => read,
+        Err(fault) => return Err(fault),
+    };
+    let closed = ends_item(piece, read, plan);
+    if !closed {
+        cut_back(buffers, buffers.len(), read.rows);
+    }
+    Ok(PieceDone {
+        dialect: plan.dialect,
+        rows: read.rows,
+        closed,
+        stops: matches!(read.end, RangeEnd::Fault { .. }),
+    })
+}
+
+// How what is left is read behind so many rows.
+fn plan_behind<'a>(plan: &RangePlan<'a>, rows: usize, last: bool) -> RangePlan<'a>
+    ensures { result ≡ plan_behind plan.now rows last }
+{
+    let limit = match plan.limit {
+        Some(limit) => Some(limit.saturating_sub(rows)),
+        None => None,
+    };
+    RangePlan {
+        dialect: plan.dialect,
+        projection: plan.projection,
+        options: plan.options,
+        limit,
+        last,
+    }
+}
+
+// How far a range was read in pieces: so many rows, up to a place, of so many bytes that were handed out.
+#[derive(Clone, Copy)]
+struct Front {
+    rows: usize,
+    end: usize,
+    bytes: usize,
+}
+
+// Reads a range into the buffers in pieces that a board hands out, as long as each ends where an item does, and leaves the last
+// of them. Where memory is wanting, no further piece is read.
+fn read_front(
+    alloc: Global,
+    buffers: &mut [Buffer],
+    range: &[u8],
+    plan: &RangePlan<'_>,
+    piece_size: usize,
+) -> Front
+    requires can { CanRead plan.now (states buffers.old) }
+    requires dialect { IsDialect (marks_of plan.now.dialect) (comment_of plan.now.dialect) }
+    requires size { 0 < piece_size }
+    ensures read { HasReadRows plan.now range.now (states buffers.old) (states buffers.new) (drop result.end range.now) result.rows }
+    ensures end { result.end ≤ length range.now }
+    ensures bytes { result.bytes ≤ length range.now }
+{
+    let dialect = plan.dialect;
+    let mut board = BoardState::new(
+        alloc,
+        range,
+        piece_size,
+        dialect.quote_char,
+        dialect.eol_char,
+        plan.limit,
+    );
+    let mut front = Front {
+        rows: 0,
+        end: 0,
+        bytes: 0,
+    };
+    for _ in 0..usize::MAX {
+        let Ok(Some(piece)) = board.take() else {
+            break;
+        };
+        let end = piece.to();
+        if end == range.len() {
+            break;
+        }
+        front.bytes = end;
+        let plan = plan_behind(plan, front.rows, false);
+        let Ok(done) = read_piece(alloc, buffers, piece.bytes(), &plan) else {
+            break;
+        };
+        let rows = done.rows;
+        let closed = done.closed;
+        board.post(Posted::new(piece, done));
+        if !closed {
+            break;
+        }
+        front.rows += rows;
+        front.end = end;
+    }
+    front
+}
+
+/// Where the reading of a range in pieces ended, and how many bytes were read for it: pieces and, behind them, one range.
+#[derive(Clone, Copy, Debug, PartialEq, Eq)]
+pub struct PiecesRead {
+    pub end: RangeEnd,
+    pub bytes: usize,
+}
+
+// Where a range ended whose rows stand behind so many others.
+fn end_behind(rows: usize, end: RangeEnd) -> RangeEnd
+    requires { IsRowFit rows end }
+    ensures { result ≡ end_behind rows end }
+{
+    match end {
+        RangeEnd::Fault { row, column, kind } => RangeEnd::Fault {
+            row: rows + row,
+            column,
+            kind,
+        },
+        RangeEnd::Closed => RangeEnd::Closed,
+        RangeEnd::Open => RangeEnd::Open,
+    }
+}
+
+/// Reads the records of a range into the buffers, as `read_range` does, but piece by piece: each piece is of about so many bytes
+/// and ends by a guess, and where a guess was wrong, all from that piece's start on is read as one range. So no byte is read
+/// more than twice, whatever the size (docs/pieces.md). Refuses only want of memory; the buffers are then as they were.
+pub fn read_pieces(
+    alloc: Global,
+    buffers: &mut [Buffer],
+    range: &[u8],
+    plan: &RangePlan<'_>,
+    piece_size: usize,
+) -> Result<PiecesRead, AllocError>
+    requires can { CanRead plan.now (states buffers.old) }
+    requires dialect { IsDialect (marks_of plan.now.dialect) (comment_of plan.now.dialect) }
+    requires size { 0 < piece_size }
+    ensures end { IfOk result (λ read. read.end ≡ range_end plan.now (plan_columns plan.now (states buffers.old)) range.now) }
+    ensures added { OnOk result (states buffers.new ≡ with_range plan.now range.now (states buffers.old)) }
+    ensures twice { IfOk result (λ read. read.bytes ≤ 2 * length range.now) }
+    ensures kept { OnErr result (states buffers.new ≡ states buffers.old) }
+{
+    let front = read_front(alloc, buffers, range, plan, piece_size);
+    let rest = &range[front.end..];
+    let last = plan_behind(plan, front.rows, plan.last);
+    match read_range(alloc, buffers, rest, &last) {
+        Ok(end) => Ok(PiecesRead {
+            end: end_behind(front.rows, end),
+            bytes: front.bytes.saturating_add(rest.len()),
+        }),
+        Err(fault) => {
+            cut_back(buffers, buffers.len(), front.rows);
+            Err(fault)
+        }
+    }
+}

@@ -9,3 +9,4 @@ pub mod Lines
 pub mod LineEnds
 pub mod RowCount
 pub mod RowStates
+pub mod Laws

@@ -10,3 +10,4 @@ pub mod IndexLaws
 pub mod TableLaws
 pub mod FillLaws
 pub mod TableRowLaws
+pub mod PieceLaws

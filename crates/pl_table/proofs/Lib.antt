@@ -1,5 +1,3 @@
-pub mod BitLaws
-pub mod PrefixLaws
 pub mod WordLaws
 pub mod FlagLaws
 pub mod EntryLaws

@@ -1,11 +1,9 @@
 -- What a limited read depends on.
 use Rattle.std.proofs.Common.{◌≡◌, ℕ, zero, suc, ◌<◌, Bool, true, false, ◌&&◌, ◌==◌, List, [], ◌∷◌, ◌++◌, length, take, drop, refl, sym, ◌∙◌, ap, subst, arith, nat_lt, length-append}
 use Rattle.std.specs.Prelude.{◌≢◌, ◌↔◌, Option, None, Some, IsSome, unwrap_or, is_none}
-use Rattle.std.specs.List.{filter_map}
 use Rattle.std.specs.Option.{option_map, option_and_then}
 use Rattle.std.proofs.lemmas.Bool.Decides.{nat_tests}
 use Rattle.std.proofs.lemmas.List.{take-append-le}
-use Rattle.std.proofs.lemmas.List.Elements.{filter_map-append}
 use Rattle.pl_frame.specs.declared.error.ComputeFault.TheVariants as compute_fault
 use Rattle.pl_frame.specs.declared.error.NoDataFault.TheVariants as no_data
 use Rattle.pl_frame.specs.declared.error.OpFault.TheVariants as op_fault
@@ -16,16 +14,15 @@ use Rattle.pl_frame.specs.Dialect.{Marks, IsDialect}
 use Rattle.pl_frame.specs.Frame.{ColumnValue}
 use Rattle.pl_frame.specs.Schema.{Entry}
 use Rattle.pl_infer.specs.declared.read_options.CsvReadOptions.{CsvReadOptions}
-use Rattle.pl_scan.specs.Closing.{ends_open}
-use Rattle.pl_scan.specs.Fields.{fields}
-use Rattle.pl_scan.specs.Items.{ItemText, CommentText, RecordText, items_behind}
-use Rattle.pl_scan.proofs.AppendLaws.{IsEnded, ended-front, with_behind, HaveBehind, items_behind-append, HaveBehind-closed}
+use Rattle.pl_scan.specs.Laws.{IsEnded}
+use Rattle.pl_scan.proofs.AppendLaws.{ended-front}
 use Rattle.pl_scan.proofs.AppendStartLaws.{HaveEnds, data_left-append, ended-data}
 use Rattle.pl_scan.proofs.StartLaws.{IsEndOf-data_left}
 use Rattle.pl_rows.specs.Columns.{entries_in, frame_of_rows}
 use Rattle.pl_rows.specs.Ranges.{limited}
 use Rattle.pl_rows.specs.Rows.{first_faulty}
-use Rattle.pl_table.specs.Rows.{Row, row_of, rows}
+use Rattle.pl_table.specs.Rows.{Row, rows}
+use Rattle.pl_table.proofs.PieceLaws.{rows-append}
 use Rattle.pl_read.specs.Laws.{HoldsLines, behind_line, Decides, LimitedReadDependsOnPrefix}
 use Rattle.pl_infer.specs.Causes.{Tells, IsFirstCause, when, first_some}
 use Rattle.pl_infer.specs.Text.{marks_of, comment_of, skips_of}
@@ -36,27 +33,6 @@ use Rattle.pl_read.specs.Reading.{IsRead, frame_of}
 use Rattle.pl_schema.specs.Inference.{inference_of, empty, repeated}
 use Rattle.pl_read.specs.Refusals.{unless_given, late_causes, overrides, unknown, out_of_bounds, duplicate, nothing_read, faulty_record, index_past, early_causes, read_causes}
 use Rattle.pl_read.specs.Rows.{columns_read, rows_in, data_columns, with_index, data_frame}
-
--- ---- rows
-
-rows-behind : (m : Marks) (rest : List ℕ) (parts : List (ItemText × List ℕ)) → HaveBehind parts → filter_map (row_of m) (with_behind rest parts) ≡ filter_map (row_of m) parts
-rows-behind m rest [] have = refl
-rows-behind m rest ((CommentText text, behind) ∷ parts) have = rows-behind m rest parts have.1
-rows-behind m rest ((RecordText text, behind) ∷ parts) have =
-    let some : 0 < length behind = have.0 in
-    let now : (length behind == 0) ≡ false = grind (arith, nat_tests) in
-    let more : 0 < length (behind ++ rest) = omega (arith, length-append behind rest) in
-    let long : (length (behind ++ rest) == 0) ≡ false = grind (arith, nat_tests) in
-    ap (λ (t : Bool). record { fields = fields m text; is_end = t } ∷ filter_map (row_of m) (with_behind rest parts)) (long ∙ sym now)
-    ∙ ap (λ (others : List Row). record { fields = fields m text; is_end = length behind == 0 } ∷ others) (rows-behind m rest parts have.1)
-
--- Where a text ends with a line end and not within a quoted field, the rows of it with more behind it are its own and those of
--- what was put behind.
-pub rows-append : (m : Marks) (comment : Option (List ℕ)) (b rest : List ℕ) → IsDialect m comment → IsEnded m.line_end b → ends_open m comment b ≡ false → rows m comment (b ++ rest) ≡ rows m comment b ++ rows m comment rest
-rows-append m comment b rest dialect ended closed =
-    ap (filter_map (row_of m)) (items_behind-append m comment b rest dialect.distinct dialect.prefix ended closed)
-    ∙ filter_map-append (row_of m) (with_behind rest (items_behind m comment b)) (items_behind m comment rest)
-    ∙ ap (λ l. l ++ rows m comment rest) (rows-behind m rest (items_behind m comment b) (HaveBehind-closed m comment b dialect.distinct dialect.prefix ended closed))
 
 -- ---- a text that decides
 
@@ -93,7 +69,7 @@ rows-decided o n b rest is dialect decides =
     let comment : Option (List ℕ) = comment_of o.parse_options in
     let own : List Row = rows m comment decides.records in
     ap (λ limit. limited limit (rows m comment (decides.records ++ rest))) is
-    ∙ ap (take n) (rows-append m comment decides.records rest dialect (ended-records o n b decides) decides.closed)
+    ∙ ap (take n) (rows-append m comment decides.records rest dialect.distinct dialect.prefix (ended-records o n b decides) decides.closed)
     ∙ take-append-le n own (rows m comment rest) decides.enough
     ∙ sym (ap (λ limit. limited limit own) is)
 

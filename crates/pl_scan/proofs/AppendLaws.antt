@@ -1,16 +1,18 @@
 -- A text with more behind it: its fields, records and items that end before its end are those of the longer text.
 use Rattle.std.proofs.Common.{◌≡◌, ◌≢◌, ℕ, zero, suc, ◌+◌, ◌-◌, ◌%◌, ◌<◌, Bool, true, false, cond, not, ◌&&◌, ◌==◌, List, [], ◌∷◌, ◌++◌, map, length, take, drop, refl, sym, ◌∙◌, ap, subst, zero-add, append_assoc, append-nil, arith, inl, inr, length-append, length-drop, nat_eq}
 use Rattle.std.specs.Prelude.{Option, None, Some, take_while, sum_by}
-use Rattle.std.specs.List.{prefix_len, starts_with, list_all, last_or, AllByRecursion}
+use Rattle.std.specs.List.{prefix_len, starts_with, list_all, last_or, AllByRecursion, filter_map}
 use Rattle.std.proofs.lemmas.Bool.{cases_lt}
 use Rattle.std.proofs.lemmas.Bool.Decides.{nat_tests}
-use Rattle.std.proofs.lemmas.List.{drop_all, length-take-le, take-append-le, drop-append-le}
+use Rattle.std.proofs.lemmas.List.{drop_all, length-take-le, take-append-le, drop-append-le, map-append}
+use Rattle.std.proofs.lemmas.List.Elements.{filter_map-append}
 use Rattle.std.proofs.lemmas.List.Folds.{length-prefix_len}
 use Rattle.pl_frame.specs.Dialect.{Marks, AreDistinct, IsCommentPrefix}
 use Rattle.pl_scan.specs.Closing.{is_open, have_open_end, is_open_item, ends_open}
 use Rattle.pl_scan.specs.Comment.{is_comment}
 use Rattle.pl_scan.specs.Fields.{is_quote, quotes, is_plain, begins_quoted, cut_field, field, behind, fields, extent}
-use Rattle.pl_scan.specs.Items.{ItemText, CommentText, RecordText, text_of, item, items, items_behind}
+use Rattle.pl_scan.specs.Items.{ItemText, CommentText, RecordText, text_of, item, items, items_behind, record_text}
+use Rattle.pl_scan.specs.Laws.{IsEnded, ClosingPieceEndsAtItemEnd, ClosingPieceEndsAtRecordEnd}
 use Rattle.pl_scan.proofs.Walk.{mark, is_even, is_end, Runs, count-cons, quotes-cons}
 use Rattle.pl_scan.proofs.FieldLaws.{mode, IsWalk-cut_field, behind-some, behind-shorter, fields_last, fields_more, both_left, both_right, is_quote-stop, begins_quoted-field}
 use Rattle.pl_scan.proofs.ItemLaws.{fields-some, extent_last, extent_more, IsRecordAt-extent, items-nil, items-step, items_behind-nil, items_behind-step}
@@ -18,9 +20,10 @@ use Rattle.pl_scan.proofs.RecordLaws.{cut_field-before, fields-text}
 
 -- ---- texts whose last byte is a line end
 
--- the text is empty, or this is its last byte
-abbrev pub IsEnded : ℕ → List ℕ → Type 0
-IsEnded e b = last_or (Some e) b ≡ Some e
+-- a list with a last byte, whatever is taken for that of the empty list
+pub IsEnded-last : (e : ℕ) (b : List ℕ) → last_or None b ≡ Some e → IsEnded e b
+IsEnded-last e [] last = refl
+IsEnded-last e (x ∷ xs) last = last
 
 ended-tail : (e x : ℕ) (xs : List ℕ) → IsEnded e (x ∷ xs) → IsEnded e xs
 ended-tail e x [] ended = refl
@@ -318,3 +321,22 @@ items_behind-append m comment b rest distinct free ended closed = (followed_with
 pub HaveBehind-closed : (m : Marks) (comment : Option (List ℕ)) (b : List ℕ) → AreDistinct m → IsCommentPrefix m.line_end comment → IsEnded m.line_end b → ends_open m comment b ≡ false
     → HaveBehind (items_behind m comment b)
 HaveBehind-closed m comment b distinct free ended closed = (followed_within m comment [] distinct free (length b + 1) b None (omega arith) ended closed).1
+
+-- ---- the items alone
+
+items-with_behind : (rest : List ℕ) (parts : List (ItemText × List ℕ)) → map (λ part. part.0) (with_behind rest parts) ≡ map (λ part. part.0) parts
+items-with_behind rest [] = refl
+items-with_behind rest (part ∷ parts) = ap (λ l. part.0 ∷ l) (items-with_behind rest parts)
+
+-- such a text is whole items
+pub closing_items : ClosingPieceEndsAtItemEnd
+closing_items m comment piece rest distinct free ended closed =
+    ap (map (λ part. part.0)) (items_behind-append m comment piece rest distinct free ended closed)
+    ∙ map-append (λ part. part.0) (with_behind rest (items_behind m comment piece)) (items_behind m comment rest)
+    ∙ ap (λ l. l ++ items m comment rest) (items-with_behind rest (items_behind m comment piece))
+
+-- and whole records
+pub closing_records : ClosingPieceEndsAtRecordEnd
+closing_records m comment piece rest distinct free ended closed =
+    ap (filter_map record_text) (closing_items m comment piece rest distinct free ended closed)
+    ∙ filter_map-append record_text (items m comment piece) (items m comment rest)

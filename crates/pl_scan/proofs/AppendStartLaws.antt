@@ -8,8 +8,9 @@ use Rattle.pl_frame.specs.Dialect.{Marks, IsCommentPrefix, IsDialect}
 use Rattle.pl_frame.specs.Text.{byte_order_mark}
 use Rattle.pl_scan.specs.Comment.{is_comment}
 use Rattle.pl_scan.specs.Items.{ItemText, text_of, item}
+use Rattle.pl_scan.specs.Laws.{IsEnded}
 use Rattle.pl_scan.specs.Start.{Skips, skip_lines, unless_empty, skip_line, cut_mark, cut_ends, cut_head, behind_item, pass_items, pass_comments, pass_header, data_left}
-use Rattle.pl_scan.proofs.AppendLaws.{IsEnded, ended-drop, starts-append, is_comment-append, prefix_len-front, item-append}
+use Rattle.pl_scan.proofs.AppendLaws.{ended-drop, starts-append, is_comment-append, prefix_len-front, item-append}
 use Rattle.pl_scan.proofs.StartLaws.{pass_comments-turn, pass_comments-end, data_left-none, data_left-some, IsEndOf}
 
 -- what a step leaves of a text and of the text with more behind it

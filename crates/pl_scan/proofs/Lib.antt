@@ -10,3 +10,7 @@ pub mod RowStateLaws
 pub mod CommentEqualLaws
 pub mod AppendLaws
 pub mod AppendStartLaws
+pub mod BitLaws
+pub mod PrefixLaws
+pub mod SetBitLaws
+pub mod EvenCountLaws

@@ -7,5 +7,8 @@ pub mod Closing
 pub mod Start
 pub mod Lines
 pub mod LineEnds
+pub mod EvenCounts
+pub mod Bits
 pub mod RowCount
 pub mod RowStates
+pub mod Laws

@@ -8,8 +8,9 @@ ghost use Rattle.pl_scan.specs.Fields.{is_quote, begins_quoted, cut_quoted, cut_
 use memchr::memchr2;
 use std::marker::Model;
 
-// Whether the byte is the quote.
-pub(crate) fn is_the_quote(quote_char: Option<u8>, byte: u8) -> bool
+/// Whether the byte is the quote.
+#[inline(always)]
+pub fn is_the_quote(quote_char: Option<u8>, byte: u8) -> bool
     ensures { result ≡ is_quote quote_char byte }
 {
     match quote_char {

@@ -9,6 +9,7 @@ pub mod items;
 pub mod laws;
 pub mod line_ends;
 pub mod lines;
+pub mod masks;
 pub mod row_counter;
 pub mod rows;
 pub mod start;

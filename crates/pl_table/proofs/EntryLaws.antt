@@ -6,23 +6,12 @@ use lib.Count.{count_trailing_zeros, under, ones, ones_step}
 use Rattle.pl_frame.specs.Dialect.{Marks}
 use Rattle.pl_table.specs.declared.block.Spot.{Spot}
 use Rattle.pl_table.specs.Ends.{ends_field, next_spot, spot_behind, end_flags, line_flags}
-use Rattle.pl_table.specs.Entries.{End, end_at, entries, place_behind, row_ends, set_bits, counts}
-use Rattle.pl_table.proofs.BitLaws.{bit_cases}
+use Rattle.pl_scan.specs.Bits.{set_bits}
+use Rattle.pl_table.specs.Entries.{End, end_at, entries, place_behind, row_ends, counts}
+use Rattle.pl_scan.proofs.BitLaws.{bit_cases}
+use Rattle.pl_scan.proofs.SetBitLaws.{set_bits-zero}
 
 -- ---- places
-
-pub set_bits-zero : (n k : ℕ) → set_bits n k 0 ≡ []
-unfolding set_bits
-set_bits-zero zero k = refl
-set_bits-zero (suc n) k = set_bits-zero n (k + 1)
-
-pub length-set_bits : (n k x : ℕ) → x < 2 ^ n → length (set_bits n k x) ≡ ones x
-unfolding set_bits ones
-length-set_bits zero k x h = let e : 0 ≡ x = omega arith in ap ones e
-length-set_bits (suc n) k x h =
-    let rest = set_bits n (k + 1) (x / 2) in
-    bit_cases (λ r. length (cond (r == 1) (k ∷ rest) rest) ≡ r + length rest) (omega arith) (omega arith) (x % 2) (mod-lt x (zero-lt-suc 1))
-    ∙ ap (λ l. x % 2 + l) (length-set_bits n (k + 1) (x / 2) (omega (arith, pow-suc 2 n))) ∙ sym (ones_step x)
 
 abbrev place_turn : ℕ → ℕ → ℕ → ℕ → List ℕ
 place_turn n k r t = cond (r == 1) (k ∷ set_bits n (k + 1) t) (set_bits n (k + 1) t)

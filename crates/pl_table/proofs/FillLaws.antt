@@ -5,7 +5,8 @@ use Rattle.std.proofs.lemmas.List.{take_at, length-take-le, map-append, length-m
 use Rattle.pl_frame.specs.Dialect.{Marks}
 use Rattle.pl_table.specs.declared.block.Spot.{Spot}
 use Rattle.pl_table.specs.Ends.{spot_behind, end_flags, line_flags}
-use Rattle.pl_table.specs.Entries.{End, entries, place_behind, row_ends, set_bits, counts}
+use Rattle.pl_scan.specs.Bits.{set_bits}
+use Rattle.pl_table.specs.Entries.{End, entries, place_behind, row_ends, counts}
 use Rattle.pl_table.proofs.EntryLaws.{set_bits-are, counts-are, entries-append, row_ends-append}
 
 -- what a vector holds once a slice of all of it was written

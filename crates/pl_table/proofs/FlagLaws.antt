@@ -16,9 +16,9 @@ use Rattle.pl_scan.specs.Fields.{is_quote}
 use Rattle.pl_scan.proofs.FieldLaws.{is_quote-stop}
 use Rattle.pl_table.specs.declared.block.Spot.{Spot}
 use Rattle.pl_table.specs.declared.block.Spot.TheVariants.{Begin, Plain, Odd, Even}
-use Rattle.pl_table.specs.Bits.{test, xor, parity}
-use Rattle.pl_table.specs.Ends.{is_begin, is_odd, is_even, is_stop, ends_field, spot_of, next_spot, spot_behind, end_flags, line_flags, spot_from, odd_at, begin_at, even_at, is_strange}
-use Rattle.pl_table.proofs.BitLaws.{bit_cases, bit_lt, test-mask_l}
+use Rattle.pl_scan.specs.Bits.{test, xor, parity, odd_at}
+use Rattle.pl_table.specs.Ends.{is_begin, is_odd, is_even, is_stop, ends_field, spot_of, next_spot, spot_behind, end_flags, line_flags, spot_from, begin_at, even_at, is_strange}
+use Rattle.pl_scan.proofs.BitLaws.{bit_cases, bit_lt, test-mask_l}
 
 -- ---- lists of flags
 

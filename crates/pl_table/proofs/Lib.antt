@@ -1,5 +1,3 @@
-pub mod BitLaws
-pub mod PrefixLaws
 pub mod WordLaws
 pub mod FlagLaws
 pub mod EntryLaws
@@ -10,3 +8,4 @@ pub mod IndexLaws
 pub mod TableLaws
 pub mod FillLaws
 pub mod TableRowLaws
+pub mod PieceLaws

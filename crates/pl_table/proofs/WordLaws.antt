@@ -2,12 +2,12 @@
 use Rattle.std.proofs.Common.{◌≡◌, ℕ, zero, suc, ◌+◌, ◌*◌, ◌/◌, ◌^◌, ◌<◌, Bool, true, false, not, ◌&&◌, ◌||◌, ◌==◌, refl, ap, ap₂, ◌∙◌, arith, add-one, mod-lt, pow_pos, w64}
 use lib.Count.{count_trailing_zeros}
 use Rattle.std.specs.Prelude.{nat_eq}
-use Rattle.std.proofs.lemmas.Nat.Bits.{bit_at-zero, bit_at-trailing_zeros}
+use Rattle.std.proofs.lemmas.Nat.Bits.{bit_at-trailing_zeros}
 use lib.Bits.{bit_and, bit_or, bit_xor, and_le_l, or_lt, xor_lt}
 use mir.Val.{bool_byte}
-use Rattle.pl_table.specs.Bits.{test, xor, parity}
-use Rattle.pl_table.specs.Ends.{odd_at, begin_at, even_at, is_strange}
-use Rattle.pl_table.proofs.BitLaws.{test-and, test-or, test-xor, flip, test-flip, shl, test-shl_one, test-shl_low, byte_lt, test-byte_zero, test-byte_suc, spread, test-spread, top_bit}
+use Rattle.pl_scan.specs.Bits.{test, xor, parity, odd_at}
+use Rattle.pl_table.specs.Ends.{begin_at, even_at, is_strange}
+use Rattle.pl_scan.proofs.BitLaws.{test-and, test-or, test-xor, flip, test-flip, shl, test-shl_one, test-shl_low, byte_lt, test-byte_zero, test-byte_suc, top_bit}
 
 cancel : (p q c : Bool) → xor (xor (xor p q) c) q ≡ xor p c
 cancel true true true = refl
@@ -23,14 +23,7 @@ or-false : (b : Bool) → (b || false) ≡ b
 or-false true = refl
 or-false false = refl
 
-pub test-none : (i : ℕ) → test 0 i ≡ false
-unfolding test
-test-none i = ap (λ n. n == 1) (bit_at-zero i)
-
-module _ (S Q P : ℕ) (o b e : Bool) (s_lt : S < 2 ^ 64) (q_lt : Q < 2 ^ 64) (p_lt : P < 2 ^ 64) (hp : (i : ℕ) → i < 64 → test P i ≡ parity Q (i + 1)) where
-  abbrev pub through : ℕ
-  through = bit_xor P (spread o)
-
+module _ (S Q through : ℕ) (o b e : Bool) (s_lt : S < 2 ^ 64) (q_lt : Q < 2 ^ 64) (through_lt : through < 2 ^ 64) (told : (i : ℕ) → i < 64 → test through i ≡ odd_at Q o (i + 1)) where
   abbrev pub inside : ℕ
   inside = bit_xor through Q
 
@@ -49,9 +42,6 @@ module _ (S Q P : ℕ) (o b e : Bool) (s_lt : S < 2 ^ 64) (q_lt : Q < 2 ^ 64) (p
   abbrev pub strange : ℕ
   strange = bit_or (bit_and (bit_and Q (flip inside)) (flip (bit_or begins evens))) (bit_and evens (flip (bit_or S Q)))
 
-  through_lt : through < 2 ^ 64
-  through_lt = xor_lt 64 P (spread o) p_lt (mod-lt _ (pow_pos 64))
-
   inside_lt : inside < 2 ^ 64
   inside_lt = xor_lt 64 through Q through_lt q_lt
 
@@ -59,7 +49,7 @@ module _ (S Q P : ℕ) (o b e : Bool) (s_lt : S < 2 ^ 64) (q_lt : Q < 2 ^ 64) (p
   shifted_lt x c = or_lt 64 (shl 1 x) (bool_byte c) (mod-lt (x * 2) (pow_pos 64)) (byte_lt c)
 
   pub has-through : (i : ℕ) → i < 64 → test through i ≡ odd_at Q o (suc i)
-  has-through i h = test-xor P (spread o) i ∙ ap₂ xor (hp i h ∙ ap (parity Q) (add-one i)) (test-spread o i h)
+  has-through i h = told i h ∙ ap (odd_at Q o) (add-one i)
 
   pub has-inside : (i : ℕ) → i < 64 → test inside i ≡ odd_at Q o i
   unfolding parity

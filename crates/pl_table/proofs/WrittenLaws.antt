@@ -4,8 +4,10 @@ use Rattle.std.proofs.lemmas.List.{take_more_set, append_assoc, append-nil, take
 use Rattle.std.proofs.lemmas.Bool.{cases_lt}
 use lib.Bits.{bit_and}
 use lib.Count.{count_trailing_zeros}
-use Rattle.pl_table.specs.Entries.{set_bits, counts, Written}
-use Rattle.pl_table.proofs.EntryLaws.{set_bits-zero, set_bits-lowest, counts-zero}
+use Rattle.pl_scan.specs.Bits.{set_bits}
+use Rattle.pl_table.specs.Entries.{counts, Written}
+use Rattle.pl_scan.proofs.SetBitLaws.{set_bits-zero}
+use Rattle.pl_table.proofs.EntryLaws.{set_bits-lowest, counts-zero}
 
 -- without the lowest bit, as the code takes it out
 abbrev pub cleared : ℕ → ℕ

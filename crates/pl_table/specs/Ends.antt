@@ -4,7 +4,7 @@ use Rattle.pl_frame.specs.Dialect.{Marks}
 use Rattle.pl_scan.specs.Fields.{is_quote}
 use Rattle.pl_table.specs.declared.block.Spot.{Spot}
 use Rattle.pl_table.specs.declared.block.Spot.TheVariants.{Begin, Plain, Odd, Even}
-use Rattle.pl_table.specs.Bits.{xor, test, parity}
+use Rattle.pl_scan.specs.Bits.{test, odd_at}
 
 abbrev pub is_begin : Spot → Bool
 is_begin Begin = true
@@ -61,10 +61,6 @@ abbrev pub spot_from : Bool → Bool → Bool → Spot
 spot_from odd begin even = if odd then Odd else (if begin then Begin else (if even then Even else Plain))
 
 -- ---- the same by words, which have a bit for each byte
-
--- an odd number of quotes stands before a place, where one before the word counts
-abbrev pub odd_at : ℕ → Bool → ℕ → Bool
-odd_at quotes odd i = xor (parity quotes i) odd
 
 -- a field begins at a place
 abbrev pub begin_at : ℕ → ℕ → Bool → Bool → ℕ → Bool

@@ -26,11 +26,6 @@ abbrev pub row_ends : ℕ → List End → List ℕ
 row_ends n [] = []
 row_ends n (e ∷ es) = if e.last then (n + 1) ∷ row_ends (n + 1) es else row_ends (n + 1) es
 
--- k + i for each bit i that is set, of the lowest n
-unfoldable pub set_bits : ℕ → ℕ → ℕ → List ℕ
-set_bits zero k bits = []
-set_bits (suc n) k bits = if bits % 2 == 1 then k ∷ set_bits n (k + 1) (bits / 2) else set_bits n (k + 1) (bits / 2)
-
 -- for each bit that is set, of the lowest n, the number of ends up to it, where c came before
 unfoldable pub counts : ℕ → ℕ → ℕ → ℕ → List ℕ
 counts zero c ends bits = []

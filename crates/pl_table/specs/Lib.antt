@@ -1,4 +1,3 @@
-pub mod Bits
 pub mod Ends
 pub mod Entries
 pub mod Tables

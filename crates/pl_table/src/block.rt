@@ -4,11 +4,12 @@ ghost use Rattle.std.specs.Simd.Lanes.{mask_l};
 ghost use Rattle.pl_frame.specs.Dialect.{AreDistinct};
 ghost use Rattle.pl_scan.specs.Dialect.{marks_of};
 ghost use Rattle.pl_scan.specs.Fields.{is_quote};
-ghost use Rattle.pl_table.specs.Bits.{test};
-ghost use Rattle.pl_table.specs.Ends.{is_stop, is_begin, is_odd, is_even, ends_field, next_spot, spot_behind, end_flags, line_flags, spot_from, odd_at, begin_at, even_at, is_strange};
+ghost use Rattle.pl_scan.specs.Bits.{test, odd_at};
+ghost use Rattle.pl_table.specs.Ends.{is_stop, is_begin, is_odd, is_even, ends_field, next_spot, spot_behind, end_flags, line_flags, spot_from, begin_at, even_at, is_strange};
 
-use crate::masks::{equal_to, prefix_xor};
 use pl_scan::dialect::Dialect;
+use pl_scan::fields::is_the_quote;
+use pl_scan::masks::{equal_to, odd_through, quote_bits};
 use std::simd::prelude::*;
 
 /// Where a scan stands: at the first byte of a field, in a plain field, or in a quoted field behind an odd or an even number
@@ -27,17 +28,6 @@ pub struct Ends {
     pub ends: u64,
     pub lines: u64,
     pub behind: Spot,
-}
-
-// Whether the byte is the quote.
-#[inline(always)]
-pub(crate) fn is_the_quote(quote_char: Option<u8>, byte: u8) -> bool
-    ensures { result ≡ is_quote quote_char byte }
-{
-    match quote_char {
-        Some(quote) => byte == quote,
-        None => false,
-    }
 }
 
 // Whether the byte is a separator or a line end.
@@ -120,17 +110,6 @@ fn ends_by_bytes(bytes: &[u8], dialect: &Dialect, spot: Spot) -> Ends
     }
 }
 
-// A bit for each byte that is the quote.
-#[inline(always)]
-pub(crate) fn quote_bits(block: u8x64, quote_char: Option<u8>) -> u64
-    ensures { (i : ℕ) → i < 64 → test result i ≡ is_quote quote_char (get_or block i 0) }
-{
-    match quote_char {
-        Some(quote) => equal_to(block, quote),
-        None => 0,
-    }
-}
-
 // A bit for each byte that is a separator or a line end, where the bits of line ends are known.
 #[inline(always)]
 pub(crate) fn stop_bits(block: u8x64, lines: u64, dialect: &Dialect) -> u64
@@ -160,7 +139,7 @@ pub(crate) fn words_of(stops: u64, quotes: u64, odd: bool, begin: bool, even: bo
     ensures begin_behind { result.begin_behind ≡ begin_at stops quotes odd begin 64 }
     ensures even_behind { result.even_behind ≡ even_at quotes odd even 64 }
 {
-    let through = prefix_xor(quotes) ^ 0u64.wrapping_sub(odd as u64);
+    let through = odd_through(quotes, odd);
     let inside = through ^ quotes;
     let ends = stops & !inside;
     let closing = quotes & inside;

@@ -3,7 +3,8 @@ ghost use Rattle.std.specs.Prelude.{◌≡◌, ◌≤◌, ◌<◌, ◌+◌, ◌-
 ghost use Rattle.pl_frame.specs.Dialect.{AreDistinct};
 ghost use Rattle.pl_scan.specs.Dialect.{marks_of};
 ghost use Rattle.pl_table.specs.declared.block.Spot.TheVariants.{Begin};
-ghost use Rattle.pl_table.specs.Entries.{entries, place_behind, row_ends, set_bits, counts, Written};
+ghost use Rattle.pl_scan.specs.Bits.{set_bits};
+ghost use Rattle.pl_table.specs.Entries.{entries, place_behind, row_ends, counts, Written};
 
 use crate::block::{Spot, ends_of_block};
 use pl_scan::dialect::Dialect;

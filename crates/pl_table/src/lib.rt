@@ -3,5 +3,4 @@
 
 mod block;
 mod index;
-mod masks;
 pub mod table;

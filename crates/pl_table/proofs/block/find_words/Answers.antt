@@ -1,9 +1,10 @@
 use Rattle.std.proofs.Common.{◌≡◌, ◌<◌, not, ◌&&◌, refl, arith, ◌∙◌, ap, sym}
 use lib.Count.{count_trailing_zeros}
 use Rattle.pl_scan.specs.Dialect.{marks_of}
-use Rattle.pl_table.specs.Bits.{test}
-use Rattle.pl_table.specs.Ends.{is_strange, odd_at, begin_at, even_at, spot_from}
-use Rattle.pl_table.proofs.WordLaws.{test-none, lowest-test}
+use Rattle.pl_scan.specs.Bits.{test, odd_at}
+use Rattle.pl_table.specs.Ends.{is_strange, begin_at, even_at, spot_from}
+use Rattle.pl_scan.proofs.BitLaws.{test-none}
+use Rattle.pl_table.proofs.WordLaws.{lowest-test}
 use Rattle.pl_table.proofs.FlagLaws.{ends-are, behind-is, counted-less, set-from}
 use Rattle.pl_table.proofs.block.find_words.Goals as goal
 

@@ -1,5 +1,6 @@
 use Rattle.std.proofs.Common.{◌≡◌, ◌+◌, subst, arith}
-use Rattle.pl_table.specs.Entries.{set_bits, Written}
+use Rattle.pl_scan.specs.Bits.{set_bits}
+use Rattle.pl_table.specs.Entries.{Written}
 use Rattle.pl_table.proofs.index.put_eight.Goals as goal
 
 pub returns-clause-written : goal.returns-clause-written

@@ -2,8 +2,9 @@ use Rattle.std.proofs.Common.{◌≡◌, ◌+◌, ◌≤◌, ◌++◌, [], take,
 use Rattle.std.proofs.lemmas.List.{append-nil, length-append, length-take-le}
 use Rattle.std.proofs.lemmas.Nat.{ones-le}
 use lib.Count.{ones}
-use Rattle.pl_table.specs.Entries.{set_bits, Written}
-use Rattle.pl_table.proofs.EntryLaws.{length-set_bits}
+use Rattle.pl_scan.specs.Bits.{set_bits}
+use Rattle.pl_table.specs.Entries.{Written}
+use Rattle.pl_scan.proofs.SetBitLaws.{length-set_bits}
 use Rattle.pl_table.proofs.WrittenLaws.{counted}
 use Rattle.pl_table.proofs.index.put_places.Goals as goal
 

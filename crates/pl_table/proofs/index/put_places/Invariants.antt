@@ -1,5 +1,6 @@
 use Rattle.std.proofs.Common.{◌≡◌, ◌+◌, ◌-◌, ◌%◌, ◌≤◌, ◌++◌, length, take}
-use Rattle.pl_table.specs.Entries.{set_bits, Written}
+use Rattle.pl_scan.specs.Bits.{set_bits}
+use Rattle.pl_table.specs.Entries.{Written}
 use Rattle.pl_table.proofs.index.put_places.Given as goal
 
 abbrev pub invariant-loop-k : goal.invariant-loop-k

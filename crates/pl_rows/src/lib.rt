@@ -8,7 +8,5 @@ mod field;
 pub mod laws;
 pub mod plan;
 pub mod range;
-#[cfg(test)]
-mod range_rows;
 mod row;
 mod row_rest;

@@ -6,5 +6,3 @@ pub mod event;
 pub mod front;
 pub mod piece;
 pub mod state;
-#[cfg(test)]
-mod tests;

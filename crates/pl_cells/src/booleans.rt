@@ -22,24 +22,3 @@ pub fn is_boolean_text(text: &[u8]) -> bool
 {
     parse_boolean(text).is_some()
 }
-
-#[cfg(test)]
-mod tests {
-    use super::*;
-
-    #[test]
-    fn reads_truth_values_in_any_case(rt: HostRuntime) {
-        for (text, want) in [
-            (b"true".as_slice(), Some(true)),
-            (b"FALSE", Some(false)),
-            (b"tRuE", Some(true)),
-            (b"tru", None),
-            (b"true ", None),
-            (b"1", None),
-            (b"", None),
-        ] {
-            assert_eq!(rt; parse_boolean(text), want, "of {text:?}");
-            assert_eq!(rt; is_boolean_text(text), want.is_some(), "of {text:?}");
-        }
-    }
-}

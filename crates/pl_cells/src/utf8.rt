@@ -22,17 +22,3 @@ pub fn validate_utf8(bytes: &[u8]) -> bool
         Err(_) => false,
     }
 }
-
-#[cfg(test)]
-mod tests {
-    use super::*;
-
-    #[test]
-    fn tells_utf8(rt: HostRuntime) {
-        assert!(rt; validate_utf8("é€😀".as_bytes()));
-        assert!(rt; validate_utf8(b""));
-        assert!(rt; !validate_utf8(b"a\xFF"));
-        assert!(rt; !validate_utf8(b"\xED\xA0\x80"));
-        assert_eq!(rt; CsvEncoding::default(), CsvEncoding::Utf8);
-    }
-}

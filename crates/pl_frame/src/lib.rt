@@ -5,8 +5,6 @@
 pub mod cast;
 pub mod codes;
 pub mod column;
-#[cfg(test)]
-mod column_kinds;
 mod column_parts;
 pub mod compression;
 pub mod constructors;
@@ -14,8 +12,6 @@ pub mod data_type;
 pub mod equal;
 pub mod error;
 pub mod frame;
-#[cfg(test)]
-mod frame_calls;
 pub mod frame_columns;
 pub mod frame_rows;
 mod gathered;

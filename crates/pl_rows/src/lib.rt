@@ -9,7 +9,5 @@ pub mod laws;
 pub mod pieces;
 pub mod plan;
 pub mod range;
-#[cfg(test)]
-mod range_rows;
 mod row;
 mod row_rest;

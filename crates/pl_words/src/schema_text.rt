@@ -86,18 +86,3 @@ impl FromText for Schema {
         parse_schema(alloc, text)
     }
 }
-
-#[cfg(test)]
-mod tests {
-    use super::*;
-
-    #[test]
-    fn a_schema_text_names_columns(rt: HostRuntime) {
-        match parse_schema(rt.alloc(), "a:enum/x/,b:decimal/-/2") {
-            Ok(schema) => assert_eq!(rt; schema.len(), 2),
-            Err(_) => panic!(rt; "this text is a schema"),
-        }
-        let twice = parse_schema(rt.alloc(), "a:int64,a:string");
-        assert!(rt; matches!(twice, Err(WordsFault::Words)));
-    }
-}

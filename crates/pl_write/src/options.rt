@@ -108,22 +108,3 @@ impl CsvWriterOptions {
         })
     }
 }
-
-#[cfg(test)]
-mod tests {
-    use super::*;
-    use std::test::Fail;
-
-    #[test]
-    fn copies_are_equal(rt: HostRuntime) -> Result<(), Fail> {
-        let mut options = CsvWriterOptions::new(rt.alloc())?;
-        options.include_bom = true;
-        options.serialize_options.null = PlSmallStr::from_str(rt.alloc(), "NA")?;
-        options.serialize_options.quote_style = QuoteStyle::Always;
-        let mut copy = options.try_clone()?;
-        assert!(rt; copy == options);
-        copy.serialize_options.separator = b';';
-        assert!(rt; copy != options);
-        Ok(())
-    }
-}

@@ -1,0 +1,117 @@
+//! Tests of `pl_cells::init_buffers`.
+ghost use Rattle.std.specs.Prelude.{length, ◌≡◌};
+
+use crate::given::name;
+use pl_cells::buffer::Buffer;
+use pl_cells::cell_fault::CellFault;
+use pl_cells::init_buffers::init_buffers;
+use pl_cells::utf8::CsvEncoding;
+use pl_frame::codes::CodesBuilder;
+use pl_frame::column::Column;
+use pl_frame::data_type::DataType;
+use pl_frame::error::{ComputeFault, PolarsError};
+use pl_frame::schema::Schema;
+use pl_frame::texts::Texts;
+use std::alloc::Global;
+use std::process::Abort;
+
+// A schema of one column `a`.
+fn schema_of(rt: &impl Abort, alloc: Global, dtype: DataType) -> Schema
+    ensures { length result ≡ 1 }
+{
+    let mut schema = Schema::new(alloc);
+    schema
+        .with_column(name(rt, alloc, "a"), dtype)
+        .expect(rt, "a column");
+    schema
+}
+
+// A buffer of a column `a`, whose texts are read with the quote `"`.
+fn buffer_of(rt: &impl Abort, alloc: Global, dtype: DataType) -> Buffer {
+    let schema = schema_of(rt, alloc, dtype);
+    let quote = Some(b'"');
+    let buffers = init_buffers(alloc, &[0], 4, &schema, quote, CsvEncoding::Utf8);
+    let mut buffers = buffers.expect(rt, "buffers");
+    buffers.pop().expect(rt, "a buffer")
+}
+
+// What is wrong with a field that is added.
+fn fault(buffer: &mut Buffer, field: &[u8]) -> Option<CellFault> {
+    let is_quoted = field.first() == Some(&b'"');
+    buffer.add(field, false, is_quoted, true).err()
+}
+
+// A column `a` of a number and a null.
+fn is_int64(rt: &impl Abort, alloc: Global, column: &Column, number: i128) -> bool {
+    let mut numbers = Vec::new(alloc);
+    numbers.push(Some(number)).expect(rt, "a number");
+    numbers.push(None).expect(rt, "a null");
+    let expected = Column::whole(alloc, name(rt, alloc, "a"), DataType::Int64, numbers);
+    *column == expected.expect(rt, "a column")
+}
+
+// A column `a` of two texts.
+fn is_string(rt: &impl Abort, alloc: Global, column: &Column, first: &str, second: &str) -> bool {
+    let mut texts = Texts::new(alloc);
+    texts.push(first).expect(rt, "a text");
+    texts.push(second).expect(rt, "a text");
+    *column == Column::from_string(name(rt, alloc, "a"), texts)
+}
+
+// A column `a` of a category and a null.
+fn is_category(rt: &impl Abort, alloc: Global, column: &Column, first: &str) -> bool {
+    let mut texts = CodesBuilder::new(alloc);
+    texts.push(first).expect(rt, "a text");
+    texts.push_null().expect(rt, "a null");
+    *column == Column::from_categories(name(rt, alloc, "a"), texts.into_codes())
+}
+
+// The column that a buffer becomes.
+fn series(rt: &impl Abort, buffer: Buffer) -> Column {
+    buffer.into_series().expect(rt, "a column")
+}
+
+#[test]
+fn a_decimal_without_a_scale_is_refused(rt: HostRuntime) {
+    let schema = schema_of(&rt, rt.alloc(), DataType::Decimal(None, None));
+    let refused = init_buffers(rt.alloc(), &[0], 4, &schema, None, CsvEncoding::Utf8);
+    assert!(rt;
+        matches!(
+            refused,
+            Err(PolarsError::ComputeError(ComputeFault::Dtype { column: 0 }))
+        )
+    );
+}
+
+#[test]
+fn numbers_lose_blanks_in_front(rt: HostRuntime) {
+    let mut buffer = buffer_of(&rt, rt.alloc(), DataType::Int64);
+    assert_eq!(rt; fault(&mut buffer, b"x"), Some(CellFault::Value));
+    assert_eq!(rt; buffer.len(), 0);
+    assert_eq!(rt; fault(&mut buffer, b" 5"), None);
+    assert!(rt; buffer.add_null(true).is_ok());
+    assert_eq!(rt; fault(&mut buffer, b"6"), None);
+    buffer.truncate(2);
+    assert!(rt; buffer.dtype().expect(&rt, "a type") == DataType::Int64);
+    assert!(rt; is_int64(&rt, rt.alloc(), &series(&rt, buffer), 5));
+}
+
+#[test]
+fn strings_are_undoubled(rt: HostRuntime) {
+    let mut buffer = buffer_of(&rt, rt.alloc(), DataType::String);
+    assert_eq!(rt; fault(&mut buffer, b"\"a\"b\"c\""), None);
+    assert_eq!(rt; fault(&mut buffer, b"\""), Some(CellFault::Escape));
+    assert_eq!(rt; fault(&mut buffer, b"\xFF"), Some(CellFault::Utf8));
+    assert!(rt; buffer.add_null(true).is_ok());
+    assert!(rt; is_string(&rt, rt.alloc(), &series(&rt, buffer), "abc", ""));
+}
+
+#[test]
+fn an_empty_category_stands_between_quotes(rt: HostRuntime) {
+    let mut buffer = buffer_of(&rt, rt.alloc(), DataType::Categorical);
+    assert_eq!(rt; fault(&mut buffer, b"\"\""), None);
+    assert!(rt; buffer.add(b"", false, false, false).is_ok());
+    assert_eq!(rt; fault(&mut buffer, b"q"), None);
+    buffer.truncate(2);
+    assert!(rt; is_category(&rt, rt.alloc(), &series(&rt, buffer), ""));
+}

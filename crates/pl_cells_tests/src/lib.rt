@@ -1,0 +1,23 @@
+//! Tests of `pl_cells`, in a crate of their own: what no clause of it says.
+#![tactic(auto)]
+
+#[cfg(test)]
+mod booleans;
+#[cfg(test)]
+mod casts;
+#[cfg(test)]
+mod dates;
+#[cfg(test)]
+mod decimals;
+#[cfg(test)]
+mod given;
+#[cfg(test)]
+mod init_buffers;
+#[cfg(test)]
+mod integers;
+#[cfg(test)]
+mod null_values;
+#[cfg(test)]
+mod times;
+#[cfg(test)]
+mod utf8;

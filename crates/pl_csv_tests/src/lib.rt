@@ -1,0 +1,15 @@
+//! Tests of `pl_csv`, in a crate of their own: what no clause of it says.
+#![tactic(auto)]
+
+#[cfg(test)]
+mod adapters;
+#[cfg(test)]
+mod counting;
+#[cfg(test)]
+mod examples;
+#[cfg(test)]
+mod file_readers;
+#[cfg(test)]
+mod run;
+#[cfg(test)]
+mod transcode;

@@ -1,0 +1,33 @@
+//! Tests of `pl_frame`, in a crate of their own: what no clause of it says.
+#![tactic(auto)]
+
+#[cfg(test)]
+mod column;
+#[cfg(test)]
+mod constructors;
+#[cfg(test)]
+mod data_type;
+#[cfg(test)]
+mod equal;
+#[cfg(test)]
+mod error;
+#[cfg(test)]
+mod frame;
+#[cfg(test)]
+mod given;
+#[cfg(test)]
+mod numbers;
+#[cfg(test)]
+mod opener;
+#[cfg(test)]
+mod range;
+#[cfg(test)]
+mod read_all;
+#[cfg(test)]
+mod schema;
+#[cfg(test)]
+mod sink;
+#[cfg(test)]
+mod source;
+#[cfg(test)]
+mod texts;

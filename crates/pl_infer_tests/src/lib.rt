@@ -1,0 +1,13 @@
+//! Tests of `pl_infer`, in a crate of their own: what no clause of it says.
+#![tactic(auto)]
+
+#[cfg(test)]
+mod column_lists;
+#[cfg(test)]
+mod hive_options;
+#[cfg(test)]
+mod parse_options;
+#[cfg(test)]
+mod read_options;
+#[cfg(test)]
+mod reader_bytes;

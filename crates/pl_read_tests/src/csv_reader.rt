@@ -1,0 +1,118 @@
+//! Tests of `pl_read::csv_reader`.
+ghost use Rattle.std.specs.Prelude.{◌≡◌};
+
+use pl_frame::column::{Column, Value};
+use pl_frame::data_type::DataType;
+use pl_frame::error::{NoDataFault, PolarsError, PolarsResult};
+use pl_frame::frame::DataFrame;
+use pl_frame::name::PlSmallStr;
+use pl_frame::schema::Schema;
+use pl_frame::source::{MemSource, PipeSource, Source};
+use pl_infer::read_options::CsvReadOptions;
+use pl_read::bytes_reader::MmapBytesReader;
+use pl_read::csv_reader::{CsvReader, SerReader};
+use std::alloc::Global;
+use std::test::Fail;
+
+// Through the bound: a reader with default options.
+fn fresh<R: MmapBytesReader, T: SerReader<R>>(alloc: Global, reader: R) -> T {
+    T::new(alloc, reader).set_rechunk(true)
+}
+
+// Through the bound: what a reader reads.
+fn finish<R: MmapBytesReader, T: SerReader<R>>(reader: &mut T) -> PolarsResult<DataFrame>
+    ensures { (T.state reader.new).options ≡ (T.state reader.old).options }
+{
+    reader.finish()
+}
+
+// A read of one column `a` of whole numbers.
+fn one_column(alloc: Global) -> Result<CsvReadOptions, Fail> {
+    let mut schema = Schema::new(alloc);
+    schema.with_column(PlSmallStr::from_str(alloc, "a")?, DataType::Int64)?;
+    Ok(CsvReadOptions::new(alloc).with_schema(Some(schema)))
+}
+
+// The column `a` of 1.
+fn one(alloc: Global) -> Result<DataFrame, Fail> {
+    let name = PlSmallStr::from_str(alloc, "a")?;
+    let column = Column::whole(alloc, name, DataType::Int64, vec![in alloc; Some(1)]?)?;
+    Ok(DataFrame::new(alloc, vec![in alloc; column]?)?)
+}
+
+#[test]
+fn a_new_reader_has_default_options(rt: HostRuntime) {
+    let alloc = rt.alloc();
+    let reader: CsvReader<MemSource<'_>> = fresh(alloc, MemSource::new(b"ab"));
+    assert!(rt; *reader.options() == CsvReadOptions::new(alloc));
+    assert_eq!(rt; reader.into_inner().bytes(), b"ab".as_slice());
+}
+
+// What stands behind the first byte of a source that fails at these calls.
+fn pipe(fails: &[usize]) -> PipeSource<'_> {
+    let mut source = PipeSource::new(b"xa\n1\n", 1, fails);
+    let _ = source.read(&mut [0u8; 1]);
+    source
+}
+
+#[test]
+fn a_pipe_is_read_from_where_it_stands(rt: HostRuntime) -> Result<(), Fail> {
+    let alloc = rt.alloc();
+    let mut reader = CsvReader::with_options(alloc, pipe(&[]), one_column(alloc)?);
+    assert!(rt; finish(&mut reader)? == one(alloc)?);
+    Ok(())
+}
+
+#[test]
+fn a_pipe_that_fails_is_a_fault(rt: HostRuntime) -> Result<(), Fail> {
+    let alloc = rt.alloc();
+    let mut reader = CsvReader::with_options(alloc, pipe(&[3]), one_column(alloc)?);
+    assert!(rt; matches!(finish(&mut reader), Err(PolarsError::IO)));
+    Ok(())
+}
+
+// What a text means where no schema is given.
+fn read(alloc: Global, text: &[u8], raise_if_empty: bool) -> PolarsResult<DataFrame> {
+    let options = CsvReadOptions::new(alloc).with_raise_if_empty(raise_if_empty);
+    let mut reader = CsvReader::with_options(alloc, MemSource::new(text), options);
+    reader.finish()
+}
+
+// Whether a frame has a column `a` of whole numbers, in which 1 is first, and a column `b` of strings, in which x is.
+fn is_one_and_x(frame: &DataFrame) -> bool {
+    let [a, b] = frame.columns() else {
+        return false;
+    };
+    if a.len() != 1 || b.len() != 1 {
+        return false;
+    }
+    let names = a.name() == "a" && b.name() == "b";
+    let types = *a.dtype() == DataType::Int64 && *b.dtype() == DataType::String;
+    names && types && a.get(0) == Value::Whole(1) && b.get(0) == Value::Text("x")
+}
+
+#[test]
+fn names_and_types_come_of_the_text(rt: HostRuntime) -> Result<(), Fail> {
+    let frame = read(rt.alloc(), b"a,b\n1,x\n", true)?;
+    assert!(rt; is_one_and_x(&frame));
+    Ok(())
+}
+
+#[test]
+fn no_record_is_refused_or_is_no_column(rt: HostRuntime) -> Result<(), Fail> {
+    let refused = read(rt.alloc(), b"", true);
+    assert!(rt; matches!(refused, Err(PolarsError::NoData(NoDataFault::Empty))));
+    let frame = read(rt.alloc(), b"", false)?;
+    assert_eq!(rt; frame.width(), 0);
+    Ok(())
+}
+
+#[test]
+fn memory_is_read_again(rt: HostRuntime) -> Result<(), Fail> {
+    let alloc = rt.alloc();
+    let source = MemSource::new(b"a\n1\n");
+    let mut reader = CsvReader::with_options(alloc, source, one_column(alloc)?);
+    let first = finish(&mut reader)?;
+    assert!(rt; finish(&mut reader)? == first);
+    Ok(())
+}

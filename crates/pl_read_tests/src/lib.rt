@@ -1,0 +1,15 @@
+//! Tests of `pl_read`, in a crate of their own: what no clause of it says.
+#![tactic(auto)]
+
+#[cfg(test)]
+mod bytes_reader;
+#[cfg(test)]
+mod csv_reader;
+#[cfg(test)]
+mod named_columns;
+#[cfg(test)]
+mod reader_makers;
+#[cfg(test)]
+mod reading;
+#[cfg(test)]
+mod slices;

@@ -1,0 +1,15 @@
+//! Tests of `pl_schema`, in a crate of their own: what no clause of it says.
+#![tactic(auto)]
+
+#[cfg(test)]
+mod field_types;
+#[cfg(test)]
+mod header;
+#[cfg(test)]
+mod inference;
+#[cfg(test)]
+mod inference_result;
+#[cfg(test)]
+mod sample;
+#[cfg(test)]
+mod schemas;

@@ -1,0 +1,9 @@
+//! Tests of `pl_write`, in a crate of their own: what no clause of it says.
+#![tactic(auto)]
+
+#[cfg(test)]
+mod csv_writer;
+#[cfg(test)]
+mod options;
+#[cfg(test)]
+mod serializer;

@@ -9,5 +9,4 @@ pub mod FrameLaws
 pub mod PlanLaws
 pub mod WholeLaws
 pub mod BlockLaws
-pub mod RowAppendLaws
 pub mod PieceLaws

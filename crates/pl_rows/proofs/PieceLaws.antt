@@ -34,7 +34,7 @@ use Rattle.pl_rows.proofs.OpenLaws.{is_open_row, unjudged, open_rows, unjudged-o
 use Rattle.pl_rows.proofs.PlanLaws.{plan_columns-more}
 use Rattle.pl_rows.proofs.RangeLaws.{filter-kept, filter-left_out, first_faulty-more, first_faulty-here}
 use Rattle.pl_rows.proofs.RowLaws.{rows-back}
-use Rattle.pl_rows.proofs.RowAppendLaws.{rows-append}
+use Rattle.pl_table.proofs.PieceLaws.{rows-append}
 
 -- ---- what is left of a limit
 
@@ -159,7 +159,7 @@ HasReadRows-piece plan range before now after left piece rest n k can dialect re
     let comment = comment_of plan.dialect in
     let found = rows m comment piece in
     let taken = within_limit plan.limit n (length found) in
-    let front : rows m comment left ≡ found ++ rows m comment rest = ap (rows m comment) left_is ∙ rows-append m comment piece rest dialect one.ends.ended one.ends.closed in
+    let front : rows m comment left ≡ found ++ rows m comment rest = ap (rows m comment) left_is ∙ rows-append m comment piece rest dialect.distinct dialect.prefix one.ends.ended one.ends.closed in
     let same : rows_of (plan_behind plan n false) piece ≡ take taken found = limited-within plan.limit n found in
     let count : k ≡ taken = one.count ∙ ap length same ∙ length-take-le taken found (within-le plan.limit n (length found)) in
     let judged = closed-judged plan found (sym (open_rows m comment piece dialect.distinct) ∙ one.ends.closed) in

@@ -1,9 +1,9 @@
 -- A range read piece by piece (docs/pieces.md, "How a read uses pieces").
 use Rattle.std.specs.Prelude.{◌≡◌, ℕ, ◌+◌, ◌-◌, ◌<◌, ◌^◌, Bool, true, false, List, length, Option, None, Some}
-use Rattle.std.specs.List.{last_or}
 use Rattle.pl_scan.specs.Closing.{ends_open}
 use Rattle.pl_scan.specs.Dialect.{marks_of, comment_of}
 use Rattle.pl_scan.specs.declared.dialect.Dialect.{Dialect}
+use Rattle.pl_scan.specs.Laws.{IsEnded}
 use Rattle.pl_cells.specs.BufferValue.{BufferValue}
 use Rattle.pl_rows.specs.declared.pieces.PieceDone.{PieceDone}
 use Rattle.pl_rows.specs.declared.plan.RangePlan.{RangePlan}
@@ -14,7 +14,7 @@ use Rattle.pl_rows.specs.Ranges.{rows_of, has_unjudged}
 
 -- a text that ends where an item does: its last byte, if it has one, is a line end, and it does not end within a quoted field
 pub record EndsItem (dialect : Dialect) (text : List ℕ) : Type 0 where
-  pub ended : last_or (Some dialect.eol_char) text ≡ Some dialect.eol_char
+  pub ended : IsEnded dialect.eol_char text
   pub closed : ends_open (marks_of dialect) (comment_of dialect) text ≡ false
 
 -- a limit of rows, less so many

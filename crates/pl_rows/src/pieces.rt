@@ -1,8 +1,8 @@
 //! A range read piece by piece: pieces of guessed size, as far as each ends where an item does, and the rest as one range.
 ghost use Rattle.std.specs.Prelude.{◌≡◌, ◌*◌, ◌<◌, ◌≤◌, true, false, Some, None, IfOk, OnOk, OnErr, length, drop};
-ghost use Rattle.std.specs.List.{last_or};
 ghost use Rattle.pl_frame.specs.Dialect.{IsDialect, AreDistinct};
 ghost use Rattle.pl_scan.specs.Dialect.{marks_of, comment_of};
+ghost use Rattle.pl_scan.specs.Laws.{IsEnded};
 ghost use Rattle.pl_rows.specs.declared.range.RangeEnd.TheVariants as end;
 ghost use Rattle.pl_rows.specs.Blocks.{HasReadRows};
 ghost use Rattle.pl_rows.specs.Pieces.{EndsItem, IsWhole, IsRowFit, plan_behind, end_behind, IsPieceRead};
@@ -50,9 +50,9 @@ impl<'a> Done for PieceDone<'a> {
     }
 }
 
-// Whether the last byte of a text is this one.
+// Whether a text has a last byte, and it is this one.
 fn ends_with(bytes: &[u8], byte: u8) -> bool
-    ensures { result ≡ true → last_or (Some byte) bytes.now ≡ Some byte }
+    ensures { result ≡ true → IsEnded byte bytes.now }
 {
     match bytes {
         [.., last] => *last == byte,

@@ -1,11 +1,12 @@
 -- What is read of data.
-use Rattle.std.proofs.Common.{◌≡◌, ℕ, zero, suc, ◌+◌, ◌<◌, Bool, true, false, not, ◌&&◌, ◌==◌, List, [], ◌∷◌, map, length, get_or, refl, sym, ◌∙◌, ap, subst, arith, nat_lt}
+use Rattle.std.proofs.Common.{◌≡◌, ℕ, zero, suc, ◌+◌, ◌<◌, Bool, true, false, not, ◌&&◌, ◌||◌, ◌==◌, List, [], ◌∷◌, map, length, get_or, refl, sym, ◌∙◌, ap, subst, arith, nat_lt}
 use Rattle.std.specs.Prelude.{◌≢◌, ◌⊎◌, Option, None, Some, AllPairs, slice_index}
 use Rattle.std.specs.List.{range_with_len, list_any, All}
 use Rattle.std.specs.Option.{option_map, option_copied}
 use Rattle.std.specs.Str.{bytes_eq}
 use Rattle.std.specs.Cmp.Lexicographic.{bytes_decides}
 use Rattle.std.proofs.lemmas.Bool.{lt-ltb}
+use Rattle.std.proofs.lemmas.Bool.Decides.{nat_tests}
 use Rattle.std.proofs.lemmas.List.{length-map, get_or-map}
 use Rattle.std.proofs.lemmas.List.Folds.{list_any_at}
 use Rattle.std.proofs.lemmas.List.FromFn.{length-range_with_len, get_or-range_with_len, length-map-range_with_len}
@@ -17,7 +18,7 @@ use Rattle.pl_frame.specs.declared.error.PolarsError.TheVariants as error
 use Rattle.pl_frame.specs.Frame.{ColumnValue, IsFrame, HaveHeight, height_of, names_of}
 use Rattle.pl_frame.specs.Schema.{Entry, HaveDistinctNames, names_in}
 use Rattle.pl_frame.specs.declared.error.OpFault.TheVariants as op_fault
-use Rattle.pl_frame.specs.Dialect.{AreDistinct, IsDialect}
+use Rattle.pl_frame.specs.Dialect.{IsDialect}
 use Rattle.std.specs.Borrow.{Bor}
 use Rattle.pl_cells.specs.declared.null_values.NullValues.{NullValues}
 use Rattle.pl_cells.specs.declared.null_values.NullValues.TheVariants as null
@@ -46,7 +47,7 @@ use Rattle.pl_infer.specs.Text.{marks_of, comment_of}
 use Rattle.pl_schema.specs.Schemas.{first_unreadable}
 use Rattle.pl_read.specs.Options.{rules_of}
 use Rattle.pl_read.specs.Projection.{projected, has_projected, taken_name}
-use Rattle.pl_read.specs.Refusals.{early_causes, nothing_read, faulty_record, index_past}
+use Rattle.pl_read.specs.Refusals.{is_zero, has_wrong_option, early_causes, nothing_read, faulty_record, index_past}
 use Rattle.pl_read.specs.Rows.{columns_read, rows_in, data_columns, with_index, data_frame}
 use Rattle.pl_read.specs.Steps.{data_cause, IsPlanOf, MayRead}
 use Rattle.pl_read.proofs.PlaceLaws.{readable_at}
@@ -245,16 +246,34 @@ readable-places schema (place ∷ places) readable below =
 
 -- ---- when data can be read
 
--- the options of a read that may be: its marks differ from one another
-pub may-apart : (o : CsvReadOptions) → MayRead o → AreDistinct (marks_of o.parse_options)
-may-apart o may = by may.is_dialect refl
+none_some : (cause : PolarsError) → ◌≡◌ {A = Option PolarsError} None (Some cause) → ⊥
+none_some cause h = cc
+
+-- the options of a read that may be: its marks and its comment prefix are a dialect
+pub may-dialect : (o : CsvReadOptions) → MayRead o → IsDialect (marks_of o.parse_options) (comment_of o.parse_options)
+may-dialect o may = by may.is_dialect refl
   where
-    by : (b : Bool) → may.is_dialect ≡ b → AreDistinct (marks_of o.parse_options)
-    by true e = (subst (λ b. Tells b (IsDialect (marks_of o.parse_options) (comment_of o.parse_options))) e may.tells).distinct
-    by false e = absurd (none_some (may.is ∙ ap (λ b. first_some (early_causes o b)) e))
-      where
-        none_some : ◌≡◌ {A = Option PolarsError} None (Some (error.InvalidOperation op_fault.Dialect)) → ⊥
-        none_some h = cc
+    by : (b : Bool) → may.is_dialect ≡ b → IsDialect (marks_of o.parse_options) (comment_of o.parse_options)
+    by true e = subst (λ b. Tells b (IsDialect (marks_of o.parse_options) (comment_of o.parse_options))) e may.tells
+    by false e = absurd (none_some _ (may.is ∙ ap (λ b. first_some (early_causes o b)) e))
+
+-- and its pieces have bytes
+pub may-pieces : (o : CsvReadOptions) → MayRead o → 0 < o.chunk_size
+may-pieces o may = by may.is_dialect (o.chunk_size == 0) refl refl
+  where
+    others : Bool
+    others = (nat_lt 0 o.skip_lines && nat_lt 0 o.skip_rows) || nat_lt 0 (length o.fields_to_cast)
+
+    any_or : (t : Bool) → (t || true) ≡ true
+    any_or true = refl
+    any_or false = refl
+
+    by : (b c : Bool) → may.is_dialect ≡ b → (o.chunk_size == 0) ≡ c → 0 < o.chunk_size
+    by b false e some = grind (arith, nat_tests)
+    by true true e zero_is =
+        let wrong : has_wrong_option o ≡ true = ap (λ c. is_zero o.n_threads || (c || others)) zero_is ∙ any_or (is_zero o.n_threads) in
+        absurd (none_some _ (may.is ∙ ap (λ b. first_some (early_causes o b)) e ∙ ap (λ t. first_some (when t (error.InvalidOperation op_fault.Option) ∷ [])) wrong))
+    by false true e zero_is = absurd (none_some _ (may.is ∙ ap (λ b. first_some (early_causes o b)) e))
 
 -- compiled null values have a text for each column
 pub texts-compiled : (nulls : Option (Bor NullValuesCompiled)) (values : Option NullValues) (schema : List Entry) → option_copied nulls ≡ option_map (λ v. compiled_for v schema) values → HaveTexts nulls (length schema)

@@ -1,10 +1,10 @@
 -- What the steps of a read answer.
-use Rattle.std.specs.Prelude.{◌≡◌, ℕ, zero, suc, Bool, true, false, List, [], ◌∷◌, length, drop, Option, None, map}
+use Rattle.std.specs.Prelude.{◌≡◌, ◌<◌, ℕ, zero, suc, Bool, true, false, List, [], ◌∷◌, length, drop, Option, None, map}
 use Rattle.std.specs.List.{range_with_len}
 use Rattle.std.specs.Option.{option_and_then}
 use Rattle.pl_frame.specs.declared.error.PolarsError.{PolarsError}
 use Rattle.pl_frame.specs.Schema.{Entry, HaveDistinctNames}
-use Rattle.pl_frame.specs.Dialect.{AreDistinct}
+use Rattle.pl_frame.specs.Dialect.{IsDialect}
 use Rattle.pl_scan.specs.Dialect as scan
 use Rattle.pl_cells.specs.NullValues.{unknown_name, HaveTexts}
 use Rattle.pl_infer.specs.declared.read_options.CsvReadOptions.{CsvReadOptions}
@@ -84,7 +84,8 @@ pub record IsPlanOf (plan : RangePlan) (o : CsvReadOptions) (schema : List Entry
 -- data that can be read by a plan: no cause stands before its rows
 pub record CanReadData (plan : RangePlan) (o : CsvReadOptions) (schema : List Entry) (records : List ℕ) : Type 0 where
   pub plan_is : IsPlanOf plan o schema
-  pub apart : AreDistinct (marks_of o.parse_options)
+  pub dialect : IsDialect (marks_of o.parse_options) (comment_of o.parse_options)
+  pub pieces : 0 < o.chunk_size
   pub readable : first_unreadable schema ≡ None
   pub texts : HaveTexts plan.options.null_values (length schema)
   pub distinct : HaveDistinctNames schema

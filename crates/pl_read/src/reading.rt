@@ -22,7 +22,7 @@ use pl_frame::error::{ComputeFault, NoDataFault, PolarsError, PolarsResult};
 use pl_frame::frame::DataFrame;
 use pl_frame::schema::Schema;
 use pl_infer::read_options::CsvReadOptions;
-use pl_rows::columns::read_columns;
+use pl_rows::columns::read_columns_in_pieces;
 use pl_rows::plan::{Projection, RangePlan, RowOptions};
 use pl_rows::range::RangeEnd;
 use pl_scan::start::data_of;
@@ -217,7 +217,8 @@ fn read_data(
     ensures sound { OnOk result (data_cause options.now schema.now records.now ≡ None) }
     ensures refused { IfErr result (IsFault (data_cause options.now schema.now records.now)) }
 {
-    let Ok(read) = read_columns(alloc, schema, records, plan) else {
+    let piece_size = options.chunk_size;
+    let Ok(read) = read_columns_in_pieces(alloc, schema, records, plan, piece_size) else {
         return Err(PolarsError::OutOfMemory);
     };
     match read.end {

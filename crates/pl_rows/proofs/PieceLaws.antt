@@ -1,5 +1,5 @@
 -- A range read piece by piece.
-use Rattle.std.proofs.Common.{◌≡◌, ℕ, ◌+◌, ◌-◌, ◌<◌, ◌≤◌, ◌^◌, Bool, true, false, cond, not, ◌||◌, ltb, List, [], ◌∷◌, ◌++◌, length, take, drop, refl, sym, ◌∙◌, ap, subst, append-nil, inl, inr, arith}
+use Rattle.std.proofs.Common.{◌≡◌, ℕ, ◌+◌, ◌-◌, ◌<◌, ◌≤◌, ◌^◌, Bool, true, false, cond, not, ◌||◌, ltb, List, [], ◌∷◌, ◌++◌, length, take, drop, refl, sym, ◌∙◌, ap, subst, inl, inr, arith}
 use Rattle.std.specs.Prelude.{Option, None, Some, filter, MatchBool, slice_range}
 use Rattle.std.specs.List.{list_any, AllByRecursion}
 use Rattle.std.proofs.lemmas.Bool.{cases_lt}
@@ -28,12 +28,13 @@ use Rattle.pl_rows.specs.Ranges.{limited, rows_of, is_judged, judged_rows, has_u
 use Rattle.pl_rows.specs.Rows.{first_fault, first_faulty}
 use Rattle.pl_rows.specs.Steps.{is_below, cut_back}
 use Rattle.pl_table.specs.Rows.{Row, rows}
-use Rattle.pl_rows.proofs.BlockLaws.{HasReadRows-rows, sound-front, within-le}
+use Rattle.pl_rows.proofs.BlockLaws.{HasReadRows-rows, within-le}
 use Rattle.pl_rows.proofs.ColumnLaws.{with_columns-append}
 use Rattle.pl_rows.proofs.OpenLaws.{is_open_row, unjudged, open_rows, unjudged-open}
 use Rattle.pl_rows.proofs.PlanLaws.{plan_columns-more}
 use Rattle.pl_rows.proofs.RangeLaws.{filter-kept, filter-left_out, first_faulty-more, first_faulty-here}
 use Rattle.pl_rows.proofs.RowLaws.{rows-back}
+use Rattle.pl_rows.proofs.WholeLaws.{sound-all}
 use Rattle.pl_table.proofs.PieceLaws.{rows-append}
 
 -- ---- what is left of a limit
@@ -105,9 +106,6 @@ none-faulty rules columns k (row ∷ others) none = by (first_fault rules column
     by None e deeper = (e, deeper (sym (first_faulty-more rules columns k row others e) ∙ none))
     by (Some found) e deeper = let here = first_faulty-here rules columns k row others found e in absurd (cc)
 
-sound-all : (rules : RowRules) (columns : Columns) (given : List Row) → AllByRecursion (λ row. first_fault rules columns row ≡ None) given → sound_rows rules columns given ≡ given
-sound-all rules columns given all = ap (sound_rows rules columns) (sym (append-nil given)) ∙ sound-front rules columns given [] all ∙ append-nil given
-
 -- a closed end comes where no row has a fault and none is not judged
 closed_end : (first : Option (ℕ × (ℕ × FaultKind))) (u : Bool) → end_of first u ≡ end.Closed → (first ≡ None) × (u ≡ false)
 closed_end (Some found) u e = cc
@@ -122,11 +120,10 @@ closed-whole plan range before now given n read is =
     let columns = plan_columns plan before in
     let parts = closed_end (first_faulty rules columns 0 (judged_rows plan range)) (has_unjudged plan range) (sym read.end_is ∙ is) in
     let all : judged_rows plan range ≡ rows_of plan range = filter-all (is_judged plan) (rows_of plan range) parts.1 in
-    let whole : AllByRecursion (λ row. first_fault rules columns row ≡ None) (rows_of plan range) =
-    none-faulty rules columns 0 (rows_of plan range) (ap (first_faulty rules columns 0) (sym all) ∙ parts.0) in
-    let rows_are : rows_read plan columns range ≡ rows_of plan range = ap (sound_rows rules columns) all ∙ sound-all rules columns (rows_of plan range) whole in (
+    let none : first_faulty rules columns 0 (rows_of plan range) ≡ None = ap (first_faulty rules columns 0) (sym all) ∙ parts.0 in
+    let rows_are : rows_read plan columns range ≡ rows_of plan range = ap (sound_rows rules columns) all ∙ sound-all rules columns 0 (rows_of plan range) none in (
       record { judged = parts.1; count = read.count ∙ ap length rows_are },
-      record { added = read.added ∙ ap (λ rs. with_columns rules rs plan.projection.places.now before) rows_are; whole = whole },
+      record { added = read.added ∙ ap (λ rs. with_columns rules rs plan.projection.places.now before) rows_are; whole = none-faulty rules columns 0 (rows_of plan range) none },
     )
 
 -- the rows of a range that was read are taken back

@@ -3,12 +3,13 @@ ghost use Rattle.std.specs.Prelude.{◌≡◌, ◌<◌, ℕ, None, length, slice
 ghost use Rattle.std.specs.List.{range_with_len};
 ghost use Rattle.pl_cells.specs.InitBuffers.{empty_buffers, first_unreadable, IsTypeFault};
 ghost use Rattle.pl_cells.specs.NullValues.{HaveTexts};
-ghost use Rattle.pl_frame.specs.Dialect.{AreDistinct};
-ghost use Rattle.pl_scan.specs.Dialect.{marks_of};
+ghost use Rattle.pl_frame.specs.Dialect.{AreDistinct, IsDialect};
+ghost use Rattle.pl_scan.specs.Dialect.{marks_of, comment_of};
 ghost use Rattle.pl_rows.specs.Plan.{states, AreRising};
 ghost use Rattle.pl_rows.specs.Columns.{columns_of};
 ghost use Rattle.pl_rows.specs.Ranges.{IsRangeRead};
 
+use crate::pieces::read_pieces;
 use crate::plan::RangePlan;
 use crate::range::{RangeEnd, read_range};
 use pl_cells::buffer::Buffer;
@@ -100,4 +101,32 @@ pub fn read_columns(
     let end = read_range(alloc, &mut buffers, range, plan)?;
     let columns = into_columns(alloc, buffers)?;
     Ok(RangeColumns { columns, end })
+}
+
+/// Reads the records of a range piece by piece, as `read_pieces` does, into columns of a schema: the same columns and the same
+/// end as `read_columns` gives, whatever the piece size. Refuses only want of memory.
+pub fn read_columns_in_pieces(
+    alloc: Global,
+    schema: &Schema,
+    range: &[u8],
+    plan: &RangePlan<'_>,
+    piece_size: usize,
+) -> Result<RangeColumns, AllocError>
+    requires dialect { IsDialect (marks_of plan.now.dialect) (comment_of plan.now.dialect) }
+    requires width { plan.now.projection.width ≡ length schema.now }
+    requires rising { AreRising 0 (length schema.now) plan.now.projection.places.now }
+    requires readable { first_unreadable schema.now plan.now.projection.places.now ≡ None }
+    requires texts { HaveTexts plan.now.options.null_values (length schema.now) }
+    requires size { 0 < piece_size }
+    ensures { IfOk result (IsRangeRead plan.now schema.now range.now) }
+{
+    let places = plan.projection.places;
+    let quote_char = plan.dialect.quote_char;
+    let mut buffers = empty_buffers(alloc, schema, places, quote_char, plan.options.encoding)?;
+    let read = read_pieces(alloc, &mut buffers, range, plan, piece_size)?;
+    let columns = into_columns(alloc, buffers)?;
+    Ok(RangeColumns {
+        columns,
+        end: read.end,
+    })
 }

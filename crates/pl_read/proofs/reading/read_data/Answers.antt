@@ -2,7 +2,10 @@ use Rattle.std.proofs.Common.{◌≡◌, sym, ◌∙◌, ap, subst, inl}
 use Rattle.std.specs.Prelude.{IfOk, OnOk, IfErr, None, length}
 use Rattle.std.specs.Option.{option_copied}
 use Rattle.pl_frame.specs.Frame.{IsFrame, height_of}
+use Rattle.pl_frame.specs.Dialect.{IsDialect}
+use Rattle.pl_scan.specs.Dialect.{comment_of as scan_comment_of}
 use Rattle.pl_rows.specs.Plan.{AreRising}
+use Rattle.pl_infer.specs.Text.{marks_of}
 use Rattle.pl_infer.specs.Causes.{IsFault}
 use Rattle.pl_read.specs.Refusals.{index_past}
 use Rattle.pl_read.specs.Rows.{with_index, data_frame}
@@ -11,11 +14,16 @@ use Rattle.pl_read.proofs.ProjectionLaws.{projected-rises, projected-below}
 use Rattle.pl_read.proofs.DataLaws.{faulty-cause, columns-are, IsFrame-indexed, data_cause-index, data_frame-is, readable-places}
 use Rattle.pl_read.proofs.reading.read_data.Goals as goal
 
-pub read_columns-requires-clause-rising : goal.read_columns-requires-clause-rising
-read_columns-requires-clause-rising c = subst (AreRising 0 (length c.args.schema.now)) (sym c.requires.plan_is.places_are) (projected-rises c.args.options.now c.args.schema.now)
+pub read_columns_in_pieces-requires-clause-dialect : goal.read_columns_in_pieces-requires-clause-dialect
+read_columns_in_pieces-requires-clause-dialect c =
+    let o = c.args.options.now in
+    subst (λ m. IsDialect m (scan_comment_of c.args.plan.now.dialect)) (sym c.requires.plan_is.marks_are) (subst (IsDialect (marks_of o.parse_options)) (sym c.requires.plan_is.comment_is) c.requires.dialect)
 
-pub read_columns-requires-clause-readable : goal.read_columns-requires-clause-readable
-read_columns-requires-clause-readable c =
+pub read_columns_in_pieces-requires-clause-rising : goal.read_columns_in_pieces-requires-clause-rising
+read_columns_in_pieces-requires-clause-rising c = subst (AreRising 0 (length c.args.schema.now)) (sym c.requires.plan_is.places_are) (projected-rises c.args.options.now c.args.schema.now)
+
+pub read_columns_in_pieces-requires-clause-readable : goal.read_columns_in_pieces-requires-clause-readable
+read_columns_in_pieces-requires-clause-readable c =
     readable-places c.args.schema.now c.args.plan.now.projection.places.now c.requires.readable (projected-below c.args.options.now c.args.schema.now c.args.plan.now.projection.places.now c.requires.plan_is.places_are)
 
 pub returns-in-Fault-clause-refused : goal.returns-in-Fault-clause-refused

@@ -4,7 +4,7 @@ use Rattle.pl_frame.specs.declared.error.PolarsError.TheVariants as error
 use Rattle.pl_cells.specs.NullValues.{HaveTexts}
 use Rattle.pl_read.specs.Projection.{projected}
 use Rattle.pl_infer.specs.Causes.{when}
-use Rattle.pl_read.proofs.DataLaws.{may-apart, texts-compiled}
+use Rattle.pl_read.proofs.DataLaws.{may-dialect, may-pieces, texts-compiled}
 use Rattle.pl_read.proofs.reading.read_projected.Goals as goal
 
 pub read_data-requires : goal.read_data-requires
@@ -16,7 +16,8 @@ read_data-requires c =
     ap (λ places. length places == 0 && nat_lt 0 (length records)) (sym c.requires.places) ∙ sym c.is_nothing_read.ensures ∙ c.if-is_nothing_read.false in
     record {
       plan_is = c.plan_of-plan.ensures.plan;
-      apart = may-apart o c.requires.allowed;
+      dialect = may-dialect o c.requires.allowed;
+      pieces = may-pieces o c.requires.allowed;
       readable = c.requires.readable;
       texts = subst (λ nulls. HaveTexts nulls (length schema)) (sym c.plan_of-plan.ensures.nulls) (texts-compiled c.args.null_values o.parse_options.null_values schema c.requires.compiled);
       distinct = c.plan_of-plan.ensures.distinct;

@@ -1,12 +1,12 @@
 use Rattle.std.proofs.Common.{◌≡◌, sym, subst}
 use Rattle.std.specs.Prelude.{IfOk, OnOk, IfErr, None}
 use Rattle.pl_infer.specs.Causes.{IsFault}
-use Rattle.pl_read.proofs.DataLaws.{may-apart}
+use Rattle.pl_read.proofs.DataLaws.{may-dialect}
 use Rattle.pl_read.proofs.SettlingLaws.{copy-schema, copy-sound, copy-refused, schema-inferred, cause-inferred}
 use Rattle.pl_read.proofs.settling.schema_of.Goals as goal
 
 pub inferred_schema-requires : goal.inferred_schema-requires
-inferred_schema-requires c = may-apart c.args.options.now c.requires
+inferred_schema-requires c = (may-dialect c.args.options.now c.requires).distinct
 
 pub returns-in-Some : goal.returns-in-Some
 returns-in-Some c =

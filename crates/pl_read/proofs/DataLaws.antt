@@ -133,11 +133,11 @@ names-read : (rules : RowRules) (given : List Row) (schema : List Entry) (places
 names-read rules given schema [] = refl
 names-read rules given schema (place ∷ places) = ap (λ l. (entry_at schema place).0 ∷ l) (names-read rules given schema places)
 
-names-entries : (schema : List Entry) (places : List ℕ) → names_in (map (λ (column : ℕ × Entry). column.1) (entries_in schema places)) ≡ map (λ place. (entry_at schema place).0) places
+pub names-entries : (schema : List Entry) (places : List ℕ) → names_in (map (λ (column : ℕ × Entry). column.1) (entries_in schema places)) ≡ map (λ place. (entry_at schema place).0) places
 names-entries schema [] = refl
 names-entries schema (place ∷ places) = ap (λ l. (entry_at schema place).0 ∷ l) (names-entries schema places)
 
-name-at : (schema : List Entry) (k : ℕ) (d : List ℕ) → k < length schema → (entry_at schema k).0 ≡ get_or (names_in schema) k d
+pub name-at : (schema : List Entry) (k : ℕ) (d : List ℕ) → k < length schema → (entry_at schema k).0 ≡ get_or (names_in schema) k d
 name-at [] k d l = absurd (omega arith)
 name-at (entry ∷ schema) zero d l = refl
 name-at (entry ∷ schema) (suc k) d l = name-at schema k d (omega arith)
@@ -157,7 +157,7 @@ apart-all schema distinct i j d below within e =
     distinct i j [] below (omega (arith, far, length-map schema (λ (entry : Entry). entry.0))) (sym (name-at schema i [] near) ∙ same ∙ name-at schema j [] far)
 
 -- pairs of what is made of elements
-pairs-map : {X : Type 0} (f : ℕ → X) (R : X → X → Type 0) (xs : List ℕ) → AllPairs (λ a b. R (f a) (f b)) xs → AllPairs R (map f xs)
+pub pairs-map : {X : Type 0} (f : ℕ → X) (R : X → X → Type 0) (xs : List ℕ) → AllPairs (λ a b. R (f a) (f b)) xs → AllPairs R (map f xs)
 pairs-map f R xs all i j d below within =
     let far : j < length xs = omega (arith, within, length-map xs f) in
     let near : i < length xs = omega (arith, below, far) in

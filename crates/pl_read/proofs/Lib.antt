@@ -10,3 +10,4 @@ pub mod LimitLaws
 pub mod SelectionLaws
 pub mod PrefixLaws
 pub mod EmptyLaws
+pub mod ChunkLaws

@@ -10,3 +10,4 @@ pub mod Slices
 pub mod CsvReader
 pub mod ReaderMakers
 pub mod Laws
+pub mod Chunk

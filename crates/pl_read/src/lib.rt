@@ -3,6 +3,7 @@
 
 pub mod bytes_reader;
 pub mod checks;
+pub mod chunk;
 pub mod csv_reader;
 mod indexing;
 pub mod laws;

@@ -265,6 +265,17 @@ impl Column {
         }
     }
 
+    /// The texts, where they are kept one by one, without taking memory.
+    #[inline]
+    pub fn kept_texts(&self) -> Option<&Texts>
+        ensures { IfSome result (λ texts. text_cells texts.now ≡ self.now.values) }
+    {
+        match &self.kept {
+            Data::String(texts) => Some(texts),
+            _ => None,
+        }
+    }
+
     /// The dictionary, without taking memory: of an enum its categories, and of a `Categorical` column its texts, each
     /// once, in order of first appearance.
     pub fn categories(&self) -> &[PlSmallStr]

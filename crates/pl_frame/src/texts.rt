@@ -14,6 +14,14 @@ pub struct Texts {
     present: Vec<bool>,
 }
 
+/// A text as a part of a buffer, in which other texts may lie too.
+#[derive(Clone, Copy, Debug)]
+pub struct TextPart<'a> {
+    pub buffer: &'a [u8],
+    pub begin: usize,
+    pub end: usize,
+}
+
 impl Model for Texts {
     ghost use Rattle.std.specs.Prelude.{ℕ, List, Option};
     ghost use Rattle.pl_frame.specs.Optional.{flagged, parts_between, AreTexts};
@@ -127,6 +135,26 @@ impl Texts {
         if self.present[i] {
             let begin = begin_of(&self.ends, i);
             Some(text_between(&self.bytes, begin, self.ends[i]))
+        } else {
+            None
+        }
+    }
+
+    /// The text at a place as a part of the buffer that all texts lie in, or a null, without taking memory.
+    #[inline]
+    pub fn part(&self, i: usize) -> Option<TextPart<'_>>
+        requires { i < length self.now }
+        ensures null { IfNone result (slice_get self.now i ≡ Some None) }
+        ensures text { IfSome result (λ part. slice_get self.now i ≡ Some (Some (slice_range part.buffer.now part.begin part.end))) }
+        ensures ordered { IfSome result (λ part. part.begin ≤ part.end) }
+        ensures within { IfSome result (λ part. part.end ≤ length part.buffer.now) }
+    {
+        if self.present[i] {
+            Some(TextPart {
+                buffer: &self.bytes,
+                begin: begin_of(&self.ends, i),
+                end: self.ends[i],
+            })
         } else {
             None
         }

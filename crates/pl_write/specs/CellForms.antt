@@ -3,7 +3,7 @@ use Rattle.std.specs.Prelude.{◌≡◌, ℕ, ℤ, List, Option, None, Some}
 use Rattle.std.specs.Fmt.{signed_decimal}
 use Rattle.pl_frame.specs.declared.data_type.DataType.{DataType}
 use Rattle.pl_frame.specs.Printed.{number_text}
-use Rattle.pl_frame.specs.Text.{WriteOptions, written_null, written_value}
+use Rattle.pl_frame.specs.Text.{WriteOptions, written_null, written_text, written_value}
 use Rattle.pl_frame.specs.Types.{is_numeric}
 use Rattle.pl_write.specs.declared.cell_form.CellForm.{CellForm}
 use Rattle.pl_write.specs.declared.cell_form.CellForm.TheVariants as form
@@ -14,7 +14,12 @@ FitsForm form.Digits o type = (n : ℤ) → written_value o (is_numeric type) (n
 FitsForm form.AsNeeded o type = o.style ≡ 0
 FitsForm form.ByCell o type = Unit {0}
 
--- the digits of a number, or what stands for a null
-abbrev pub digits_or_null : WriteOptions → Option ℤ → List ℕ
-digits_or_null o None = written_null o
-digits_or_null o (Some n) = signed_decimal n
+-- the text of a number, or what stands for a null
+abbrev pub number_or_null : (ℤ → List ℕ) → WriteOptions → Option ℤ → List ℕ
+number_or_null text o None = written_null o
+number_or_null text o (Some n) = text n
+
+-- a text, or what stands for a null
+abbrev pub text_or_null : WriteOptions → Option (List ℕ) → List ℕ
+text_or_null o None = written_null o
+text_or_null o (Some text) = written_text o text

@@ -1,28 +1,25 @@
 //! Cells, put into a block from a place on. A cell for which there is no room is not put.
-ghost use Rattle.std.specs.Prelude.{◌≡◌, true, ◌<◌, ◌++◌, ◌+◌, ◌*◌, ◌≤◌, length, take, None, unwrap_or, slice_get, IfSome, IfNone};
+ghost use Rattle.std.specs.Prelude.{◌≡◌, true, ◌<◌, ◌++◌, ◌+◌, ◌*◌, ◌≤◌, length, take, IfSome, IfNone};
 ghost use Rattle.pl_frame.specs.Columns.{is_number_of};
 ghost use Rattle.pl_frame.specs.Frame.{Truth, cell_at};
 ghost use Rattle.pl_frame.specs.Printed.{number_text, printed};
 ghost use Rattle.pl_frame.specs.Text.{written_cell, written_value, written_text};
 ghost use Rattle.pl_frame.specs.Types.{is_numeric};
-ghost use Rattle.pl_write.specs.CellForms.{FitsForm, digits_or_null};
-ghost use Rattle.pl_write.specs.CellSources.{IsSourceOf};
+ghost use Rattle.pl_write.specs.CellForms.{FitsForm};
 ghost use Rattle.pl_write.specs.Options.{cell_options};
 ghost use Rattle.pl_write.specs.declared.cell_form.CellForm.TheVariants as CellForm;
 
 use crate::cell_form::CellForm;
-use crate::cell_source::CellSource;
 use crate::options::{QuoteStyle, SerializeOptions};
 use crate::put_decimals::put_decimal;
 use crate::put_texts::{put_as_needed, put_null, put_quoted};
 use crate::put_times::{put_date, put_datetime, put_time};
-use crate::put_wholes::{put_narrow, put_whole};
+use crate::put_wholes::put_whole;
 use crate::puts::put_bytes;
 use crate::spare::Spare;
 use crate::values::{is_quoted, push_number_cell};
 use pl_frame::column::{Column, Value};
 use pl_frame::data_type::DataType;
-use pl_frame::numbers::Numbers;
 
 // Puts a text, quoted as the style asks.
 fn put_text_by_style(to: &mut [u8], at: usize, text: &[u8], options: &SerializeOptions) -> usize
@@ -40,9 +37,9 @@ fn put_text_by_style(to: &mut [u8], at: usize, text: &[u8], options: &SerializeO
     }
 }
 
-// Puts a text, quoted as the style asks, where there is room.
-#[inline]
-fn put_text_in(
+/// Puts a text, quoted as the style asks, where there is room.
+#[inline(never)]
+pub(crate) fn put_text_in(
     to: &mut [u8],
     at: usize,
     text: &[u8],
@@ -202,9 +199,9 @@ fn put_truth_cell(
     }
 }
 
-// Puts the cell of any column, in its form.
-#[inline]
-fn put_value(
+/// Puts the cell of any column, in its form.
+#[inline(never)]
+pub(crate) fn put_value(
     to: &mut [u8],
     at: usize,
     spare: &mut Spare,
@@ -227,50 +224,5 @@ fn put_value(
         Value::Whole(number) => {
             put_number_in(to, at, spare, column.dtype(), form, number, options)
         }
-    }
-}
-
-// Puts the digits of a number kept in 64 bits, or what stands for a null.
-#[inline(always)]
-fn put_narrow_cell(
-    to: &mut [u8],
-    at: usize,
-    numbers: &Numbers<i64>,
-    row: usize,
-    options: &SerializeOptions,
-) -> Option<usize>
-    requires room { at + 48 ≤ length to.old }
-    requires row { row < length numbers.now }
-    ensures text { IfSome result (λ end. take end to.new ≡ take at to.old ++ digits_or_null (cell_options options.now) (unwrap_or (slice_get numbers.now row) None)) }
-    ensures within { IfSome result (λ end. end ≤ length to.new) }
-    ensures unchanged { IfNone result (to.new ≡ to.old) }
-{
-    match numbers.get(row) {
-        Some(number) => Some(put_narrow(to, at, number)),
-        None => put_null(to, at, options),
-    }
-}
-
-/// Puts the cell of a column, which comes from this source.
-#[inline(always)]
-pub(crate) fn put_cell(
-    to: &mut [u8],
-    at: usize,
-    spare: &mut Spare,
-    column: &Column,
-    source: &CellSource<'_>,
-    row: usize,
-    options: &SerializeOptions,
-) -> Option<usize>
-    requires room { at + 48 ≤ length to.old }
-    requires row { row < length column.now.values }
-    requires source { IsSourceOf source.now (cell_options options.now) column.now }
-    ensures text { IfSome result (λ end. take end to.new ≡ take at to.old ++ written_cell (cell_options options.now) column.now.dtype (cell_at column.now row)) }
-    ensures within { IfSome result (λ end. end ≤ length to.new) }
-    ensures unchanged { IfNone result (to.new ≡ to.old) }
-{
-    match source {
-        CellSource::Digits(numbers) => put_narrow_cell(to, at, numbers, row, options),
-        CellSource::Cells(form) => put_value(to, at, spare, column, *form, row, options),
     }
 }

@@ -69,8 +69,31 @@ fn put_scaled(to: &mut [u8], at: usize, size: u64, scale: usize) -> usize
     }
 }
 
-/// Puts a decimal number of which 10^scale make one: a minus below zero, and digits with a point before the last `scale` of
-/// them. Nothing is put where it has no places, more than seven, or more than sixteen digits.
+/// Puts a decimal number of 64 bits of which 10^scale make one: a minus below zero, and digits with a point before the last
+/// `scale` of them. Nothing is put where it has more than sixteen digits.
+#[inline(always)]
+pub(crate) fn put_narrow_decimal(
+    to: &mut [u8],
+    at: usize,
+    number: i64,
+    scale: usize,
+) -> Option<usize>
+    requires room { at + 26 ≤ length to.old }
+    requires some { 1 ≤ scale }
+    requires few { scale ≤ 7 }
+    ensures text { IfSome result (λ end. take end to.new ≡ take at to.old ++ decimal_text scale number) }
+    ensures within { IfSome result (λ end. end ≤ at + 18) }
+    ensures unchanged { IfNone result (to.new ≡ to.old) }
+{
+    let size = number.unsigned_abs();
+    if size >= 10_000_000_000_000_000 {
+        return None;
+    }
+    let behind = put_byte_if(to, at, b'-', number < 0);
+    Some(put_scaled(to, behind, size, scale))
+}
+
+/// Puts a decimal number of any width. Nothing is put where it has no places, more than seven, or more than sixteen digits.
 #[inline]
 pub(crate) fn put_decimal(to: &mut [u8], at: usize, number: i128, scale: u32) -> Option<usize>
     requires room { at + 26 ≤ length to.old }
@@ -78,10 +101,11 @@ pub(crate) fn put_decimal(to: &mut [u8], at: usize, number: i128, scale: u32) ->
     ensures within { IfSome result (λ end. end ≤ at + 18) }
     ensures unchanged { IfNone result (to.new ≡ to.old) }
 {
-    let size = number.unsigned_abs();
-    if scale == 0 || scale > 7 || size >= 10_000_000_000_000_000 {
+    if scale == 0 || scale > 7 {
         return None;
     }
-    let behind = put_byte_if(to, at, b'-', number < 0);
-    Some(put_scaled(to, behind, size as u64, scale as usize))
+    match i64::try_from(number) {
+        Ok(number) => put_narrow_decimal(to, at, number, scale as usize),
+        Err(_) => None,
+    }
 }

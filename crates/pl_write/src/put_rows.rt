@@ -7,13 +7,13 @@ ghost use Rattle.pl_write.specs.Writing.{separator_before, HasRow};
 
 use crate::cell_source::CellSource;
 use crate::options::SerializeOptions;
-use crate::put_cells::put_cell;
+use crate::put_sources::put_cell;
 use crate::puts::{put_byte_if, put_bytes};
 use crate::spare::Spare;
 use pl_frame::column::Column;
 
-// A separator and a cell that is no text need no more room.
-const ROOM: usize = 49;
+// A separator and a cell that is no long text need no more room.
+const ROOM: usize = 67;
 
 // Puts a separator, but before the first of a line.
 #[inline(always)]
@@ -64,7 +64,7 @@ pub(crate) fn put_row(
             return None;
         }
         let front = put_separator(to, at, options.separator, place);
-        match put_cell(to, front, spare, column, &sources[place], row, options) {
+        match put_cell(to, front, spare, column, sources[place], row, options) {
             Some(end) => at = end,
             None => return None,
         }

@@ -94,9 +94,9 @@ fn put_places(to: &mut [u8], at: usize, unit: TimeUnit, rest: u32) -> usize
     }
 }
 
-// Puts a datetime whose count fits 64 bits.
+/// Puts a datetime whose count fits 64 bits.
 #[inline]
-fn put_narrow_datetime(to: &mut [u8], at: usize, unit: TimeUnit, count: i64) -> usize
+pub(crate) fn put_narrow_datetime(to: &mut [u8], at: usize, unit: TimeUnit, count: i64) -> usize
     requires room { at + 29 ≤ length to.old }
     requires count { is_within (datetime_range (units_in_second unit)) count ≡ true }
     ensures text { take result to.new ≡ take at to.old ++ datetime_text unit count }

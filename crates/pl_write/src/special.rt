@@ -1,7 +1,7 @@
 //! Whether a text holds a special byte, which only a quoted text may hold. Two loads that overlap cover a short text.
-ghost use Rattle.std.specs.Prelude.{◌≡◌, ◌+◌, ◌≤◌, length};
+ghost use Rattle.std.specs.Prelude.{◌≡◌, ◌+◌, ◌≤◌, length, not};
 ghost use Rattle.std.specs.Bool.{OnTrue};
-ghost use Rattle.std.specs.List.{list_any};
+ghost use Rattle.std.specs.List.{list_any, prefix_len};
 ghost use Rattle.pl_frame.specs.Text.{is_special};
 ghost use Rattle.pl_write.specs.Special.{HasNoSpecial};
 
@@ -75,6 +75,20 @@ pub(crate) fn is_clear_4_to_8(text: &[u8], separator: u8, quote: u8) -> bool
     ensures { OnTrue result (HasNoSpecial separator quote text.now 0 (length text.now)) }
 {
     is_clear_4(text, 0, separator, quote) && is_clear_4(text, text.len() - 4, separator, quote)
+}
+
+/// How many of 32 bytes stand before the first special one.
+#[inline(always)]
+pub(crate) fn clear_count(bytes: &[u8], separator: u8, quote: u8) -> usize
+    requires { length bytes.now ≡ 32 }
+    ensures { result ≡ prefix_len (λ x. not (is_special separator quote x)) bytes.now }
+{
+    let v = u8x32::from_slice(bytes);
+    let special = (v.simd_eq(u8x32::splat(separator))
+        | v.simd_eq(u8x32::splat(b'\n'))
+        | v.simd_eq(u8x32::splat(b'\r'))
+        | v.simd_eq(u8x32::splat(quote))).to_bitmask();
+    if special == 0 { 32 } else { special.trailing_zeros() as usize }
 }
 
 // True only where no special byte is there.

@@ -1,5 +1,6 @@
 //! The text of a frame, written in blocks.
 ghost use Rattle.std.specs.Prelude.{◌≡◌, true, ◌<◌, ◌++◌, ◌≤◌, [], length, None, unwrap_or, slice_get, IfOk, OnOk, IsErrOf, if◌then◌else◌};
+ghost use Rattle.std.specs.Fmt.{signed_decimal};
 ghost use Rattle.std.specs.Io.KnownBytes.{Appends};
 ghost use Rattle.pl_frame.specs.Causes.{Rose};
 ghost use Rattle.pl_frame.specs.Columns.{is_number_of};
@@ -8,7 +9,7 @@ ghost use Rattle.pl_frame.specs.Frame.{cell_at, HaveHeight, height_of, names_of}
 ghost use Rattle.pl_frame.specs.Printed.{number_text};
 ghost use Rattle.pl_frame.specs.Text.{written_cell, written_value, written_text, header_line, head_text, byte_order_mark, text_of_frame};
 ghost use Rattle.pl_write.specs.Options.{cell_options, frame_options};
-ghost use Rattle.pl_write.specs.CellForms.{FitsForm, digits_or_null};
+ghost use Rattle.pl_write.specs.CellForms.{FitsForm, number_or_null};
 ghost use Rattle.pl_write.specs.declared.cell_form.CellForm.TheVariants as CellForm;
 ghost use Rattle.pl_write.specs.Writing.{separator_before, AppendsPrefix, StaysInFront};
 
@@ -107,7 +108,7 @@ fn push_narrow_cell(
     options: &SerializeOptions,
 ) -> Result<(), AllocError>
     requires { row < length numbers.now }
-    ensures text { OnOk result (block.new.items ≡ block.old.items ++ digits_or_null (cell_options options.now) (unwrap_or (slice_get numbers.now row) None)) }
+    ensures text { OnOk result (block.new.items ≡ block.old.items ++ number_or_null signed_decimal (cell_options options.now) (unwrap_or (slice_get numbers.now row) None)) }
     ensures kept { StaysInFront block.old.items block.new.items }
 {
     match numbers.get(row) {

@@ -29,13 +29,21 @@ fn are_equal(options: &CsvReadOptions, others: &CsvReadOptions) -> bool {
     *options == *others
 }
 
+// Options of which a function changed the separator.
+fn with_semicolon(alloc: Global) -> CsvReadOptions {
+    let options = CsvReadOptions::new(alloc);
+    options.map_parse_options(|options| options.with_separator(b';'))
+}
+
 #[test]
-fn a_function_changes_the_options_of_the_parse_alone(rt: HostRuntime) {
-    let options = CsvReadOptions::new(rt.alloc()).map_parse_options(
-        |options| options.with_separator(b';'),
-    );
+fn a_function_changes_the_options_of_the_parse(rt: HostRuntime) {
+    let options = with_semicolon(rt.alloc());
     assert!(rt; options.get_parse_options().separator == b';');
-    let options = options.with_parse_options(CsvParseOptions::new());
+}
+
+#[test]
+fn a_function_changes_no_other_options(rt: HostRuntime) {
+    let options = with_semicolon(rt.alloc()).with_parse_options(CsvParseOptions::new());
     assert!(rt; are_equal(&options, &CsvReadOptions::new(rt.alloc())));
 }
 
@@ -72,15 +80,21 @@ fn with_plain_values(options: CsvReadOptions) -> CsvReadOptions {
         .with_ignore_errors(true)
 }
 
-// Whether options are equal to their copy, which skips so many lines, until its limit changes.
-fn differ_by_limit(rt: &impl Abort, options: &CsvReadOptions, lines: usize) -> bool {
+// Whether options are equal to their copy, which skips so many lines.
+fn have_equal_copy(rt: &impl Abort, options: &CsvReadOptions, lines: usize) -> bool {
     let copy = options.try_clone().expect(rt, "a copy");
-    let equal = are_equal(&copy, options) && copy.skip_lines == lines;
-    equal && !are_equal(&copy.with_n_rows(None), options)
+    are_equal(&copy, options) && copy.skip_lines == lines
+}
+
+// Whether options differ from their copy without a limit.
+fn differ_by_limit(rt: &impl Abort, options: &CsvReadOptions) -> bool {
+    let copy = options.try_clone().expect(rt, "a copy");
+    !are_equal(&copy.with_n_rows(None), options)
 }
 
 #[test]
 fn a_copy_has_what_was_set(rt: HostRuntime) {
     let options = with_plain_values(selective(&rt, rt.alloc()));
-    assert!(rt; differ_by_limit(&rt, &options, 5));
+    assert!(rt; have_equal_copy(&rt, &options, 5));
+    assert!(rt; differ_by_limit(&rt, &options));
 }

@@ -5,27 +5,42 @@ use pl_frame::data_type::DataType;
 use pl_infer::read_options::CsvReadOptions;
 use pl_infer::reader_bytes::ReaderBytes;
 use pl_schema::inference_result::{SchemaInferenceResult, UpdateWithInferenceResult};
+use std::alloc::Global;
 use std::process::Abort;
 
+// What is inferred of a text by default.
+fn inferred(rt: &impl Abort, alloc: Global) -> SchemaInferenceResult {
+    let text = ReaderBytes::Borrowed(b"a,b\n1,x\n");
+    let options = CsvReadOptions::new(alloc);
+    let read = SchemaInferenceResult::try_from_reader_bytes_and_options(alloc, &text, &options);
+    read.expect(rt, "a result")
+}
+
 // What was read is told, and a copy has the same schema.
-fn assert_read(rt: &impl Abort, read: &SchemaInferenceResult, copy: &SchemaInferenceResult) {
+fn assert_read(rt: &impl Abort, read: &SchemaInferenceResult) {
     assert!(rt; read.rows_read == 1 && read.bytes_read == 7 && read.bytes_total == 8);
+    let copy = read.try_clone().expect(rt, "a copy");
     assert!(rt; *copy.get_inferred_schema() == *read.get_inferred_schema());
     assert!(rt; copy.get_estimated_n_rows() == 1);
 }
 
 #[test]
-fn a_result_is_inferred_and_sets_workers(rt: HostRuntime) {
-    let alloc = rt.alloc();
-    let text = ReaderBytes::Borrowed(b"a,b\n1,x\n");
+fn a_result_is_inferred(rt: HostRuntime) {
+    assert_read(&rt, &inferred(&rt, rt.alloc()));
+}
+
+// The workers of options that a result updates.
+fn workers_by(alloc: Global, read: &SchemaInferenceResult) -> Option<usize> {
     let mut options = CsvReadOptions::new(alloc);
-    let read = SchemaInferenceResult::try_from_reader_bytes_and_options(alloc, &text, &options);
-    let read = read.expect(&rt, "a result");
-    let mut copy = read.try_clone().expect(&rt, "a copy");
-    assert_read(&rt, &read, &copy);
-    copy.n_threads = Some(1);
-    options.update_with_inference_result(&copy);
-    assert!(rt; options.n_threads == Some(1));
+    options.update_with_inference_result(read);
+    options.n_threads
+}
+
+#[test]
+fn a_result_sets_workers(rt: HostRuntime) {
+    let mut read = inferred(&rt, rt.alloc());
+    read.n_threads = Some(1);
+    assert!(rt; workers_by(rt.alloc(), &read) == Some(1));
 }
 
 #[test]

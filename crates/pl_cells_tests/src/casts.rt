@@ -77,80 +77,101 @@ fn value_of(rt: &impl Abort, alloc: Global, text: &str, dtype: DataType) -> Opti
 
 #[test]
 fn texts_have_the_values_that_they_write(rt: HostRuntime) {
-    assert_eq!(rt;
-        value_of(&rt, rt.alloc(), "TRUE", DataType::Boolean),
-        Some(1)
-    );
-    assert_eq!(rt; value_of(&rt, rt.alloc(), "+7", DataType::Int8), Some(7));
-    assert_eq!(rt; value_of(&rt, rt.alloc(), "-1", DataType::UInt64), None);
+    let alloc = rt.alloc();
+    assert!(rt; value_of(&rt, alloc, "TRUE", DataType::Boolean) == Some(1));
+    assert!(rt; value_of(&rt, alloc, "+7", DataType::Int8) == Some(7));
+    assert!(rt; value_of(&rt, alloc, "-1", DataType::UInt64) == None);
     let greatest = "18446744073709551615";
-    assert_eq!(rt;
-        value_of(&rt, rt.alloc(), greatest, DataType::UInt64),
-        Some(u64::MAX as i128)
-    );
-    assert_eq!(rt;
-        value_of(&rt, rt.alloc(), greatest, DataType::Int128),
-        Some(u64::MAX as i128)
-    );
-    assert_eq!(rt; value_of(&rt, rt.alloc(), " 7", DataType::Int64), None);
-    assert_eq!(rt; value_of(&rt, rt.alloc(), "", DataType::Int64), None);
-    assert_eq!(rt;
-        value_of(&rt, rt.alloc(), "2024-02-29", DataType::Date),
-        Some(19782)
-    );
-    assert_eq!(rt;
-        value_of(&rt, rt.alloc(), "23:59:59.5", DataType::Time),
-        Some(86_399_500_000_000)
-    );
+    let value = Some(u64::MAX as i128);
+    assert!(rt; value_of(&rt, alloc, greatest, DataType::UInt64) == value);
+    assert!(rt; value_of(&rt, alloc, greatest, DataType::Int128) == value);
+    assert!(rt; value_of(&rt, alloc, " 7", DataType::Int64) == None);
+    assert!(rt; value_of(&rt, alloc, "", DataType::Int64) == None);
+}
+
+#[test]
+fn texts_have_the_moments_and_decimals_that_they_write(rt: HostRuntime) {
+    let alloc = rt.alloc();
+    assert!(rt; value_of(&rt, alloc, "2024-02-29", DataType::Date) == Some(19782));
+    let value = Some(86_399_500_000_000);
+    assert!(rt; value_of(&rt, alloc, "23:59:59.5", DataType::Time) == value);
+    let text = "1969-12-31T23:59:59.999";
     let dtype = DataType::Datetime(TimeUnit::Milliseconds);
-    assert_eq!(rt;
-        value_of(&rt, rt.alloc(), "1969-12-31T23:59:59.999", dtype),
-        Some(-1)
-    );
+    assert!(rt; value_of(&rt, alloc, text, dtype) == Some(-1));
     let dtype = DataType::Decimal(None, Some(1));
-    assert_eq!(rt; value_of(&rt, rt.alloc(), "1.50", dtype), Some(15));
+    assert!(rt; value_of(&rt, alloc, "1.50", dtype) == Some(15));
+}
+
+// Whether a frame is a column `a` of these texts.
+fn is_texts(rt: &impl Abort, alloc: Global, df: &DataFrame, first: &str, second: &str) -> bool {
+    df.equals(&texts(rt, alloc, first, second))
+}
+
+// Whether a frame is a column `a` of these numbers.
+fn is_int64s(
+    rt: &impl Abort,
+    alloc: Global,
+    df: &DataFrame,
+    first: i64,
+    second: Option<i64>,
+) -> bool {
+    df.equals(&int64s(rt, alloc, first, second))
+}
+
+// Whether a cast was refused for the second row.
+fn is_fault_of_second(refused: &PolarsResult<()>) -> bool {
+    matches!(
+        refused,
+        Err(PolarsError::ComputeError(ComputeFault::Record {
+            row: 1,
+            column: 0,
+            kind: FaultKind::Value,
+        }))
+    )
 }
 
 #[test]
 fn a_text_without_a_value_is_refused_or_null(rt: HostRuntime) {
-    let mut df = texts(&rt, rt.alloc(), "1", "x");
-    let refused = cast(&rt, rt.alloc(), &mut df, "a", DataType::Int64, false);
-    assert!(rt;
-        matches!(
-            refused,
-            Err(PolarsError::ComputeError(ComputeFault::Record {
-                row: 1,
-                column: 0,
-                kind: FaultKind::Value,
-            }))
-        )
-    );
-    assert!(rt; df.equals(&texts(&rt, rt.alloc(), "1", "x")));
-    assert!(rt; cast(&rt, rt.alloc(), &mut df, "a", DataType::Int64, true).is_ok());
-    assert!(rt; df.equals(&int64s(&rt, rt.alloc(), 1, None)));
+    let alloc = rt.alloc();
+    let mut df = texts(&rt, alloc, "1", "x");
+    let refused = cast(&rt, alloc, &mut df, "a", DataType::Int64, false);
+    assert!(rt; is_fault_of_second(&refused));
+    assert!(rt; is_texts(&rt, alloc, &df, "1", "x"));
+    let done = cast(&rt, alloc, &mut df, "a", DataType::Int64, true);
+    done.expect(&rt, "a cast");
+    assert!(rt; is_int64s(&rt, alloc, &df, 1, None));
+}
+
+// Whether a cast was refused for the types.
+fn is_fault_of_types(refused: &PolarsResult<()>) -> bool {
+    matches!(
+        refused,
+        Err(PolarsError::ComputeError(ComputeFault::Dtype { column: 0 }))
+    )
 }
 
 #[test]
 fn types_go_together_or_are_refused(rt: HostRuntime) {
-    let mut df = int64s(&rt, rt.alloc(), 300, Some(5));
-    let refused = cast(&rt, rt.alloc(), &mut df, "a", DataType::Date, true);
-    assert!(rt;
-        matches!(
-            refused,
-            Err(PolarsError::ComputeError(ComputeFault::Dtype { column: 0 }))
-        )
-    );
-    assert!(rt; cast(&rt, rt.alloc(), &mut df, "b", DataType::Date, false).is_ok());
-    assert!(rt; df.equals(&int64s(&rt, rt.alloc(), 300, Some(5))));
-    assert!(rt; cast(&rt, rt.alloc(), &mut df, "a", DataType::UInt8, true).is_ok());
-    assert_eq!(rt; first_number(&df), None);
+    let alloc = rt.alloc();
+    let mut df = int64s(&rt, alloc, 300, Some(5));
+    let refused = cast(&rt, alloc, &mut df, "a", DataType::Date, true);
+    assert!(rt; is_fault_of_types(&refused));
+    let done = cast(&rt, alloc, &mut df, "b", DataType::Date, false);
+    done.expect(&rt, "no cast");
+    assert!(rt; is_int64s(&rt, alloc, &df, 300, Some(5)));
+    let done = cast(&rt, alloc, &mut df, "a", DataType::UInt8, true);
+    done.expect(&rt, "a cast");
+    assert!(rt; first_number(&df) == None);
 }
 
 #[test]
 fn texts_become_categories_and_texts_again(rt: HostRuntime) {
-    let mut df = texts(&rt, rt.alloc(), "p", "q");
-    assert!(rt; cast(&rt, rt.alloc(), &mut df, "a", DataType::Categorical, false).is_ok());
-    assert!(rt; !df.equals(&texts(&rt, rt.alloc(), "p", "q")));
-    assert!(rt; cast(&rt, rt.alloc(), &mut df, "a", DataType::String, false).is_ok());
-    assert!(rt; df.equals(&texts(&rt, rt.alloc(), "p", "q")));
+    let alloc = rt.alloc();
+    let mut df = texts(&rt, alloc, "p", "q");
+    let done = cast(&rt, alloc, &mut df, "a", DataType::Categorical, false);
+    done.expect(&rt, "a cast");
+    assert!(rt; !is_texts(&rt, alloc, &df, "p", "q"));
+    let done = cast(&rt, alloc, &mut df, "a", DataType::String, false);
+    done.expect(&rt, "a cast");
+    assert!(rt; is_texts(&rt, alloc, &df, "p", "q"));
 }

@@ -9,7 +9,7 @@ use pl_cells::utf8::CsvEncoding;
 use pl_frame::codes::CodesBuilder;
 use pl_frame::column::Column;
 use pl_frame::data_type::DataType;
-use pl_frame::error::{ComputeFault, PolarsError};
+use pl_frame::error::{ComputeFault, PolarsError, PolarsResult};
 use pl_frame::schema::Schema;
 use pl_frame::texts::Texts;
 use std::alloc::Global;
@@ -75,43 +75,61 @@ fn series(rt: &impl Abort, buffer: Buffer) -> Column {
 fn a_decimal_without_a_scale_is_refused(rt: HostRuntime) {
     let schema = schema_of(&rt, rt.alloc(), DataType::Decimal(None, None));
     let refused = init_buffers(rt.alloc(), &[0], 4, &schema, None, CsvEncoding::Utf8);
-    assert!(rt;
-        matches!(
-            refused,
-            Err(PolarsError::ComputeError(ComputeFault::Dtype { column: 0 }))
-        )
-    );
+    assert!(rt; is_fault_of_type(&refused));
+}
+
+// Whether buffers were refused for the type of the first column.
+fn is_fault_of_type(refused: &PolarsResult<Vec<Buffer>>) -> bool {
+    matches!(
+        refused,
+        Err(PolarsError::ComputeError(ComputeFault::Dtype { column: 0 }))
+    )
+}
+
+// Puts a number and a null into a buffer, and what it cuts off again.
+fn fill_numbers(rt: &impl Abort, buffer: &mut Buffer) {
+    assert!(rt; fault(buffer, b"x") == Some(CellFault::Value));
+    assert!(rt; buffer.len() == 0);
+    assert!(rt; fault(buffer, b" 5") == None);
+    buffer.add_null(true).expect(rt, "a null");
+    assert!(rt; fault(buffer, b"6") == None);
+    buffer.truncate(2);
+    assert!(rt; buffer.dtype().expect(rt, "a type") == DataType::Int64);
 }
 
 #[test]
 fn numbers_lose_blanks_in_front(rt: HostRuntime) {
     let mut buffer = buffer_of(&rt, rt.alloc(), DataType::Int64);
-    assert_eq!(rt; fault(&mut buffer, b"x"), Some(CellFault::Value));
-    assert_eq!(rt; buffer.len(), 0);
-    assert_eq!(rt; fault(&mut buffer, b" 5"), None);
-    assert!(rt; buffer.add_null(true).is_ok());
-    assert_eq!(rt; fault(&mut buffer, b"6"), None);
-    buffer.truncate(2);
-    assert!(rt; buffer.dtype().expect(&rt, "a type") == DataType::Int64);
+    fill_numbers(&rt, &mut buffer);
     assert!(rt; is_int64(&rt, rt.alloc(), &series(&rt, buffer), 5));
+}
+
+// Puts two texts into a buffer, with faults between them.
+fn fill_texts(rt: &impl Abort, buffer: &mut Buffer) {
+    assert!(rt; fault(buffer, b"\"a\"b\"c\"") == None);
+    assert!(rt; fault(buffer, b"\"") == Some(CellFault::Escape));
+    assert!(rt; fault(buffer, b"\xFF") == Some(CellFault::Utf8));
+    buffer.add_null(true).expect(rt, "an empty text");
 }
 
 #[test]
 fn strings_are_undoubled(rt: HostRuntime) {
     let mut buffer = buffer_of(&rt, rt.alloc(), DataType::String);
-    assert_eq!(rt; fault(&mut buffer, b"\"a\"b\"c\""), None);
-    assert_eq!(rt; fault(&mut buffer, b"\""), Some(CellFault::Escape));
-    assert_eq!(rt; fault(&mut buffer, b"\xFF"), Some(CellFault::Utf8));
-    assert!(rt; buffer.add_null(true).is_ok());
+    fill_texts(&rt, &mut buffer);
     assert!(rt; is_string(&rt, rt.alloc(), &series(&rt, buffer), "abc", ""));
+}
+
+// Puts a category and a null into a buffer, and what it cuts off again.
+fn fill_categories(rt: &impl Abort, buffer: &mut Buffer) {
+    assert!(rt; fault(buffer, b"\"\"") == None);
+    assert!(rt; buffer.add(b"", false, false, false).is_ok());
+    assert!(rt; fault(buffer, b"q") == None);
+    buffer.truncate(2);
 }
 
 #[test]
 fn an_empty_category_stands_between_quotes(rt: HostRuntime) {
     let mut buffer = buffer_of(&rt, rt.alloc(), DataType::Categorical);
-    assert_eq!(rt; fault(&mut buffer, b"\"\""), None);
-    assert!(rt; buffer.add(b"", false, false, false).is_ok());
-    assert_eq!(rt; fault(&mut buffer, b"q"), None);
-    buffer.truncate(2);
+    fill_categories(&rt, &mut buffer);
     assert!(rt; is_category(&rt, rt.alloc(), &series(&rt, buffer), ""));
 }

@@ -1,32 +1,40 @@
 //! Tests of `pl_cells::null_values`.
 
+use crate::given::name;
 use pl_cells::null_values::{NamedTexts, NullTexts, NullValues, NullValuesCompiled};
 use pl_frame::data_type::DataType;
-use pl_frame::error::PolarsError;
-use pl_frame::name::PlSmallStr;
+use pl_frame::error::{PolarsError, PolarsResult};
 use pl_frame::schema::Schema;
 use std::alloc::Global;
-use std::test::Fail;
+use std::process::Abort;
 
 // The schema of the columns `a` and `b` of strings.
-fn two_columns(alloc: Global) -> Result<Schema, Fail> {
+fn two_columns(rt: &impl Abort, alloc: Global) -> Schema {
     let mut schema = Schema::new(alloc);
-    schema.with_column(PlSmallStr::from_str(alloc, "a")?, DataType::String)?;
-    schema.with_column(PlSmallStr::from_str(alloc, "b")?, DataType::String)?;
-    Ok(schema)
+    for text in ["a", "b"] {
+        let added = schema.with_column(name(rt, alloc, text), DataType::String);
+        added.expect(rt, "a column");
+    }
+    schema
 }
 
 // The null values of two entries for one name.
-fn named(alloc: Global, name: &str) -> Result<NullValues, Fail> {
-    let first = (
-        PlSmallStr::from_str(alloc, name)?,
-        PlSmallStr::from_str(alloc, "-")?,
-    );
-    let last = (
-        PlSmallStr::from_str(alloc, name)?,
-        PlSmallStr::from_str(alloc, "NA")?,
-    );
-    Ok(NullValues::Named(NamedTexts::new(vec![in alloc; first, last]?)))
+fn named(rt: &impl Abort, alloc: Global, column: &str) -> NullValues {
+    let mut entries = Vec::new(alloc);
+    for text in ["-", "NA"] {
+        let entry = (name(rt, alloc, column), name(rt, alloc, text));
+        entries.push(entry).expect(rt, "an entry");
+    }
+    NullValues::Named(NamedTexts::new(entries))
+}
+
+// Null values that are these texts.
+fn texts(rt: &impl Abort, alloc: Global, given: &[&str]) -> NullTexts {
+    let mut texts = Vec::new(alloc);
+    for text in given {
+        texts.push(name(rt, alloc, text)).expect(rt, "a text");
+    }
+    NullTexts::new(texts)
 }
 
 // How many names with texts are given back.
@@ -47,57 +55,70 @@ fn is_null_in(values: &NullValuesCompiled, text: &[u8], column: usize) -> Option
     }
 }
 
-#[test]
-fn named_texts_mean_null_in_their_columns(rt: HostRuntime) -> Result<(), Fail> {
-    let alloc = rt.alloc();
-    let schema = two_columns(alloc)?;
-    let compiled = named(alloc, "a")?
-        .try_clone()?
-        .compile(alloc, &schema)?
-        .try_clone()?;
-    assert_eq!(rt; is_null_in(&compiled, b"NA", 0), Some(true));
-    assert_eq!(rt; is_null_in(&compiled, b"-", 0), Some(false));
-    assert_eq!(rt; is_null_in(&compiled, b"NA", 1), Some(false));
-    assert_eq!(rt; is_null_in(&compiled, b"", 1), Some(true));
-    assert_eq!(rt; is_null_in(&compiled, b"", 2), None);
-    Ok(())
+// What null values mean in the columns of a schema.
+fn compiled(
+    rt: &impl Abort,
+    alloc: Global,
+    values: &NullValues,
+    schema: &Schema,
+) -> NullValuesCompiled {
+    let copy = values.try_clone().expect(rt, "a copy");
+    copy.compile(alloc, schema).expect(rt, "texts of columns")
+}
+
+// The texts of the name `a` are those of the first column alone.
+fn assert_named(rt: &impl Abort, compiled: &NullValuesCompiled) {
+    assert!(rt; is_null_in(compiled, b"NA", 0) == Some(true));
+    assert!(rt; is_null_in(compiled, b"-", 0) == Some(false));
+    assert!(rt; is_null_in(compiled, b"NA", 1) == Some(false));
+    assert!(rt; is_null_in(compiled, b"", 1) == Some(true));
+    assert!(rt; is_null_in(compiled, b"", 2) == None);
 }
 
 #[test]
-fn null_values_are_compared_and_given_back(rt: HostRuntime) -> Result<(), Fail> {
+fn named_texts_mean_null_in_their_columns(rt: HostRuntime) {
     let alloc = rt.alloc();
-    let values = named(alloc, "a")?;
-    let copy = values.try_clone()?;
-    assert!(rt; copy == values);
-    assert!(rt; copy != named(alloc, "b")?);
-    assert_eq!(rt; given_back(copy), Some(2));
-    let texts = vec![in alloc; PlSmallStr::from_str(alloc, "NA")?]?;
-    assert_eq!(rt; NullTexts::new(texts).into_texts().len(), 1);
-    Ok(())
+    let values = named(&rt, alloc, "a");
+    let compiled = compiled(&rt, alloc, &values, &two_columns(&rt, alloc));
+    let copy = compiled.try_clone().expect(&rt, "a copy");
+    assert_named(&rt, &copy);
+}
+
+// Null values equal their copy, which gives back two entries, and differ from others.
+fn assert_told(rt: &impl Abort, values: &NullValues, others: &NullValues) {
+    let copy = values.try_clone().expect(rt, "a copy");
+    assert!(rt; copy == *values);
+    assert!(rt; copy != *others);
+    assert!(rt; given_back(copy) == Some(2));
 }
 
 #[test]
-fn unknown_name_is_refused(rt: HostRuntime) -> Result<(), Fail> {
+fn null_values_are_compared_and_given_back(rt: HostRuntime) {
     let alloc = rt.alloc();
-    let schema = two_columns(alloc)?;
-    let compiled = named(alloc, "c")?.compile(alloc, &schema);
-    let refused = match &compiled {
-        Err(PolarsError::ColumnNotFound(name)) => name.as_str() == "c",
+    assert_told(&rt, &named(&rt, alloc, "a"), &named(&rt, alloc, "b"));
+    assert!(rt; texts(&rt, alloc, &["NA"]).into_texts().len() == 1);
+}
+
+// Whether null values are refused for an unknown name.
+fn is_refused_for(refused: &PolarsResult<NullValuesCompiled>, text: &str) -> bool {
+    match refused {
+        Err(PolarsError::ColumnNotFound(name)) => name.as_str() == text,
         _ => false,
-    };
-    assert!(rt; refused);
-    Ok(())
+    }
 }
 
 #[test]
-fn each_text_of_a_list_means_null(rt: HostRuntime) -> Result<(), Fail> {
+fn unknown_name_is_refused(rt: HostRuntime) {
     let alloc = rt.alloc();
-    let texts = vec![in alloc;
-        PlSmallStr::from_str(alloc, "NA")?,
-        PlSmallStr::from_str(alloc, "")?,
-    ]?;
-    let compiled = NullValuesCompiled::AllColumns(NullTexts::new(texts));
+    let schema = two_columns(&rt, alloc);
+    let refused = named(&rt, alloc, "c").compile(alloc, &schema);
+    assert!(rt; is_refused_for(&refused, "c"));
+}
+
+#[test]
+fn each_text_of_a_list_means_null(rt: HostRuntime) {
+    let texts = texts(&rt, rt.alloc(), &["NA", ""]);
+    let compiled = NullValuesCompiled::AllColumns(texts);
     assert!(rt; compiled.is_null(b"", 7));
     assert!(rt; !compiled.is_null(b"na", 0));
-    Ok(())
 }

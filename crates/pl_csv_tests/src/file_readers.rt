@@ -1,5 +1,5 @@
 //! One text read through a path, a handle and as bytes.
-ghost use Rattle.std.specs.Prelude.{IfOk, None, ◌≡◌};
+ghost use Rattle.std.specs.Prelude.{◌≡◌, None};
 
 use pl_csv::adapters::{FsOpener, ReadSource};
 use pl_frame::data_type::DataType;
@@ -9,41 +9,58 @@ use pl_frame::schema::Schema;
 use pl_frame::source::MemSource;
 use pl_infer::read_options::CsvReadOptions;
 use pl_read::bytes_reader::MmapBytesReader;
-use pl_read::csv_reader::SerReader;
+use pl_read::csv_reader::{CsvReader, SerReader};
 use pl_read::reader_makers::ReaderMakers;
 use std::alloc::Global;
 use std::fs;
+use std::process::Abort;
+use std::rt::Files;
 use std::test::Fail;
 
 // Options for a column of whole numbers.
-fn numbers(alloc: Global) -> Result<CsvReadOptions, Fail>
-    ensures { IfOk result (λ options. options.path ≡ None) }
+fn numbers(rt: &impl Abort, alloc: Global) -> CsvReadOptions
+    ensures { result.path ≡ None }
 {
     let mut schema = Schema::new(alloc);
-    schema.with_column(PlSmallStr::from_str(alloc, "a")?, DataType::Int64)?;
-    Ok(CsvReadOptions::new(alloc).with_schema(Some(schema)))
+    let name = PlSmallStr::from_str(alloc, "a").expect(rt, "a name");
+    let added = schema.with_column(name, DataType::Int64);
+    added.expect(rt, "a column");
+    CsvReadOptions::new(alloc).with_schema(Some(schema))
+}
+
+// The frame of a reader.
+fn read<R: MmapBytesReader>(rt: &impl Abort, reader: &mut CsvReader<R>) -> DataFrame {
+    reader.finish().expect(rt, "a frame")
 }
 
 // The frame of a source.
-fn frame_of<R: MmapBytesReader + Drop>(alloc: Global, source: R) -> Result<DataFrame, Fail> {
-    let mut reader = numbers(alloc)?.into_reader_with_file_handle(alloc, source);
-    Ok(reader.finish()?)
+fn frame_of<R: MmapBytesReader + Drop>(rt: &impl Abort, alloc: Global, source: R) -> DataFrame {
+    let options = numbers(rt, alloc);
+    let mut reader = options.into_reader_with_file_handle(alloc, source);
+    read(rt, &mut reader)
+}
+
+// The frame of the file of a name.
+fn frame_at(rt: &(impl Abort + Files), alloc: Global, name: &str) -> DataFrame {
+    let path = PlSmallStr::from_str(alloc, name).expect(rt, "a name");
+    let mut files = FsOpener::new(rt);
+    let options = numbers(rt, alloc);
+    match options.try_into_reader_with_file_path(alloc, &mut files, Some(path)) {
+        Ok(mut reader) => read(rt, &mut reader),
+        Err(_) => panic!(rt; "the file is there"),
+    }
 }
 
 #[test]
 fn one_frame_by_path_handle_and_bytes(rt: HostRuntime) -> Result<(), Fail> {
-    let alloc = rt.alloc();
     let name = "/tmp/pl_csv_file_readers.csv";
     let bytes: &[u8] = b"a\n1\n2\n";
     fs::write(&rt, name, bytes)?;
-    let path = PlSmallStr::from_str(alloc, name)?;
-    let mut files = FsOpener::new(&rt);
-    let mut reader = numbers(alloc)?.try_into_reader_with_file_path(alloc, &mut files, Some(path))?;
-    let by_path = reader.finish()?;
-    fs::remove_file(&rt, name)?;
-    let by_bytes = frame_of(alloc, MemSource::new(bytes))?;
+    let by_path = frame_at(&rt, rt.alloc(), name);
+    fs::remove_file(&rt, name).expect(&rt, "a file");
+    let by_bytes = frame_of(&rt, rt.alloc(), MemSource::new(bytes));
     assert!(rt; by_path.equals(&by_bytes));
-    let by_handle = frame_of(alloc, ReadSource::new(bytes))?;
+    let by_handle = frame_of(&rt, rt.alloc(), ReadSource::new(bytes));
     assert!(rt; by_handle.equals(&by_bytes));
     Ok(())
 }

@@ -48,11 +48,17 @@ fn cast(rt: &impl Abort, alloc: Global, column: &Column, to: &DataType) -> Colum
     column.cast(alloc, to).expect(rt, "a cast")
 }
 
+// Whether a column is equal to its copy.
+fn is_its_clone(rt: &impl Abort, column: &Column) -> bool {
+    *column == column.try_clone().expect(rt, "a copy")
+}
+
 // A column that is its copy, and that another type and its own again leave as it is.
 fn goes_and_comes(rt: &impl Abort, alloc: Global, column: &Column, to: &DataType) {
-    assert!(rt; column.try_clone().expect(rt, "a copy") == *column);
+    assert!(rt; is_its_clone(rt, column));
     let there = cast(rt, alloc, column, to);
-    assert!(rt; cast(rt, alloc, &there, column.dtype()) == *column);
+    let back = cast(rt, alloc, &there, column.dtype());
+    assert!(rt; back == *column);
 }
 
 #[test]

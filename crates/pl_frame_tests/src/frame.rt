@@ -5,7 +5,7 @@ use crate::given::{name, numbers};
 use pl_frame::codes::CodesBuilder;
 use pl_frame::column::{Column, Value};
 use pl_frame::data_type::DataType;
-use pl_frame::error::{NamePlace, PolarsError};
+use pl_frame::error::{NamePlace, PolarsError, PolarsResult};
 use pl_frame::frame::DataFrame;
 use pl_frame::schema::Schema;
 use std::alloc::Global;
@@ -49,30 +49,36 @@ fn frames_are_told_apart(rt: HostRuntime) {
     assert!(rt; !one.equals(&frame(&rt, alloc, numbers(&rt, alloc, "b", &[5]))));
 }
 
+// Whether a frame was refused since this name stands twice among its columns.
+fn is_repeated(made: &PolarsResult<DataFrame>, text: &str) -> bool {
+    match made {
+        Err(PolarsError::Duplicate { name, at }) => {
+            name.as_str() == text && *at == NamePlace::Projection
+        }
+        _ => false,
+    }
+}
+
 #[test]
 fn a_name_that_stands_twice_is_refused(rt: HostRuntime) {
     let alloc = rt.alloc();
     let mut columns = Vec::new(alloc);
-    assert!(rt; columns.push(numbers(&rt, alloc, "a", &[1])).is_ok());
-    assert!(rt; columns.push(numbers(&rt, alloc, "a", &[2])).is_ok());
+    let pushed = columns.push(numbers(&rt, alloc, "a", &[1]));
+    pushed.expect(&rt, "a column");
+    let pushed = columns.push(numbers(&rt, alloc, "a", &[2]));
+    pushed.expect(&rt, "a column");
     assert!(rt; DataFrame::have_one_height(&columns));
-    match DataFrame::new(alloc, columns) {
-        Err(PolarsError::Duplicate { name, at }) => {
-            assert_eq!(rt; (name.as_str(), at), ("a", NamePlace::Projection));
-        }
-        _ => panic!(rt; "the name stands twice"),
-    }
+    assert!(rt; is_repeated(&DataFrame::new(alloc, columns), "a"));
 }
 
 #[test]
 fn a_number_out_of_range_is_cast_to_a_null(rt: HostRuntime) {
     let alloc = rt.alloc();
     let mut rows = frame(&rt, alloc, numbers(&rt, alloc, "a", &[300]));
-    assert!(rt; rows.cast(0, &DataType::UInt8).is_ok());
-    match rows.columns() {
-        [column] => assert_eq!(rt; (column.len(), column.null_count()), (1, 1)),
-        _ => panic!(rt; "one column"),
-    }
+    rows.cast(0, &DataType::UInt8).expect(&rt, "a cast");
+    assert!(rt;
+        matches!(rows.columns(), [column] if column.len() == 1 && column.null_count() == 1)
+    );
 }
 
 #[test]
@@ -81,7 +87,7 @@ fn dictionaries_follow_the_rows(rt: HostRuntime) {
     let mut stacked = categories(&rt, alloc, &["q"]);
     let other = categories(&rt, alloc, &["p", "q"]);
     assert!(rt; stacked.has_same_columns(&other));
-    assert!(rt; stacked.vstack(&other).is_ok());
+    stacked.vstack(&other).expect(&rt, "three rows");
     assert!(rt; has_dictionary(&stacked, "q", "p"));
     let part = stacked.slice(1, 5).expect(&rt, "two rows");
     assert!(rt; has_dictionary(&part, "p", "q"));
@@ -91,37 +97,39 @@ fn dictionaries_follow_the_rows(rt: HostRuntime) {
 fn rows_are_chosen_by_flags(rt: HostRuntime) {
     let alloc = rt.alloc();
     let rows = frame(&rt, alloc, numbers(&rt, alloc, "a", &[1, 2]));
-    assert_eq!(rt; rows.height(), 2);
+    assert!(rt; rows.height() == 2);
     let kept = rows.filter_rows(&[false, true]).expect(&rt, "a row");
     assert!(rt; kept.equals(&frame(&rt, alloc, numbers(&rt, alloc, "a", &[2]))));
+}
+
+// Whether these are a column `a` and behind it a column `n` of 7 and 8.
+fn is_swapped(columns: &[Column]) -> bool {
+    match columns {
+        [first, second] if second.len() == 2 => {
+            let names = first.name() == "a" && second.name() == "n";
+            names && second.get(0) == Value::Whole(7) && second.get(1) == Value::Whole(8)
+        }
+        _ => false,
+    }
 }
 
 #[test]
 fn rows_are_numbered_and_columns_swapped(rt: HostRuntime) {
     let alloc = rt.alloc();
     let mut rows = frame(&rt, alloc, numbers(&rt, alloc, "a", &[1, 2]));
-    assert!(rt; rows.with_row_index(name(&rt, alloc, "n"), 7).is_ok());
-    assert_eq!(rt; (rows.width(), rows.height()), (2, 2));
+    let numbered = rows.with_row_index(name(&rt, alloc, "n"), 7);
+    numbered.expect(&rt, "a row index");
+    assert!(rt; rows.width() == 2 && rows.height() == 2);
     let swapped = rows.select(&[1, 0]).expect(&rt, "both columns");
-    match swapped.columns() {
-        [first, second] if second.len() == 2 => {
-            assert_eq!(rt; (first.name(), second.name()), ("a", "n"));
-            assert_eq!(rt; second.get(0), Value::Whole(7));
-            assert_eq!(rt; second.get(1), Value::Whole(8));
-        }
-        _ => panic!(rt; "two columns"),
-    }
+    assert!(rt; is_swapped(swapped.columns()));
 }
 
 #[test]
 fn a_schema_has_columns_without_rows(rt: HostRuntime) {
     let alloc = rt.alloc();
     let mut schema = Schema::new(alloc);
-    assert!(rt;
-        schema
-            .with_column(name(&rt, alloc, "a"), DataType::Int64)
-            .is_ok()
-    );
+    let added = schema.with_column(name(&rt, alloc, "a"), DataType::Int64);
+    added.expect(&rt, "a column");
     let empty = DataFrame::empty_with_schema(alloc, &schema).expect(&rt, "a frame");
-    assert_eq!(rt; (empty.width(), empty.height()), (1, 0));
+    assert!(rt; empty.width() == 1 && empty.height() == 0);
 }

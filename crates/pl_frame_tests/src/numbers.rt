@@ -1,20 +1,30 @@
 //! Tests of `pl_frame::numbers`.
 
 use pl_frame::numbers::Numbers;
-use std::test::Fail;
+use std::alloc::Global;
+use std::process::Abort;
+
+// Two numbers with a null between them.
+fn made(rt: &impl Abort, alloc: Global) -> Numbers<i64> {
+    let mut numbers = Numbers::<i64>::new(alloc);
+    assert!(rt; numbers.is_empty());
+    numbers.reserve(3).expect(rt, "room");
+    numbers.push(-7).expect(rt, "a number");
+    numbers.push_null().expect(rt, "a null");
+    numbers.push(i64::MAX).expect(rt, "a number");
+    numbers
+}
+
+// All three are there.
+fn assert_all(rt: &impl Abort, numbers: &Numbers<i64>) {
+    assert!(rt; numbers.len() == 3);
+    assert!(rt; numbers.get(0) == Some(-7));
+    assert!(rt; numbers.get(1) == None);
+    assert!(rt; numbers.get(2) == Some(i64::MAX));
+    assert!(rt; numbers.null_count() == 1);
+}
 
 #[test]
-fn keeps_numbers_and_nulls(rt: HostRuntime) -> Result<(), Fail> {
-    let mut numbers = Numbers::<i64>::new(rt.alloc());
-    assert!(rt; numbers.is_empty());
-    numbers.reserve(3)?;
-    numbers.push(-7)?;
-    numbers.push_null()?;
-    numbers.push(i64::MAX)?;
-    assert_eq!(rt; numbers.len(), 3);
-    assert_eq!(rt; numbers.get(0), Some(-7));
-    assert_eq!(rt; numbers.get(1), None);
-    assert_eq!(rt; numbers.get(2), Some(i64::MAX));
-    assert_eq!(rt; numbers.null_count(), 1);
-    Ok(())
+fn keeps_numbers_and_nulls(rt: HostRuntime) {
+    assert_all(&rt, &made(&rt, rt.alloc()));
 }

@@ -9,7 +9,15 @@ use std::process::Abort;
 
 // Sets the type under a name.
 fn set(rt: &impl Abort, alloc: Global, schema: &mut Schema, text: &str, dtype: DataType) {
-    assert!(rt; schema.with_column(name(rt, alloc, text), dtype).is_ok());
+    let added = schema.with_column(name(rt, alloc, text), dtype);
+    added.expect(rt, "a column");
+}
+
+// The name `a` is found in front, and `c` nowhere.
+fn assert_sought(rt: &impl Abort, schema: &Schema) {
+    assert!(rt; matches!(schema.try_index_of("a"), Ok(0)));
+    let missing = schema.try_index_of("c");
+    assert!(rt; matches!(missing, Err(PolarsError::ColumnNotFound(_))));
 }
 
 #[test]
@@ -18,15 +26,9 @@ fn names_keep_their_places_and_types_change(rt: HostRuntime) {
     set(&rt, rt.alloc(), &mut schema, "a", DataType::Int64);
     set(&rt, rt.alloc(), &mut schema, "b", DataType::String);
     set(&rt, rt.alloc(), &mut schema, "a", DataType::Date);
-    assert_eq!(rt; (schema.len(), schema.index_of("b")), (2, Some(1)));
-    assert!(rt; matches!(schema.try_index_of("a"), Ok(0)));
-    assert!(rt;
-        matches!(
-            schema.try_index_of("c"),
-            Err(PolarsError::ColumnNotFound(_))
-        )
-    );
+    assert!(rt; schema.len() == 2 && schema.index_of("b") == Some(1));
     assert!(rt; matches!(schema.get_at_index(0), Some((_, DataType::Date))));
+    assert_sought(&rt, &schema);
 }
 
 #[test]

@@ -4,6 +4,8 @@
 #[cfg(test)]
 mod column_lists;
 #[cfg(test)]
+mod given;
+#[cfg(test)]
 mod hive_options;
 #[cfg(test)]
 mod parse_options;

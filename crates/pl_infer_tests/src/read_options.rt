@@ -1,57 +1,66 @@
 //! Tests of `pl_infer::read_options`.
 
+use crate::given::{name, one, one_column};
 use pl_frame::data_type::DataType;
-use pl_frame::name::PlSmallStr;
-use pl_frame::schema::Schema;
 use pl_infer::column_lists::{ColumnNames, ColumnPlaces, DataTypes};
 use pl_infer::parse_options::CsvParseOptions;
 use pl_infer::read_options::CsvReadOptions;
 use pl_infer::row_index::RowIndex;
 use std::alloc::Global;
-use std::test::Fail;
+use std::process::Abort;
 
-#[test]
-fn a_new_value_has_the_defaults(rt: HostRuntime) {
-    let options = CsvReadOptions::new(rt.alloc());
+// What options are by default.
+fn assert_defaults(rt: &impl Abort, options: &CsvReadOptions) {
     assert!(rt; options.has_header && options.raise_if_empty && !options.ignore_errors);
-    assert_eq!(rt; options.chunk_size, 262144);
-    assert_eq!(rt; options.infer_schema_length, Some(100));
-    assert_eq!(rt; options.n_threads, None);
+    assert!(rt; options.chunk_size == 262144);
+    assert!(rt; options.infer_schema_length == Some(100));
+    assert!(rt; options.n_threads == None);
     assert!(rt; options.fields_to_cast.fields().is_empty());
     assert!(rt; *options.get_parse_options() == CsvParseOptions::new());
 }
 
 #[test]
-fn a_function_changes_the_options_of_the_parse_alone(rt: HostRuntime) {
-    let options = CsvReadOptions::new(rt.alloc()).map_parse_options(
-        |options| options.with_separator(b';'),
-    );
-    assert_eq!(rt; options.get_parse_options().separator, b';');
-    let parse_options = CsvParseOptions::new();
-    assert!(rt; options.with_parse_options(parse_options) == CsvReadOptions::new(rt.alloc()));
+fn a_new_value_has_the_defaults(rt: HostRuntime) {
+    assert_defaults(&rt, &CsvReadOptions::new(rt.alloc()));
 }
 
-// A schema of one column `a`.
-fn one_column(alloc: Global) -> Result<Schema, Fail> {
-    let mut schema = Schema::new(alloc);
-    schema.with_column(PlSmallStr::from_str(alloc, "a")?, DataType::Int64)?;
-    Ok(schema)
+// Whether two options are equal.
+fn are_equal(options: &CsvReadOptions, others: &CsvReadOptions) -> bool {
+    *options == *others
+}
+
+// Options of which a function changed the separator.
+fn with_semicolon(alloc: Global) -> CsvReadOptions {
+    let options = CsvReadOptions::new(alloc);
+    options.map_parse_options(|options| options.with_separator(b';'))
+}
+
+#[test]
+fn a_function_changes_the_options_of_the_parse(rt: HostRuntime) {
+    let options = with_semicolon(rt.alloc());
+    assert!(rt; options.get_parse_options().separator == b';');
+}
+
+#[test]
+fn a_function_changes_no_other_options(rt: HostRuntime) {
+    let options = with_semicolon(rt.alloc()).with_parse_options(CsvParseOptions::new());
+    assert!(rt; are_equal(&options, &CsvReadOptions::new(rt.alloc())));
 }
 
 // Options with a value of each type of their own.
-fn selective(alloc: Global) -> Result<CsvReadOptions, Fail> {
-    let name = PlSmallStr::from_str(alloc, "row")?;
-    let names = vec![in alloc; PlSmallStr::from_str(alloc, "a")?]?;
-    Ok(
-        CsvReadOptions::new(alloc)
-            .with_path(Some(PlSmallStr::from_str(alloc, "f")?))
-            .with_row_index(Some(RowIndex { name, offset: 7 }))
-            .with_columns(Some(ColumnNames::new(names)))
-            .with_projection(Some(ColumnPlaces::new(vec![in alloc; 0]?)))
-            .with_schema(Some(one_column(alloc)?))
-            .with_schema_overwrite(Some(one_column(alloc)?))
-            .with_dtype_overwrite(Some(DataTypes::new(vec![in alloc; DataType::Date]?))),
-    )
+fn selective(rt: &impl Abort, alloc: Global) -> CsvReadOptions {
+    let index = RowIndex {
+        name: name(rt, alloc, "row"),
+        offset: 7,
+    };
+    CsvReadOptions::new(alloc)
+        .with_path(Some(name(rt, alloc, "f")))
+        .with_row_index(Some(index))
+        .with_columns(Some(ColumnNames::new(one(rt, alloc, name(rt, alloc, "a")))))
+        .with_projection(Some(ColumnPlaces::new(one(rt, alloc, 0))))
+        .with_schema(Some(one_column(rt, alloc)))
+        .with_schema_overwrite(Some(one_column(rt, alloc)))
+        .with_dtype_overwrite(Some(DataTypes::new(one(rt, alloc, DataType::Date))))
 }
 
 // The same with plain values changed.
@@ -71,12 +80,21 @@ fn with_plain_values(options: CsvReadOptions) -> CsvReadOptions {
         .with_ignore_errors(true)
 }
 
+// Whether options are equal to their copy, which skips so many lines.
+fn have_equal_copy(rt: &impl Abort, options: &CsvReadOptions, lines: usize) -> bool {
+    let copy = options.try_clone().expect(rt, "a copy");
+    are_equal(&copy, options) && copy.skip_lines == lines
+}
+
+// Whether options differ from their copy without a limit.
+fn differ_by_limit(rt: &impl Abort, options: &CsvReadOptions) -> bool {
+    let copy = options.try_clone().expect(rt, "a copy");
+    !are_equal(&copy.with_n_rows(None), options)
+}
+
 #[test]
-fn a_copy_has_what_was_set(rt: HostRuntime) -> Result<(), Fail> {
-    let options = with_plain_values(selective(rt.alloc())?);
-    let copy = options.try_clone()?;
-    assert!(rt; copy == options);
-    assert_eq!(rt; copy.skip_lines, 5);
-    assert!(rt; copy.with_n_rows(None) != options);
-    Ok(())
+fn a_copy_has_what_was_set(rt: HostRuntime) {
+    let options = with_plain_values(selective(&rt, rt.alloc()));
+    assert!(rt; have_equal_copy(&rt, &options, 5));
+    assert!(rt; differ_by_limit(&rt, &options));
 }

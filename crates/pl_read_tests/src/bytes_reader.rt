@@ -1,10 +1,9 @@
 //! Tests of `pl_read::bytes_reader`.
 
-use pl_frame::error::PolarsError;
+use pl_frame::error::{PolarsError, PolarsResult};
 use pl_frame::source::{MemSource, PipeSource, Source};
 use pl_infer::reader_bytes::ReaderBytes;
 use pl_read::bytes_reader::{MmapBytesReader, get_reader_bytes};
-use std::test::Fail;
 
 // Through the bound: whether a reader lends its bytes.
 fn lends<R: MmapBytesReader + Drop>(reader: R) -> bool {
@@ -12,27 +11,39 @@ fn lends<R: MmapBytesReader + Drop>(reader: R) -> bool {
 }
 
 #[test]
-fn what_stands_for_a_reader_lends_as_it_does(rt: HostRuntime) -> Result<(), Fail> {
+fn what_stands_for_a_reader_lends_as_it_does(rt: HostRuntime) {
     assert!(rt; lends(&mut MemSource::new(b"ab")));
-    assert!(rt; lends(Box::new(rt.alloc(), MemSource::new(b"ab"))?));
+    let boxed = Box::new(rt.alloc(), MemSource::new(b"ab"));
+    assert!(rt; lends(boxed.expect(&rt, "a box")));
     assert!(rt; !lends(&mut PipeSource::new(b"ab", 1, &[])));
-    Ok(())
+}
+
+// Whether these bytes are lent, if they are the ones that were read.
+fn are_lent(read: &PolarsResult<ReaderBytes<'_>>, bytes: &[u8]) -> Option<bool> {
+    match read {
+        Ok(read) if read.bytes() == bytes => Some(matches!(read, ReaderBytes::Borrowed(_))),
+        _ => None,
+    }
 }
 
 #[test]
-fn memory_lends_its_bytes_and_a_pipe_is_read(rt: HostRuntime) -> Result<(), Fail> {
-    let alloc = rt.alloc();
+fn memory_lends_its_bytes(rt: HostRuntime) {
     let mut source = MemSource::new(b"ab");
-    assert_eq!(rt; source.read(&mut [0u8; 1]), Ok(1));
-    let read = get_reader_bytes(alloc, &mut source)?;
-    assert!(rt; matches!(&read, ReaderBytes::Borrowed(_)));
-    assert_eq!(rt; read.bytes(), b"ab".as_slice());
+    assert!(rt; source.read(&mut [0u8; 1]) == Ok(1));
+    let read = get_reader_bytes(rt.alloc(), &mut source);
+    assert!(rt; are_lent(&read, b"ab") == Some(true));
+}
+
+#[test]
+fn a_pipe_is_read(rt: HostRuntime) {
     let mut pipe = PipeSource::new(b"ab", 1, &[]);
-    let read = get_reader_bytes(alloc, &mut pipe)?;
-    assert!(rt; matches!(&read, ReaderBytes::Owned(_)));
-    assert_eq!(rt; read.bytes(), b"ab".as_slice());
+    let read = get_reader_bytes(rt.alloc(), &mut pipe);
+    assert!(rt; are_lent(&read, b"ab") == Some(false));
+}
+
+#[test]
+fn a_pipe_that_fails_is_a_fault(rt: HostRuntime) {
     let mut failing = PipeSource::new(b"ab", 1, &[0]);
-    let read = get_reader_bytes(alloc, &mut failing);
+    let read = get_reader_bytes(rt.alloc(), &mut failing);
     assert!(rt; matches!(read, Err(PolarsError::IO)));
-    Ok(())
 }

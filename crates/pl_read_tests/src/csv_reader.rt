@@ -1,18 +1,17 @@
 //! Tests of `pl_read::csv_reader`.
 ghost use Rattle.std.specs.Prelude.{◌≡◌};
 
+use crate::given::{one, one_column};
 use pl_frame::column::{Column, Value};
 use pl_frame::data_type::DataType;
 use pl_frame::error::{NoDataFault, PolarsError, PolarsResult};
 use pl_frame::frame::DataFrame;
-use pl_frame::name::PlSmallStr;
-use pl_frame::schema::Schema;
 use pl_frame::source::{MemSource, PipeSource, Source};
 use pl_infer::read_options::CsvReadOptions;
 use pl_read::bytes_reader::MmapBytesReader;
 use pl_read::csv_reader::{CsvReader, SerReader};
 use std::alloc::Global;
-use std::test::Fail;
+use std::process::Abort;
 
 // Through the bound: a reader with default options.
 fn fresh<R: MmapBytesReader, T: SerReader<R>>(alloc: Global, reader: R) -> T {
@@ -26,26 +25,17 @@ fn finish<R: MmapBytesReader, T: SerReader<R>>(reader: &mut T) -> PolarsResult<D
     reader.finish()
 }
 
-// A read of one column `a` of whole numbers.
-fn one_column(alloc: Global) -> Result<CsvReadOptions, Fail> {
-    let mut schema = Schema::new(alloc);
-    schema.with_column(PlSmallStr::from_str(alloc, "a")?, DataType::Int64)?;
-    Ok(CsvReadOptions::new(alloc).with_schema(Some(schema)))
-}
-
-// The column `a` of 1.
-fn one(alloc: Global) -> Result<DataFrame, Fail> {
-    let name = PlSmallStr::from_str(alloc, "a")?;
-    let column = Column::whole(alloc, name, DataType::Int64, vec![in alloc; Some(1)]?)?;
-    Ok(DataFrame::new(alloc, vec![in alloc; column]?)?)
+// Whether options are those of a new value.
+fn are_defaults(alloc: Global, options: &CsvReadOptions) -> bool {
+    *options == CsvReadOptions::new(alloc)
 }
 
 #[test]
 fn a_new_reader_has_default_options(rt: HostRuntime) {
     let alloc = rt.alloc();
     let reader: CsvReader<MemSource<'_>> = fresh(alloc, MemSource::new(b"ab"));
-    assert!(rt; *reader.options() == CsvReadOptions::new(alloc));
-    assert_eq!(rt; reader.into_inner().bytes(), b"ab".as_slice());
+    assert!(rt; are_defaults(alloc, reader.options()));
+    assert!(rt; reader.into_inner().bytes() == b"ab".as_slice());
 }
 
 // What stands behind the first byte of a source that fails at these calls.
@@ -55,20 +45,26 @@ fn pipe(fails: &[usize]) -> PipeSource<'_> {
     source
 }
 
-#[test]
-fn a_pipe_is_read_from_where_it_stands(rt: HostRuntime) -> Result<(), Fail> {
-    let alloc = rt.alloc();
-    let mut reader = CsvReader::with_options(alloc, pipe(&[]), one_column(alloc)?);
-    assert!(rt; finish(&mut reader)? == one(alloc)?);
-    Ok(())
+// Whether this is the column `a` of 1.
+fn is_one(rt: &impl Abort, alloc: Global, read: &PolarsResult<DataFrame>) -> bool {
+    match read {
+        Ok(frame) => *frame == one(rt, alloc),
+        Err(_) => false,
+    }
 }
 
 #[test]
-fn a_pipe_that_fails_is_a_fault(rt: HostRuntime) -> Result<(), Fail> {
+fn a_pipe_is_read_from_where_it_stands(rt: HostRuntime) {
     let alloc = rt.alloc();
-    let mut reader = CsvReader::with_options(alloc, pipe(&[3]), one_column(alloc)?);
+    let mut reader = CsvReader::with_options(alloc, pipe(&[]), one_column(&rt, alloc));
+    assert!(rt; is_one(&rt, alloc, &finish(&mut reader)));
+}
+
+#[test]
+fn a_pipe_that_fails_is_a_fault(rt: HostRuntime) {
+    let alloc = rt.alloc();
+    let mut reader = CsvReader::with_options(alloc, pipe(&[3]), one_column(&rt, alloc));
     assert!(rt; matches!(finish(&mut reader), Err(PolarsError::IO)));
-    Ok(())
 }
 
 // What a text means where no schema is given.
@@ -78,9 +74,9 @@ fn read(alloc: Global, text: &[u8], raise_if_empty: bool) -> PolarsResult<DataFr
     reader.finish()
 }
 
-// Whether a frame has a column `a` of whole numbers, in which 1 is first, and a column `b` of strings, in which x is.
-fn is_one_and_x(frame: &DataFrame) -> bool {
-    let [a, b] = frame.columns() else {
+// Whether these are a column `a` of whole numbers, in which 1 is first, and a column `b` of strings, in which x is.
+fn are_one_and_x(columns: &[Column]) -> bool {
+    let [a, b] = columns else {
         return false;
     };
     if a.len() != 1 || b.len() != 1 {
@@ -92,27 +88,28 @@ fn is_one_and_x(frame: &DataFrame) -> bool {
 }
 
 #[test]
-fn names_and_types_come_of_the_text(rt: HostRuntime) -> Result<(), Fail> {
-    let frame = read(rt.alloc(), b"a,b\n1,x\n", true)?;
-    assert!(rt; is_one_and_x(&frame));
-    Ok(())
+fn names_and_types_come_of_the_text(rt: HostRuntime) {
+    let frame = read(rt.alloc(), b"a,b\n1,x\n", true).expect(&rt, "a frame");
+    assert!(rt; are_one_and_x(frame.columns()));
 }
 
 #[test]
-fn no_record_is_refused_or_is_no_column(rt: HostRuntime) -> Result<(), Fail> {
+fn no_record_is_refused(rt: HostRuntime) {
     let refused = read(rt.alloc(), b"", true);
     assert!(rt; matches!(refused, Err(PolarsError::NoData(NoDataFault::Empty))));
-    let frame = read(rt.alloc(), b"", false)?;
-    assert_eq!(rt; frame.width(), 0);
-    Ok(())
 }
 
 #[test]
-fn memory_is_read_again(rt: HostRuntime) -> Result<(), Fail> {
+fn no_record_is_no_column(rt: HostRuntime) {
+    let frame = read(rt.alloc(), b"", false).expect(&rt, "a frame");
+    assert!(rt; frame.width() == 0);
+}
+
+#[test]
+fn memory_is_read_again(rt: HostRuntime) {
     let alloc = rt.alloc();
     let source = MemSource::new(b"a\n1\n");
-    let mut reader = CsvReader::with_options(alloc, source, one_column(alloc)?);
-    let first = finish(&mut reader)?;
-    assert!(rt; finish(&mut reader)? == first);
-    Ok(())
+    let mut reader = CsvReader::with_options(alloc, source, one_column(&rt, alloc));
+    assert!(rt; is_one(&rt, alloc, &finish(&mut reader)));
+    assert!(rt; is_one(&rt, alloc, &finish(&mut reader)));
 }

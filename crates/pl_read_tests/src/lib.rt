@@ -6,6 +6,8 @@ mod bytes_reader;
 #[cfg(test)]
 mod csv_reader;
 #[cfg(test)]
+mod given;
+#[cfg(test)]
 mod named_columns;
 #[cfg(test)]
 mod reader_makers;

@@ -1,36 +1,30 @@
 //! Tests of `pl_read::reader_makers`.
-ghost use Rattle.std.specs.Prelude.{IfOk, None, ◌≡◌};
+ghost use Rattle.std.specs.Prelude.{◌≡◌, None, IfOk};
 
-use pl_frame::data_type::DataType;
+use crate::given::{name, one, one_column};
 use pl_frame::error::{PolarsError, PolarsResult};
-use pl_frame::frame::DataFrame;
-use pl_frame::name::PlSmallStr;
 use pl_frame::opener::{MemOpener, Opener};
-use pl_frame::schema::Schema;
 use pl_frame::source::{MemSource, PipeSource};
 use pl_infer::read_options::CsvReadOptions;
 use pl_read::bytes_reader::MmapBytesReader;
 use pl_read::csv_reader::{CsvReader, SerReader};
 use pl_read::reader_makers::ReaderMakers;
 use std::alloc::Global;
-use std::test::Fail;
+use std::process::Abort;
 
-// A read of one column `a` of whole numbers, at no path.
-fn one_column(alloc: Global) -> Result<CsvReadOptions, Fail>
-    ensures { IfOk result (λ options. options.path ≡ None) }
-{
-    let mut schema = Schema::new(alloc);
-    schema.with_column(PlSmallStr::from_str(alloc, "a")?, DataType::Int64)?;
-    Ok(CsvReadOptions::new(alloc).with_schema(Some(schema)))
-}
-
-// What a reader reads.
-fn read<R: MmapBytesReader + Drop>(mut reader: CsvReader<R>) -> PolarsResult<DataFrame> {
-    reader.finish()
+// Whether a reader reads the column `a` of 1.
+fn reads_one<R: MmapBytesReader>(
+    rt: &impl Abort,
+    alloc: Global,
+    reader: &mut CsvReader<R>,
+) -> bool {
+    let frame = reader.finish().expect(rt, "a frame");
+    frame.height() == 1 && frame == one(rt, alloc)
 }
 
 // Through the bound: a reader of what lies at a path, by options that name none.
 fn open<O: Opener>(
+    rt: &impl Abort,
     alloc: Global,
     opener: &mut O,
     options: CsvReadOptions,
@@ -41,24 +35,43 @@ where
     requires { options.path ≡ None }
     ensures { IfOk result (λ made. made.options ≡ options) }
 {
-    let path = PlSmallStr::from_str(alloc, path)?;
+    let path = name(rt, alloc, path);
     options.try_into_reader_with_file_path(alloc, opener, Some(path))
 }
 
 #[test]
-fn a_path_a_handle_and_memory_are_read_alike(rt: HostRuntime) -> Result<(), Fail> {
+fn a_path_is_read(rt: HostRuntime) {
     let alloc = rt.alloc();
     let entries: [(&str, &[u8]); 1] = [("f", b"a\n1\n")];
     let mut opener = MemOpener::new(&entries);
-    let at_path = read(open(alloc, &mut opener, one_column(alloc)?, "f")?)?;
-    assert_eq!(rt; at_path.height(), 1);
-    let pipe = PipeSource::new(b"a\n1\n", 1, &[]);
-    let reader = one_column(alloc)?.into_reader_with_file_handle(alloc, pipe);
-    assert!(rt; read(reader)? == at_path);
-    let memory = MemSource::new(b"a\n1\n");
-    let reader = one_column(alloc)?.into_reader_with_file_handle(alloc, memory);
-    assert!(rt; read(reader)? == at_path);
-    let missing = open(alloc, &mut opener, one_column(alloc)?, "g");
+    let reader = open(&rt, alloc, &mut opener, one_column(&rt, alloc), "f");
+    match reader {
+        Ok(mut reader) => assert!(rt; reads_one(&rt, alloc, &mut reader)),
+        Err(_) => panic!(rt; "the path is there"),
+    }
+}
+
+#[test]
+fn a_path_that_is_missing_is_a_fault(rt: HostRuntime) {
+    let alloc = rt.alloc();
+    let entries: [(&str, &[u8]); 1] = [("f", b"a\n1\n")];
+    let mut opener = MemOpener::new(&entries);
+    let missing = open(&rt, alloc, &mut opener, one_column(&rt, alloc), "g");
     assert!(rt; matches!(missing, Err(PolarsError::IO)));
-    Ok(())
+}
+
+#[test]
+fn a_pipe_is_read(rt: HostRuntime) {
+    let alloc = rt.alloc();
+    let pipe = PipeSource::new(b"a\n1\n", 1, &[]);
+    let mut reader = one_column(&rt, alloc).into_reader_with_file_handle(alloc, pipe);
+    assert!(rt; reads_one(&rt, alloc, &mut reader));
+}
+
+#[test]
+fn memory_is_read(rt: HostRuntime) {
+    let alloc = rt.alloc();
+    let memory = MemSource::new(b"a\n1\n");
+    let mut reader = one_column(&rt, alloc).into_reader_with_file_handle(alloc, memory);
+    assert!(rt; reads_one(&rt, alloc, &mut reader));
 }

@@ -1,36 +1,38 @@
 //! Tests of `pl_read::reading`.
 
-use pl_frame::column::Value;
+use crate::given::{add, name};
+use pl_frame::column::{Column, Value};
 use pl_frame::data_type::DataType;
-use pl_frame::frame::DataFrame;
-use pl_frame::name::PlSmallStr;
 use pl_frame::schema::Schema;
 use pl_infer::column_lists::ColumnPlaces;
 use pl_infer::read_options::CsvReadOptions;
 use pl_infer::row_index::RowIndex;
 use pl_read::reading::read_frame;
 use std::alloc::Global;
-use std::test::Fail;
-
-// Puts a column at the end of a schema.
-fn push(alloc: Global, schema: &mut Schema, name: &str, dtype: DataType) -> Result<(), Fail> {
-    schema.with_column(PlSmallStr::from_str(alloc, name)?, dtype)?;
-    Ok(())
-}
+use std::process::Abort;
 
 // Asks for two places, two rows, and numbers of rows from 7 on.
-fn ask(alloc: Global, options: &mut CsvReadOptions, places: [usize; 2]) -> Result<(), Fail> {
-    let name = PlSmallStr::from_str(alloc, "n")?;
+fn ask(rt: &impl Abort, alloc: Global, options: &mut CsvReadOptions, places: [usize; 2]) {
+    let name = name(rt, alloc, "n");
+    let places = places.to_vec(alloc).expect(rt, "places");
     options.has_header = false;
     options.n_rows = Some(2);
     options.row_index = Some(RowIndex { name, offset: 7 });
-    options.projection = Some(ColumnPlaces::new(places.to_vec(alloc)?));
-    Ok(())
+    options.projection = Some(ColumnPlaces::new(places));
 }
 
-// The numbers in the last row of a frame of two columns behind their row index.
-fn last_row(frame: &DataFrame) -> Option<(Value<'_>, Value<'_>)> {
-    match frame.columns() {
+// A schema of columns `a`, `b` and `c`.
+fn three_columns(rt: &impl Abort, alloc: Global) -> Schema {
+    let mut schema = Schema::new(alloc);
+    add(rt, alloc, &mut schema, "a", DataType::Int64);
+    add(rt, alloc, &mut schema, "b", DataType::String);
+    add(rt, alloc, &mut schema, "c", DataType::Int64);
+    schema
+}
+
+// The numbers in the last row of two columns behind their row index.
+fn last_row(columns: &[Column]) -> Option<(Value<'_>, Value<'_>)> {
+    match columns {
         [numbers, first, _] if numbers.len() == 2 && first.len() == 2 => Some((
             numbers.get(1),
             first.get(1),
@@ -40,16 +42,12 @@ fn last_row(frame: &DataFrame) -> Option<(Value<'_>, Value<'_>)> {
 }
 
 #[test]
-fn two_columns_of_two_rows_behind_their_numbers(rt: HostRuntime) -> Result<(), Fail> {
+fn two_columns_of_two_rows_behind_their_numbers(rt: HostRuntime) {
     let alloc = rt.alloc();
-    let mut schema = Schema::new(alloc);
-    push(alloc, &mut schema, "a", DataType::Int64)?;
-    push(alloc, &mut schema, "b", DataType::String)?;
-    push(alloc, &mut schema, "c", DataType::Int64)?;
     let mut options = CsvReadOptions::new(alloc);
-    ask(alloc, &mut options, [2, 0])?;
-    let options = options.with_schema(Some(schema));
-    let frame = read_frame(alloc, b"1,x\"y,2\n3,z,4\nx,,\n", &options)?;
-    assert_eq!(rt; last_row(&frame), Some((Value::Whole(8), Value::Whole(3))));
-    Ok(())
+    ask(&rt, alloc, &mut options, [2, 0]);
+    let options = options.with_schema(Some(three_columns(&rt, alloc)));
+    let frame = read_frame(alloc, b"1,x\"y,2\n3,z,4\nx,,\n", &options);
+    let frame = frame.expect(&rt, "a frame");
+    assert!(rt; last_row(frame.columns()) == Some((Value::Whole(8), Value::Whole(3))));
 }

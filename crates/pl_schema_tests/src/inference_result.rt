@@ -1,40 +1,53 @@
 //! Tests of `pl_schema::inference_result`.
 
+use crate::given::one_column;
 use pl_frame::data_type::DataType;
-use pl_frame::name::PlSmallStr;
-use pl_frame::schema::Schema;
 use pl_infer::read_options::CsvReadOptions;
 use pl_infer::reader_bytes::ReaderBytes;
 use pl_schema::inference_result::{SchemaInferenceResult, UpdateWithInferenceResult};
-use std::test::Fail;
+use std::alloc::Global;
+use std::process::Abort;
 
-#[test]
-fn a_result_is_inferred_and_sets_workers(rt: HostRuntime) -> Result<(), Fail> {
-    let alloc = rt.alloc();
+// What is inferred of a text by default.
+fn inferred(rt: &impl Abort, alloc: Global) -> SchemaInferenceResult {
     let text = ReaderBytes::Borrowed(b"a,b\n1,x\n");
-    let mut options = CsvReadOptions::new(alloc);
-    let read = SchemaInferenceResult::try_from_reader_bytes_and_options(alloc, &text, &options)?;
-    assert_eq!(rt;
-        (read.rows_read, read.bytes_read, read.bytes_total),
-        (1, 7, 8)
-    );
-    let mut copy = read.try_clone()?;
-    assert!(rt; copy.get_inferred_schema() == read.get_inferred_schema());
-    assert_eq!(rt; copy.get_estimated_n_rows(), 1);
-    copy.n_threads = Some(1);
-    options.update_with_inference_result(&copy);
-    assert_eq!(rt; options.n_threads, Some(1));
-    Ok(())
+    let options = CsvReadOptions::new(alloc);
+    let read = SchemaInferenceResult::try_from_reader_bytes_and_options(alloc, &text, &options);
+    read.expect(rt, "a result")
+}
+
+// What was read is told, and a copy has the same schema.
+fn assert_read(rt: &impl Abort, read: &SchemaInferenceResult) {
+    assert!(rt; read.rows_read == 1 && read.bytes_read == 7 && read.bytes_total == 8);
+    let copy = read.try_clone().expect(rt, "a copy");
+    assert!(rt; *copy.get_inferred_schema() == *read.get_inferred_schema());
+    assert!(rt; copy.get_estimated_n_rows() == 1);
 }
 
 #[test]
-fn a_new_result_has_no_columns_and_no_rows(rt: HostRuntime) -> Result<(), Fail> {
-    let alloc = rt.alloc();
-    let result = SchemaInferenceResult::new(alloc);
-    assert_eq!(rt; result.get_estimated_n_rows(), 0);
-    let mut schema = Schema::new(alloc);
-    schema.with_column(PlSmallStr::from_str(alloc, "a")?, DataType::Int64)?;
+fn a_result_is_inferred(rt: HostRuntime) {
+    assert_read(&rt, &inferred(&rt, rt.alloc()));
+}
+
+// The workers of options that a result updates.
+fn workers_by(alloc: Global, read: &SchemaInferenceResult) -> Option<usize> {
+    let mut options = CsvReadOptions::new(alloc);
+    options.update_with_inference_result(read);
+    options.n_threads
+}
+
+#[test]
+fn a_result_sets_workers(rt: HostRuntime) {
+    let mut read = inferred(&rt, rt.alloc());
+    read.n_threads = Some(1);
+    assert!(rt; workers_by(rt.alloc(), &read) == Some(1));
+}
+
+#[test]
+fn a_new_result_has_no_columns_and_no_rows(rt: HostRuntime) {
+    let result = SchemaInferenceResult::new(rt.alloc());
+    assert!(rt; result.get_estimated_n_rows() == 0);
+    let schema = one_column(&rt, rt.alloc(), "a", DataType::Int64);
     let result = result.with_inferred_schema(schema);
-    assert_eq!(rt; result.get_inferred_schema().len(), 1);
-    Ok(())
+    assert!(rt; result.get_inferred_schema().len() == 1);
 }

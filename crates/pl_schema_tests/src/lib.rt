@@ -4,6 +4,8 @@
 #[cfg(test)]
 mod field_types;
 #[cfg(test)]
+mod given;
+#[cfg(test)]
 mod header;
 #[cfg(test)]
 mod inference;

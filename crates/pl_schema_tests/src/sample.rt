@@ -4,18 +4,23 @@ use pl_frame::data_type::DataType;
 use pl_scan::dialect::Dialect;
 use pl_schema::evidence::EvidenceRules;
 use pl_schema::sample::{Sample, take_sample};
-use std::test::Fail;
+use std::process::Abort;
 
-// Whether the types of `1,x` and `2,` are those that are known.
-fn are_known(sample: &Sample) -> bool {
+// A sample has the types of `1,x` and `2,`, and so many items and bytes.
+fn assert_known(rt: &impl Abort, sample: &Sample, items: usize, bytes: usize) {
     match sample.types.dtypes() {
-        [first, second] => *first == DataType::Int64 && *second == DataType::String,
-        _ => false,
+        [first, second] => {
+            assert!(rt; *first == DataType::Int64 && *second == DataType::String);
+        }
+        _ => panic!(rt; "two types"),
     }
+    assert!(rt; sample.items == items);
+    assert!(rt; sample.bytes == bytes);
+    assert!(rt; !sample.has_long_text);
 }
 
 #[test]
-fn a_sample_shows_types(rt: HostRuntime) -> Result<(), Fail> {
+fn a_sample_shows_types(rt: HostRuntime) {
     let dialect = Dialect {
         separator: b',',
         quote_char: Some(b'"'),
@@ -27,10 +32,6 @@ fn a_sample_shows_types(rt: HostRuntime) -> Result<(), Fail> {
         null_values: None,
         dates: false,
     };
-    let sample = take_sample(rt.alloc(), b"1,x\n2,\n", Some(100), 2, &rules)?;
-    assert!(rt; are_known(&sample));
-    assert_eq!(rt; sample.items, 2);
-    assert_eq!(rt; sample.bytes, 6);
-    assert!(rt; !sample.has_long_text);
-    Ok(())
+    let sample = take_sample(rt.alloc(), b"1,x\n2,\n", Some(100), 2, &rules);
+    assert_known(&rt, &sample.expect(&rt, "a sample"), 2, 6);
 }

@@ -1,46 +1,45 @@
 //! Tests of `pl_schema::schemas`.
 
+use crate::given::one_column;
 use pl_frame::data_type::DataType;
-use pl_frame::error::{ComputeFault, PolarsError};
-use pl_frame::name::PlSmallStr;
-use pl_frame::schema::Schema;
+use pl_frame::error::{ComputeFault, PolarsError, PolarsResult};
 use pl_infer::column_lists::Fields;
 use pl_schema::schemas::{overwrite_schema, prepare_csv_schema};
 use std::alloc::Global;
-use std::test::Fail;
-
-// A schema of one column.
-fn one_column(alloc: Global, name: &str, dtype: DataType) -> Result<Schema, Fail> {
-    let mut schema = Schema::new(alloc);
-    schema.with_column(PlSmallStr::from_str(alloc, name)?, dtype)?;
-    Ok(schema)
-}
+use std::process::Abort;
 
 #[test]
-fn a_known_name_is_overwritten(rt: HostRuntime) -> Result<(), Fail> {
-    let mut schema = one_column(rt.alloc(), "a", DataType::Int64)?;
-    let strings = one_column(rt.alloc(), "a", DataType::String)?;
-    overwrite_schema(&mut schema, &strings)?;
+fn a_known_name_is_overwritten(rt: HostRuntime) {
+    let mut schema = one_column(&rt, rt.alloc(), "a", DataType::Int64);
+    let strings = one_column(&rt, rt.alloc(), "a", DataType::String);
+    overwrite_schema(&mut schema, &strings).expect(&rt, "a known name");
     assert!(rt; schema == strings);
-    let unknown = one_column(rt.alloc(), "z", DataType::String)?;
-    let answer = overwrite_schema(&mut schema, &unknown);
-    assert!(rt; matches!(answer, Err(PolarsError::ColumnNotFound(_))));
-    Ok(())
 }
 
 #[test]
-fn a_categorical_column_is_told(rt: HostRuntime) -> Result<(), Fail> {
-    let mut casts = Fields::new(Vec::new(rt.alloc()));
-    let mut categories = one_column(rt.alloc(), "a", DataType::Categorical)?;
-    let answer = prepare_csv_schema(&mut categories, &mut casts);
-    assert!(rt; matches!(answer, Ok(true)));
-    let mut nulls = one_column(rt.alloc(), "a", DataType::Null)?;
-    let answer = prepare_csv_schema(&mut nulls, &mut casts);
+fn an_unknown_name_is_refused(rt: HostRuntime) {
+    let mut schema = one_column(&rt, rt.alloc(), "a", DataType::String);
+    let unknown = one_column(&rt, rt.alloc(), "z", DataType::String);
+    let refused = overwrite_schema(&mut schema, &unknown);
+    assert!(rt; matches!(refused, Err(PolarsError::ColumnNotFound(_))));
+}
+
+// Whether a column of a type is categorical, or what is wrong with it.
+fn prepare(rt: &impl Abort, alloc: Global, dtype: DataType) -> PolarsResult<bool> {
+    let mut casts = Fields::new(Vec::new(alloc));
+    let mut schema = one_column(rt, alloc, "a", dtype);
+    prepare_csv_schema(&mut schema, &mut casts)
+}
+
+#[test]
+fn a_categorical_column_is_told(rt: HostRuntime) {
+    let told = prepare(&rt, rt.alloc(), DataType::Categorical);
+    assert!(rt; matches!(told, Ok(true)));
+    let refused = prepare(&rt, rt.alloc(), DataType::Null);
     assert!(rt;
         matches!(
-            answer,
+            refused,
             Err(PolarsError::ComputeError(ComputeFault::Dtype { column: 0 }))
         )
     );
-    Ok(())
 }

@@ -4,6 +4,8 @@
 #[cfg(test)]
 mod csv_writer;
 #[cfg(test)]
+mod given;
+#[cfg(test)]
 mod options;
 #[cfg(test)]
 mod serializer;

@@ -1,63 +1,80 @@
 //! Tests of `pl_write::serializer`.
 
+use crate::given::{name, numbers, texts};
 use pl_frame::column::Column;
 use pl_frame::data_type::DataType;
-use pl_frame::name::PlSmallStr;
 use pl_write::options::{QuoteStyle, SerializeOptions};
 use pl_write::serializer::Serializer;
 use std::alloc::Global;
 use std::process::Abort;
-use std::test::Fail;
 
-#[test]
-fn cells_come_one_by_one(rt: HostRuntime) -> Result<(), Fail> {
-    let alloc = rt.alloc();
-    let name = PlSmallStr::from_str(alloc, "n")?;
-    let values = vec![in alloc; Some(-1), None]?;
-    let column = Column::whole(alloc, name, DataType::Int8, values)?;
-    let mut options = SerializeOptions::new(alloc)?;
-    options.null = PlSmallStr::from_str(alloc, "NA")?;
-    let mut cells = Serializer::new(&column);
-    let mut text = Vec::from_slice(alloc, b"x")?;
-    cells.serialize(&mut text, &options)?;
+// Puts two cells behind a text, the second one under another style.
+fn serialize_two(
+    rt: &impl Abort,
+    column: &Column,
+    text: &mut Vec<u8>,
+    options: &mut SerializeOptions,
+) {
+    let mut cells = Serializer::new(column);
+    assert!(rt; cells.len() == 2);
+    cells.serialize(text, options).expect(rt, "a cell");
     options.quote_style = QuoteStyle::Always;
-    cells.serialize(&mut text, &options)?;
-    assert_eq!(rt; text.as_slice(), b"x-1\"NA\"".as_slice());
-    assert_eq!(rt; cells.len(), 0);
-    Ok(())
+    assert!(rt; cells.len() == 1);
+    cells.serialize(text, options).expect(rt, "a cell");
+    assert!(rt; cells.len() == 0);
 }
 
-// A null and texts, each behind a bar, in a style.
-fn shows(rt: &impl Abort, alloc: Global, style: QuoteStyle, expected: &str) -> Result<(), Fail> {
-    let mut values = vec![in alloc; None]?;
-    for text in ["", "a", "\"", "a\"\"b", "a b", "a,b", "a\nb", "a\rb"] {
-        values.push(Some(PlSmallStr::from_str(alloc, text)?))?;
-    }
-    let name = PlSmallStr::from_str(alloc, "t")?;
-    let column = Column::text(alloc, name, DataType::String, values)?;
-    let mut options = SerializeOptions::new(alloc)?;
-    options.quote_style = style;
-    let mut cells = Serializer::new(&column);
-    let mut written = Vec::new(alloc);
+#[test]
+fn cells_come_one_by_one(rt: HostRuntime) {
+    let alloc = rt.alloc();
+    let column = numbers(&rt, alloc, DataType::Int8, &[Some(-1), None]);
+    let mut options = SerializeOptions::new(alloc).expect(&rt, "options");
+    options.null = name(&rt, alloc, "NA");
+    let mut text = Vec::from_slice(alloc, b"x").expect(&rt, "a text");
+    serialize_two(&rt, &column, &mut text, &mut options);
+    assert!(rt; text.as_slice() == b"x-1\"NA\"".as_slice());
+}
+
+// Puts each cell of a column behind a bar and what was written.
+fn serialize_all(
+    rt: &impl Abort,
+    column: &Column,
+    written: &mut Vec<u8>,
+    options: &SerializeOptions,
+) {
+    let mut cells = Serializer::new(column);
     for _ in 0..column.len() {
         if cells.len() > 0 {
-            written.push(b'|')?;
-            cells.serialize(&mut written, &options)?;
+            written.push(b'|').expect(rt, "a bar");
+            cells.serialize(written, options).expect(rt, "a cell");
         }
     }
-    assert_eq!(rt; written.as_slice(), expected.as_bytes());
-    Ok(())
+}
+
+// Whether the cells of a column, each behind a bar, are this text in a style.
+fn shows(rt: &impl Abort, alloc: Global, column: &Column, style: QuoteStyle, text: &str) -> bool {
+    let mut options = SerializeOptions::new(alloc).expect(rt, "options");
+    options.quote_style = style;
+    let mut written = Vec::new(alloc);
+    serialize_all(rt, column, &mut written, &options);
+    written.as_slice() == text.as_bytes()
 }
 
 #[test]
-fn texts_are_quoted_by_style(rt: HostRuntime) -> Result<(), Fail> {
+fn texts_are_quoted_by_style(rt: HostRuntime) {
     let alloc = rt.alloc();
+    let given = ["", "a", "\"", "a\"\"b", "a b", "a,b", "a\nb", "a\rb"];
+    let column = texts(&rt, alloc, &given);
     let always = "|\"\"|\"\"|\"a\"|\"\"\"\"|\"a\"\"\"\"b\"|\"a b\"|\"a,b\"|\"a\nb\"|\"a\rb\"";
     let necessary = "||\"\"|a|\"\"\"\"|\"a\"\"\"\"b\"|a b|\"a,b\"|\"a\nb\"|\"a\rb\"";
     let numeric = "||\"\"|\"a\"|\"\"\"\"|\"a\"\"\"\"b\"|\"a b\"|\"a,b\"|\"a\nb\"|\"a\rb\"";
     let never = "|||a|\"|a\"\"b|a b|a,b|a\nb|a\rb";
-    shows(&rt, alloc, QuoteStyle::Always, always)?;
-    shows(&rt, alloc, QuoteStyle::Necessary, necessary)?;
-    shows(&rt, alloc, QuoteStyle::NonNumeric, numeric)?;
-    shows(&rt, alloc, QuoteStyle::Never, never)
+    for (style, text) in [
+        (QuoteStyle::Always, always),
+        (QuoteStyle::Necessary, necessary),
+        (QuoteStyle::NonNumeric, numeric),
+        (QuoteStyle::Never, never),
+    ] {
+        assert!(rt; shows(&rt, alloc, &column, style, text), "under {style:?}");
+    }
 }

@@ -1,7 +1,7 @@
 -- Texts as codes beside a dictionary (docs/types.md, "Columns and frames").
-use Rattle.std.specs.Prelude.{IsUtf8, ◌≡◌, ℕ, if◌then◌else◌, List, [], ◌∷◌, ◌++◌, map, position, slice_index_or, Option, None, Some}
+use Rattle.std.specs.Prelude.{IsUtf8, ◌≡◌, ℕ, Bool, false, if◌then◌else◌, List, [], ◌∷◌, ◌++◌, length, map, position, slice_index_or, Option, None, Some}
 use Rattle.std.specs.List.{AllByRecursion, list_any, fold}
-use Rattle.std.specs.Option.{option_map, option_and_then}
+use Rattle.std.specs.Option.{option_map, option_map_or, option_and_then}
 use Rattle.std.specs.Str.{bytes_eq}
 
 -- the texts, and one more behind them if it is none of them; a null adds nothing
@@ -30,3 +30,13 @@ pub record HaveDictionary (dictionary : List (List ℕ)) (codes : List (Option �
   pub codes_are : AreCodes dictionary codes
   pub whole : dictionary_of (decoded dictionary codes) ≡ dictionary
   pub utf8 : AllByRecursion IsUtf8 dictionary
+
+-- a value is this text
+abbrev pub is_this : List ℕ → Option (List ℕ) → Bool
+is_this text value = option_map_or (bytes_eq text) value false
+
+-- codes follow first appearance: a text that none of the values before it is has as its code how many different texts they
+-- have, whatever comes behind it
+abbrev pub CodesFollowFirstAppearance : Type 0
+CodesFollowFirstAppearance = (front others : List (Option (List ℕ))) (text : List ℕ) → list_any (is_this text) front ≡ false
+    → code_of (dictionary_of (front ++ Some text ∷ others)) (Some text) ≡ Some (length (dictionary_of front))

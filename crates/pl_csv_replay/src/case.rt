@@ -19,6 +19,30 @@ pub struct Case<'a> {
     pub wanted: Answer,
 }
 
+/// How a case is replayed. The answer is the same in each way.
+#[derive(Clone, Copy)]
+pub enum Way {
+    /// As it stands: the input is read a block at a time, in one piece where it is short.
+    Plain,
+    /// With a comment prefix that no line begins with: the input is read record by record.
+    Comments,
+    /// In pieces of one byte, so that each ends with the first line end at even parity.
+    Pieces,
+}
+
+impl Way {
+    pub const ALL: [Way; 3] = [Way::Plain, Way::Comments, Way::Pieces];
+
+    // The words that ask for it.
+    fn words(self) -> &'static [&'static str] {
+        match self {
+            Way::Plain => &[],
+            Way::Comments => &["--comment", "\u{1}\u{2}"],
+            Way::Pieces => &["--piece", "1"],
+        }
+    }
+}
+
 // The bytes that hexadecimal digits write; `-` stands for none.
 fn bytes_of(alloc: Global, text: &str) -> Result<Vec<u8>> {
     if text == "-" {
@@ -67,22 +91,23 @@ impl<'a> Case<'a> {
         Ok(())
     }
 
-    // Whether the words tell how comments begin, or mean nothing.
-    fn is_settled(&self) -> bool {
-        self.wanted.status == 2 || self.words.iter().any(|word| word.starts_with("--comment"))
+    /// Whether the case can be replayed in a way: not where the words of that way are there already, nor where the words mean
+    /// nothing.
+    pub fn takes(&self, way: Way) -> bool {
+        match way.words() {
+            [] => true,
+            [name, ..] => {
+                self.wanted.status != 2 && !self.words.iter().any(|word| word.starts_with(*name))
+            }
+        }
     }
 
-    /// The same case with a comment prefix that no line begins with, where the words give none. With comments an input is read
-    /// record by record, and without them a block at a time: the answers are the same.
-    pub fn with_comments(self, alloc: Global) -> Result<Option<Case<'a>>> {
-        if self.is_settled() {
-            return Ok(None);
+    /// Adds the words of a way.
+    pub fn add(&mut self, alloc: Global, way: Way) -> Result<()> {
+        for word in way.words() {
+            self.words.push(String::from_str(alloc, *word)?)?;
         }
-        let mut case = self;
-        for word in ["--comment", "\u{1}\u{2}"] {
-            case.words.push(String::from_str(alloc, word)?)?;
-        }
-        Ok(Some(case))
+        Ok(())
     }
 
     /// What `run` answers.

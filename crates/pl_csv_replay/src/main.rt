@@ -5,7 +5,7 @@ mod answer;
 mod case;
 
 use anyhow::{Context, Result};
-use case::Case;
+use case::{Case, Way};
 use std::rt::{Env, Files};
 use std::{env, fs};
 
@@ -37,12 +37,14 @@ fn replay(rt: &(impl Print + AllocGlobal), case: &Case) -> Result<bool> {
     Ok(passed)
 }
 
-// Replays the case of these lines, and once more with comments.
-fn replay_twice(rt: &(impl Print + AllocGlobal), lines: &str, tally: &mut Tally) -> Result<()> {
-    let case = Case::from_lines(rt.alloc(), lines)?;
-    tally.count(replay(rt, &case)?);
-    if let Some(case) = case.with_comments(rt.alloc())? {
-        tally.count(replay(rt, &case)?);
+// Replays the case of these lines in each of the ways.
+fn replay_ways(rt: &(impl Print + AllocGlobal), lines: &str, tally: &mut Tally) -> Result<()> {
+    for way in Way::ALL {
+        let mut case = Case::from_lines(rt.alloc(), lines)?;
+        if case.takes(way) {
+            case.add(rt.alloc(), way)?;
+            tally.count(replay(rt, &case)?);
+        }
     }
     Ok(())
 }
@@ -56,7 +58,7 @@ fn replay_file<R: Files + Print + AllocGlobal>(
     let text = fs::read_to_string(rt, path)?;
     for lines in text.split("\n\n") {
         if !lines.is_empty() {
-            replay_twice(rt, lines, tally)?;
+            replay_ways(rt, lines, tally)?;
         }
     }
     Ok(())

@@ -4,6 +4,8 @@
 #[cfg(test)]
 mod bytes_reader;
 #[cfg(test)]
+mod chunk;
+#[cfg(test)]
 mod csv_reader;
 #[cfg(test)]
 mod given;

@@ -2,35 +2,19 @@
 ghost use Rattle.std.specs.Prelude.{◌≡◌, length};
 ghost use Rattle.pl_rows.specs.Plan.{AreRising};
 
+use crate::given::{name, schema_of, texts};
 use pl_cells::init_buffers::init_buffers;
 use pl_cells::utf8::CsvEncoding;
 use pl_frame::column::Column;
 use pl_frame::data_type::DataType;
 use pl_frame::error::FaultKind;
-use pl_frame::name::PlSmallStr;
 use pl_frame::schema::Schema;
-use pl_frame::texts::Texts;
 use pl_rows::columns::into_columns;
 use pl_rows::plan::{Projection, RangePlan, RowOptions};
 use pl_rows::range::{RangeEnd, read_range};
 use pl_scan::dialect::Dialect;
 use std::alloc::Global;
 use std::process::Abort;
-
-// The name of a text.
-fn name(rt: &impl Abort, alloc: Global, name: &str) -> PlSmallStr {
-    PlSmallStr::from_str(alloc, name).expect(rt, "a name")
-}
-
-// A schema of one column `a`.
-fn schema_of(rt: &impl Abort, alloc: Global, dtype: DataType) -> Schema
-    ensures { length result ≡ 1 }
-{
-    let mut schema = Schema::new(alloc);
-    let added = schema.with_column(name(rt, alloc, "a"), dtype);
-    added.expect(rt, "a column");
-    schema
-}
 
 // A column of these numbers.
 fn numbers(rt: &impl Abort, alloc: Global, title: &str, values: &[i128]) -> Column {
@@ -40,15 +24,6 @@ fn numbers(rt: &impl Abort, alloc: Global, title: &str, values: &[i128]) -> Colu
     }
     let column = Column::whole(alloc, name(rt, alloc, title), DataType::Int64, numbers);
     column.expect(rt, "a column")
-}
-
-// A column of these texts.
-fn texts(rt: &impl Abort, alloc: Global, title: &str, values: &[&str]) -> Column {
-    let mut texts = Texts::new(alloc);
-    for value in values {
-        texts.push(value).expect(rt, "a text");
-    }
-    Column::from_string(name(rt, alloc, title), texts)
 }
 
 // The columns of a schema at these places, as they are read of a range, and where it ended.

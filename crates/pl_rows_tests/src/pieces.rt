@@ -1,0 +1,82 @@
+//! Tests of `pl_rows::pieces`: a range in pieces of every size.
+ghost use Rattle.std.specs.Prelude.{◌≡◌, ◌<◌, length};
+
+use crate::given::{schema_of, texts};
+use pl_cells::init_buffers::init_buffers;
+use pl_cells::utf8::CsvEncoding;
+use pl_frame::column::Column;
+use pl_frame::data_type::DataType;
+use pl_frame::error::FaultKind;
+use pl_frame::schema::Schema;
+use pl_rows::columns::into_columns;
+use pl_rows::pieces::{PiecesRead, read_pieces};
+use pl_rows::plan::{Projection, RangePlan, RowOptions};
+use pl_rows::range::RangeEnd;
+use pl_scan::dialect::Dialect;
+use std::alloc::Global;
+use std::process::Abort;
+
+// The column of a schema, as it is read of a range in pieces of this size, and what was read for it.
+fn read(
+    rt: &impl Abort,
+    alloc: Global,
+    schema: &Schema,
+    range: &[u8],
+    piece_size: usize,
+) -> (Vec<Column>, PiecesRead)
+    requires one { length schema.now ≡ 1 }
+    requires some { 0 < piece_size }
+{
+    let plan = RangePlan {
+        dialect: Dialect {
+            separator: b',',
+            quote_char: Some(b'"'),
+            eol_char: b'\n',
+            comment_prefix: None,
+        },
+        projection: Projection {
+            places: &[0],
+            width: schema.len(),
+        },
+        options: RowOptions {
+            null_values: None,
+            encoding: CsvEncoding::Utf8,
+            missing_is_null: true,
+            ignore_errors: false,
+            truncate_ragged_lines: false,
+        },
+        limit: None,
+        last: true,
+    };
+    assert!(rt; plan.dialect.is_valid() && plan.projection.is_valid());
+    let buffers = init_buffers(alloc, &[0], 0, schema, Some(b'"'), CsvEncoding::Utf8);
+    let mut buffers = buffers.expect(rt, "buffers");
+    let read = read_pieces(alloc, &mut buffers, range, &plan, piece_size).expect(rt, "memory");
+    let columns = into_columns(alloc, buffers).expect(rt, "columns");
+    (columns, read)
+}
+
+#[test]
+fn a_quoted_line_end_is_read_at_every_piece_size(rt: HostRuntime) {
+    let alloc = rt.alloc();
+    let schema = schema_of(&rt, alloc, DataType::String);
+    let wanted = texts(&rt, alloc, "a", &["x\"y", "c\nd"]);
+    for piece_size in [1, 4, 7, 64] {
+        let (columns, read) = read(&rt, alloc, &schema, b"x\"y\n\"c\nd\"\n", piece_size);
+        assert!(rt; columns.first() == Some(&wanted));
+        assert!(rt; read.end == RangeEnd::Closed && read.bytes <= 20);
+    }
+}
+
+#[test]
+fn a_faulty_row_is_numbered_over_all_pieces(rt: HostRuntime) {
+    let alloc = rt.alloc();
+    let schema = schema_of(&rt, alloc, DataType::Int64);
+    let (_, read) = read(&rt, alloc, &schema, b"1\n2\nx\n3\n", 1);
+    let fault = RangeEnd::Fault {
+        row: 2,
+        column: 0,
+        kind: FaultKind::Value,
+    };
+    assert!(rt; read.end == fault);
+}

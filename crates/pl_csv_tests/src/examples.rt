@@ -1,9 +1,11 @@
-//! The examples of docs/library.md, word for word.
-ghost use Rattle.std.specs.Prelude.{IfOk, None, ◌≡◌};
+//! The examples of docs/library.md, word for word, and what they answer.
+ghost use Rattle.std.specs.Prelude.{◌≡◌, None, IfOk};
 
 use pl_csv::adapters::FsOpener;
 use pl_csv::counting::count_rows;
+use pl_frame::column::Column;
 use pl_frame::data_type::DataType;
+use pl_frame::error::{PolarsError, PolarsResult};
 use pl_frame::frame::DataFrame;
 use pl_frame::name::PlSmallStr;
 use pl_frame::schema::Schema;
@@ -16,94 +18,125 @@ use pl_read::reader_makers::ReaderMakers;
 use pl_write::csv_writer::{CsvWriter, SerWriter};
 use std::alloc::Global;
 use std::fs;
+use std::process::Abort;
+use std::rt::Files;
 use std::test::Fail;
 
 // A read of the columns `id`, `name` and `amount`.
-fn orders(alloc: Global) -> Result<CsvReadOptions, Fail>
+fn orders(alloc: Global) -> PolarsResult<CsvReadOptions>
     ensures { IfOk result (λ options. options.path ≡ None) }
 {
     let mut schema = Schema::new(alloc);
     schema.with_column(PlSmallStr::from_str(alloc, "id")?, DataType::Int64)?;
     schema.with_column(PlSmallStr::from_str(alloc, "name")?, DataType::String)?;
-    schema.with_column(
-        PlSmallStr::from_str(alloc, "amount")?,
-        DataType::Decimal(None, Some(2)),
-    )?;
+    let amount = DataType::Decimal(None, Some(2));
+    schema.with_column(PlSmallStr::from_str(alloc, "amount")?, amount)?;
     Ok(CsvReadOptions::new(alloc).with_schema(Some(schema)))
 }
 
-#[test]
-fn read_a_file(rt: HostRuntime) -> Result<(), Fail> {
-    let alloc = rt.alloc();
-    fs::write(
-        &rt,
-        "/tmp/pl_csv_orders.csv",
-        "id,name,amount\n1,Anna,2.50\n2,,-3\n",
-    )?;
-    let path = PlSmallStr::from_str(alloc, "/tmp/pl_csv_orders.csv")?;
-    let mut files = FsOpener::new(&rt);
-    let mut reader = orders(alloc)?.try_into_reader_with_file_path(alloc, &mut files, Some(path))?;
-    let frame = reader.finish()?;
-    fs::remove_file(&rt, "/tmp/pl_csv_orders.csv")?;
-    assert_eq!(rt; (frame.height(), frame.width()), (2, 3));
-    Ok(())
+// The frame of a file.
+fn read_a_file(files: &impl Files, alloc: Global, path: &str) -> PolarsResult<DataFrame> {
+    let path = PlSmallStr::from_str(alloc, path)?;
+    let mut opener = FsOpener::new(files);
+    let options = orders(alloc)?;
+    let mut reader = options.try_into_reader_with_file_path(alloc, &mut opener, Some(path))?;
+    reader.finish()
 }
 
-#[test]
-fn read_without_a_schema(rt: HostRuntime) -> Result<(), Fail> {
-    let alloc = rt.alloc();
-    let source = MemSource::new(b"id,name\n1,Anna\n2,\n");
-    let mut reader = CsvReader::new(alloc, source);
-    let frame = reader.finish()?;
-    for (column, name) in frame.columns().iter().zip(["id", "name"]) {
-        assert_eq!(rt; column.name(), name);
+// Whether columns have these names.
+fn have_names(columns: &[Column], names: &[&str]) -> bool {
+    for (column, name) in columns.iter().zip(names.iter()) {
+        if column.name() != *name {
+            return false;
+        }
     }
-    assert_eq!(rt; (frame.height(), frame.width()), (2, 2));
-    Ok(())
+    columns.len() == names.len()
 }
 
 #[test]
-fn read_two_columns(rt: HostRuntime) -> Result<(), Fail> {
-    let alloc = rt.alloc();
-    let mut names = Vec::new(alloc);
-    names.push(PlSmallStr::from_str(alloc, "amount")?)?;
-    names.push(PlSmallStr::from_str(alloc, "id")?)?;
+fn a_file_is_read(rt: HostRuntime) -> Result<(), Fail> {
+    let path = "/tmp/pl_csv_orders.csv";
+    fs::write(&rt, path, "id,name,amount\n1,Anna,2.50\n2,,-3\n")?;
+    let frame = read_a_file(&rt, rt.alloc(), path).expect(&rt, "a frame");
+    fs::remove_file(&rt, path).expect(&rt, "a file");
+    assert!(rt; frame.height() == 2 && frame.width() == 3);
+    Ok(())
+}
+
+// The frame of a text whose header names the columns and whose texts give the types.
+fn read_without_a_schema(alloc: Global, text: &[u8]) -> PolarsResult<DataFrame> {
+    let mut reader = CsvReader::new(alloc, MemSource::new(text));
+    reader.finish()
+}
+
+#[test]
+fn a_text_is_read_without_a_schema(rt: HostRuntime) {
+    let frame = read_without_a_schema(rt.alloc(), b"id,name\n1,Anna\n2,\n");
+    let frame = frame.expect(&rt, "a frame");
+    assert!(rt; have_names(frame.columns(), &["id", "name"]));
+    assert!(rt; frame.height() == 2 && frame.width() == 2);
+}
+
+// The columns `id` and `amount` of a text.
+fn read_two_columns(alloc: Global, text: &[u8]) -> PolarsResult<DataFrame> {
+    let amount = PlSmallStr::from_str(alloc, "amount")?;
+    let id = PlSmallStr::from_str(alloc, "id")?;
+    let Ok(names) = vec![in alloc; amount, id] else {
+        return Err(PolarsError::OutOfMemory);
+    };
     let options = orders(alloc)?.with_columns(Some(ColumnNames::new(names)));
-    let source = MemSource::new(b"id,name,amount\n1,Anna,2.50\n");
-    let frame = options
-        .into_reader_with_file_handle(alloc, source)
-        .finish()?;
-    for (column, name) in frame.columns().iter().zip(["id", "amount"]) {
-        assert_eq!(rt; column.name(), name);
-    }
-    assert_eq!(rt; frame.width(), 2);
-    Ok(())
+    let mut reader = options.into_reader_with_file_handle(alloc, MemSource::new(text));
+    reader.finish()
 }
 
 #[test]
-fn write_a_frame(rt: HostRuntime) -> Result<(), Fail> {
-    let alloc = rt.alloc();
-    let source = MemSource::new(b"id,name,amount\n1,\"Berg, Anna\",2.5\n");
-    let frame = orders(alloc)?
-        .into_reader_with_file_handle(alloc, source)
-        .finish()?;
-    let mut sink = MemSink::new(alloc);
-    CsvWriter::new(alloc, &mut sink)?
+fn two_columns_are_read(rt: HostRuntime) {
+    let frame = read_two_columns(rt.alloc(), b"id,name,amount\n1,Anna,2.50\n");
+    let frame = frame.expect(&rt, "a frame");
+    assert!(rt; have_names(frame.columns(), &["id", "amount"]));
+    assert!(rt; frame.width() == 2);
+}
+
+// Writes a frame with semicolons.
+fn write_a_frame(alloc: Global, frame: &DataFrame, sink: &mut MemSink) -> PolarsResult<()> {
+    CsvWriter::new(alloc, sink)?
         .with_separator(b';')
-        .finish(&frame)?;
-    let text = "id;name;amount\n1;Berg, Anna;2.50\n";
-    assert_eq!(rt; sink.received(), text.as_bytes());
-    Ok(())
+        .finish(frame)
+}
+
+// The frame of orders in a text.
+fn orders_of(rt: &impl Abort, alloc: Global, text: &[u8]) -> DataFrame {
+    let options = orders(alloc).expect(rt, "options");
+    let source = MemSource::new(text);
+    let mut reader = options.into_reader_with_file_handle(alloc, source);
+    reader.finish().expect(rt, "a frame")
 }
 
 #[test]
-fn count_the_rows(rt: HostRuntime) -> Result<(), Fail> {
+fn a_frame_is_written(rt: HostRuntime) {
     let alloc = rt.alloc();
-    fs::write(&rt, "/tmp/pl_csv_notes.csv", "note\n\"two\nlines\"\none\n")?;
-    let mut files = FsOpener::new(&rt);
+    let text = b"id,name,amount\n1,\"Berg, Anna\",2.5\n";
+    let frame = orders_of(&rt, alloc, text);
+    let mut sink = MemSink::new(alloc);
+    let written = write_a_frame(alloc, &frame, &mut sink);
+    written.expect(&rt, "a text");
+    let text = b"id;name;amount\n1;Berg, Anna;2.50\n";
+    assert!(rt; sink.received() == text.as_slice());
+}
+
+// The number of rows of a file.
+fn count_the_rows(files: &impl Files, alloc: Global, path: &str) -> PolarsResult<usize> {
+    let mut opener = FsOpener::new(files);
+    let quote = Some(b'"');
+    count_rows(alloc, &mut opener, path, b',', quote, None, b'\n', true)
+}
+
+#[test]
+fn the_rows_are_counted(rt: HostRuntime) -> Result<(), Fail> {
     let path = "/tmp/pl_csv_notes.csv";
-    let rows = count_rows(alloc, &mut files, path, b',', Some(b'"'), None, b'\n', true)?;
+    fs::write(&rt, path, "note\n\"two\nlines\"\none\n")?;
+    let rows = count_the_rows(&rt, rt.alloc(), path);
     fs::remove_file(&rt, path)?;
-    assert_eq!(rt; rows, 2);
+    assert!(rt; matches!(rows, Ok(2)));
     Ok(())
 }

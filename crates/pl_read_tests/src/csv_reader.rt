@@ -53,18 +53,22 @@ fn is_one(rt: &impl Abort, alloc: Global, read: &PolarsResult<DataFrame>) -> boo
     }
 }
 
+// What is read of a pipe that fails at these calls.
+fn read_pipe(rt: &impl Abort, alloc: Global, fails: &[usize]) -> PolarsResult<DataFrame> {
+    let mut reader = CsvReader::with_options(alloc, pipe(fails), one_column(rt, alloc));
+    finish(&mut reader)
+}
+
 #[test]
 fn a_pipe_is_read_from_where_it_stands(rt: HostRuntime) {
-    let alloc = rt.alloc();
-    let mut reader = CsvReader::with_options(alloc, pipe(&[]), one_column(&rt, alloc));
-    assert!(rt; is_one(&rt, alloc, &finish(&mut reader)));
+    let read = read_pipe(&rt, rt.alloc(), &[]);
+    assert!(rt; is_one(&rt, rt.alloc(), &read));
 }
 
 #[test]
 fn a_pipe_that_fails_is_a_fault(rt: HostRuntime) {
-    let alloc = rt.alloc();
-    let mut reader = CsvReader::with_options(alloc, pipe(&[3]), one_column(&rt, alloc));
-    assert!(rt; matches!(finish(&mut reader), Err(PolarsError::IO)));
+    let failed = read_pipe(&rt, rt.alloc(), &[3]);
+    assert!(rt; matches!(failed, Err(PolarsError::IO)));
 }
 
 // What a text means where no schema is given.

@@ -60,18 +60,15 @@ fn a_path_that_is_missing_is_a_fault(rt: HostRuntime) {
     assert!(rt; matches!(missing, Err(PolarsError::IO)));
 }
 
-#[test]
-fn a_pipe_is_read(rt: HostRuntime) {
-    let alloc = rt.alloc();
-    let pipe = PipeSource::new(b"a\n1\n", 1, &[]);
-    let mut reader = one_column(&rt, alloc).into_reader_with_file_handle(alloc, pipe);
-    assert!(rt; reads_one(&rt, alloc, &mut reader));
+// Through the bound: whether the column `a` of 1 is read of a handle.
+fn has_one<R: MmapBytesReader + Drop>(rt: &impl Abort, alloc: Global, handle: R) -> bool {
+    let mut reader = one_column(rt, alloc).into_reader_with_file_handle(alloc, handle);
+    reads_one(rt, alloc, &mut reader)
 }
 
 #[test]
-fn memory_is_read(rt: HostRuntime) {
+fn a_handle_and_memory_are_read(rt: HostRuntime) {
     let alloc = rt.alloc();
-    let memory = MemSource::new(b"a\n1\n");
-    let mut reader = one_column(&rt, alloc).into_reader_with_file_handle(alloc, memory);
-    assert!(rt; reads_one(&rt, alloc, &mut reader));
+    assert!(rt; has_one(&rt, alloc, PipeSource::new(b"a\n1\n", 1, &[])));
+    assert!(rt; has_one(&rt, alloc, MemSource::new(b"a\n1\n")));
 }

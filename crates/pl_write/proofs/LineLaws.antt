@@ -1,9 +1,11 @@
 -- Lines, text by text.
-use Rattle.std.proofs.Common.{◌≡◌, ℕ, zero, suc, ◌+◌, ◌<◌, List, [], ◌∷◌, ◌++◌, map, length, take, get_or, refl, sym, ◌∙◌, ap, append_assoc, arith}
-use Rattle.std.specs.List.{join_with_byte}
+use Rattle.std.proofs.Common.{◌≡◌, ℕ, zero, suc, ◌+◌, ◌<◌, ◌≤◌, List, [], ◌∷◌, ◌++◌, map, length, take, get_or, refl, sym, ◌∙◌, ap, append_assoc, arith}
+use Rattle.std.specs.List.{flat_map, join_with_byte}
 use Rattle.std.proofs.lemmas.List.{take_more, map-append, length-map, length-take-le}
-use Rattle.pl_frame.specs.Frame.{ColumnValue, names_of}
-use Rattle.pl_write.specs.Writing.{separator_before, HasRow}
+use Rattle.pl_frame.specs.Frame.{ColumnValue, cell_at, names_of}
+use Rattle.pl_frame.specs.Text.{WriteOptions, written_cell, row_line, row_lines}
+use Rattle.pl_write.specs.Lines.{cell_in_line, joined_cells, AreLines, HaveRows}
+use Rattle.pl_write.specs.Writing.{separator_before}
 
 join-push : (s : ℕ) (x y : List ℕ) (xs : List (List ℕ)) → join_with_byte s ((x ∷ xs) ++ y ∷ []) ≡ join_with_byte s (x ∷ xs) ++ (s ∷ y)
 join-push s x y [] = refl
@@ -34,11 +36,29 @@ joined_more s f xs i d old now after inside so_far next =
     length-map-take : {X : Type 0} (f : X → List ℕ) (xs : List X) (i : ℕ) → i < length xs → length (map f (take i xs)) ≡ i
     length-map-take f xs i inside = simp length-map (length-take-le i xs (omega arith))
 
--- a row that every column has is one of each column
-pub HasRow-at : (row : ℕ) (columns : List ColumnValue) (i : ℕ) (d : ColumnValue) → HasRow row columns → i < length columns → row < length (get_or columns i d).values
-HasRow-at row [] i d has inside = absurd (omega arith)
-HasRow-at row (column ∷ columns) zero d has inside = has.0
-HasRow-at row (column ∷ columns) (suc i) d has inside = HasRow-at row columns i d has.1 (omega arith)
+-- a column more in the line of a row
+pub line-more : (o : WriteOptions) (columns : List ColumnValue) (i : ℕ) (column : ColumnValue) (row : ℕ) (now after : List ℕ) → i < length columns → column ≡ get_or columns i column
+    → now ≡ joined_cells o (take i columns) row → after ≡ now ++ cell_in_line o column i row → after ≡ joined_cells o (take (i + 1) columns) row
+line-more o columns i column row now after inside is so_far next =
+    let f = λ (x : ColumnValue). written_cell o x.dtype (cell_at x row) in
+    joined_more o.separator f columns i column [] now after inside so_far
+    (next ∙ sym (append_assoc now (separator_before o.separator i) (f column)) ∙ ap (λ x. (now ++ separator_before o.separator i) ++ f x) is)
+
+-- lines with their ends are those of the rows
+pub lines-are : (o : WriteOptions) (columns : List ColumnValue) (first : ℕ) (lines : List (List ℕ)) → AreLines (joined_cells o columns) first lines
+    → flat_map (λ line. line ++ o.terminator) lines ≡ row_lines o columns first (length lines)
+lines-are o columns first [] are = refl
+lines-are o columns first (line ∷ lines) are =
+    let here : line ≡ joined_cells o columns first = are 0 (omega arith) ∙ ap (joined_cells o columns) (omega arith) in
+    let rest : AreLines (joined_cells o columns) (first + 1) lines = λ k h. are (suc k) (omega arith) ∙ ap (joined_cells o columns) (omega arith) in
+    ap (λ l. (l ++ o.terminator) ++ flat_map (λ line. line ++ o.terminator) lines) here
+    ∙ ap (λ l. row_line o columns first ++ l) (lines-are o columns (first + 1) lines rest)
+
+-- so many rows that every column has are rows of each column
+pub HaveRows-at : (count : ℕ) (columns : List ColumnValue) (i : ℕ) (d : ColumnValue) → HaveRows count columns → i < length columns → count ≤ length (get_or columns i d).values
+HaveRows-at count [] i d have inside = absurd (omega arith)
+HaveRows-at count (column ∷ columns) zero d have inside = have.0
+HaveRows-at count (column ∷ columns) (suc i) d have inside = HaveRows-at count columns i d have.1 (omega arith)
 
 -- the texts of the names
 pub map-names : (f : List ℕ → List ℕ) (columns : List ColumnValue) → map (λ column. f column.name) columns ≡ map f (names_of columns)

@@ -9,6 +9,14 @@ pub put-front : (p bytes new : List ℕ) (at n count : ℕ) → length p ≡ at 
 put-front p bytes new at n count long few put =
     sym (take-take (at + count) (at + n) new (omega arith)) ∙ ap (take (at + count)) put ∙ ap (λ k. take (k + count) (p ++ bytes)) (sym long) ∙ take-behind p bytes count
 
+-- of the first bytes of a buffer that were put, only the first count
+pub put-first : (to buffer new : List ℕ) (at n count end : ℕ) → at ≤ length to → n ≤ length buffer → count ≤ n → end ≡ at + length (take n buffer) → take end new ≡ take at to ++ take n buffer
+    → take (at + count) new ≡ take at to ++ take count buffer
+put-first to buffer new at n count end inside fits few is put =
+    let whole : end ≡ at + n = is ∙ ap (λ k. at + k) (length-take-le n buffer fits) in
+    put-front (take at to) (take n buffer) new at n count (length-take-le at to inside) few (ap (λ k. take k new) (sym whole) ∙ put)
+    ∙ ap (λ l. take at to ++ l) (take-take count n buffer few)
+
 -- two texts one behind the other
 pub put-both : (old mid new x y whole : List ℕ) → mid ≡ old ++ x → new ≡ mid ++ y → x ++ y ≡ whole → new ≡ old ++ whole
 put-both old mid new x y whole first last both = last ∙ ap (λ l. l ++ y) first ∙ append_assoc old x y ∙ ap (λ l. old ++ l) both

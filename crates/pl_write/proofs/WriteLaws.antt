@@ -1,12 +1,13 @@
 -- Writing a text in blocks.
-use Rattle.std.proofs.Common.{◌≡◌, ℕ, suc, ◌+◌, ◌-◌, ◌<◌, ◌≤◌, List, [], ◌∷◌, ◌++◌, length, take, drop, refl, sym, ◌∙◌, ap, subst, append_assoc, append-nil, arith}
+use Rattle.std.proofs.Common.{◌≡◌, ℕ, zero, suc, ◌+◌, ◌-◌, ◌<◌, ◌≤◌, List, [], ◌∷◌, ◌++◌, length, take, drop, refl, sym, ◌∙◌, ap, subst, append_assoc, append-nil, arith}
 use Rattle.std.specs.Prelude.{Option, None, Some}
 use Rattle.std.specs.Io.KnownBytes.{Appends}
 use Rattle.std.proofs.lemmas.List.{take_at, take-append-drop}
 use Rattle.pl_frame.specs.Frame.{ColumnValue, HaveHeight}
 use Rattle.pl_frame.specs.Text.{WriteOptions, row_line, row_lines}
 use Rattle.pl_frame.proofs.Known.{Appends-more}
-use Rattle.pl_write.specs.Writing.{AppendsPrefix, HasRow}
+use Rattle.pl_write.specs.Lines.{HaveRows}
+use Rattle.pl_write.specs.Writing.{AppendsPrefix}
 
 pub Appends-nil : (a : Option (List ℕ)) → Appends a a []
 Appends-nil None = tt
@@ -63,17 +64,29 @@ pub IsWriting-all : (old now next : Option (List ℕ)) (block text : List ℕ) �
 IsWriting-all old now next block text writing appended =
     subst (λ l. Appends old next l) (sym (append-nil (writing.flushed ++ block)) ∙ writing.whole) (Appends-more old now next writing.flushed block writing.appended appended)
 
--- the line of a row, and then those of the others
-pub row_lines-step : (o : WriteOptions) (columns : List ColumnValue) (row height : ℕ) → row < height
-    → row_lines o columns row (height - row) ≡ row_line o columns row ++ row_lines o columns (row + 1) (height - (row + 1))
-row_lines-step o columns row height inside =
-    let count : height - row ≡ suc (height - (row + 1)) = omega arith in
-    ap (row_lines o columns row) count
+-- the lines of some rows, and then those of the others
+row_lines-both : (o : WriteOptions) (columns : List ColumnValue) (row a b : ℕ) → row_lines o columns row (a + b) ≡ row_lines o columns row a ++ row_lines o columns (row + a) b
+row_lines-both o columns row zero b =
+    let none : zero + b ≡ b = omega arith in
+    let here : row ≡ row + zero = omega arith in
+    ap (row_lines o columns row) none ∙ ap (λ r. row_lines o columns r b) here
+row_lines-both o columns row (suc a) b =
+    let more : suc a + b ≡ suc (a + b) = omega arith in
+    let next : row + 1 + a ≡ row + suc a = omega arith in
+    ap (row_lines o columns row) more
+    ∙ ap (λ l. row_line o columns row ++ l) (row_lines-both o columns (row + 1) a b ∙ ap (λ r. row_lines o columns (row + 1) a ++ row_lines o columns r b) next)
+    ∙ sym (append_assoc (row_line o columns row) (row_lines o columns (row + 1) a) (row_lines o columns (row + suc a) b))
+
+pub row_lines-step : (o : WriteOptions) (columns : List ColumnValue) (row count height : ℕ) → row + count ≤ height
+    → row_lines o columns row (height - row) ≡ row_lines o columns row count ++ row_lines o columns (row + count) (height - (row + count))
+row_lines-step o columns row count height inside =
+    let all : height - row ≡ count + (height - (row + count)) = omega arith in
+    ap (row_lines o columns row) all ∙ row_lines-both o columns row count (height - (row + count))
 
 pub row_lines-none : (o : WriteOptions) (columns : List ColumnValue) (row height : ℕ) → height ≤ row → row_lines o columns row (height - row) ≡ []
 row_lines-none o columns row height past = let count : height - row ≡ 0 = omega arith in ap (row_lines o columns row) count
 
--- a row below the height is one of every column
-pub HasRow-height : (row height : ℕ) (columns : List ColumnValue) → HaveHeight height columns → row < height → HasRow row columns
-HasRow-height row height [] have inside = tt
-HasRow-height row height (column ∷ columns) have inside = (omega (arith, have.0), HasRow-height row height columns have.1 inside)
+-- so many rows as there are, or fewer, are rows of every column
+pub HaveRows-height : (count height : ℕ) (columns : List ColumnValue) → HaveHeight height columns → count ≤ height → HaveRows count columns
+HaveRows-height count height [] have inside = tt
+HaveRows-height count height (column ∷ columns) have inside = (omega (arith, have.0), HaveRows-height count height columns have.1 inside)

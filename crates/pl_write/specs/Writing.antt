@@ -20,10 +20,6 @@ pub record StaysInFront (old new : List ℕ) : Type 0 where
   pub added : List ℕ
   pub is : new ≡ old ++ added
 
--- every column has the row
-abbrev pub HasRow : ℕ → List ColumnValue → Type 0
-HasRow row columns = AllByRecursion (λ column. row < length column.values) columns
-
 -- known bytes grow by a prefix of a text
 abbrev pub AppendsPrefix : Option (List ℕ) → Option (List ℕ) → List ℕ → Type 0
 AppendsPrefix old new text = (n : ℕ) × Appends old new (take n text)

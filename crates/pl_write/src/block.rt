@@ -1,21 +1,20 @@
 //! The bytes that are to be written next.
-ghost use Rattle.std.specs.Prelude.{◌≡◌, [], ◌++◌, length, OnOk};
+ghost use Rattle.std.specs.Prelude.{◌≡◌, [], ◌++◌, ◌<◌, length, OnOk};
 ghost use Rattle.std.specs.Bool.{OnTrue, OnFalse};
-ghost use Rattle.pl_frame.specs.Text.{row_line};
-ghost use Rattle.pl_write.specs.CellSources.{HaveSources};
+ghost use Rattle.pl_write.specs.CellSources.{IsSourceOf};
+ghost use Rattle.pl_write.specs.Lines.{cell_in_line};
 ghost use Rattle.pl_write.specs.Options.{cell_options};
-ghost use Rattle.pl_write.specs.Writing.{HasRow};
 
 use crate::cell_source::CellSource;
 use crate::options::SerializeOptions;
-use crate::put_rows::put_row;
+use crate::put_lines::{put_cell_in_line, put_line};
 use crate::spare::Spare;
 use pl_frame::column::Column;
 use std::alloc::{AllocError, Global};
 use std::marker::Model;
 
 // A block grows by this or more.
-const GROWTH: usize = 1 << 14;
+const GROWTH: usize = 1 << 8;
 
 /// Bytes that are to be written next: those of a buffer up to a cursor.
 #[derive(Drop)]
@@ -86,22 +85,24 @@ impl Block {
         Ok(())
     }
 
-    /// Puts the line of a row at the end. Refuses only want of memory.
-    pub(crate) fn append_row(
+    /// Puts a cell at the end, with a separator in front unless it is the first of its line. Refuses only want of memory.
+    #[inline(always)]
+    pub(crate) fn append_cell(
         &mut self,
         spare: &mut Spare,
-        columns: &[Column],
-        sources: &[CellSource<'_>],
+        column: &Column,
+        source: CellSource<'_>,
         row: usize,
+        place: usize,
         options: &SerializeOptions,
     ) -> Result<(), AllocError>
-        requires row { HasRow row columns.now }
-        requires sources { HaveSources (cell_options options.now) columns.now sources.now }
-        ensures { OnOk result (self.new ≡ self.old ++ row_line (cell_options options.now) columns.now row) }
+        requires row { row < length column.now.values }
+        requires source { IsSourceOf source (cell_options options.now) column.now }
+        ensures { OnOk result (self.new ≡ self.old ++ cell_in_line (cell_options options.now) column.now place row) }
     {
         // Each time the block is twice as large, so memory is wanting long before the last.
         for _ in 0..64 {
-            if self.try_row(spare, columns, sources, row, options) {
+            if self.try_cell(spare, column, source, row, place, options) {
                 return Ok(());
             }
             self.grow()?;
@@ -109,33 +110,75 @@ impl Block {
         Err(AllocError)
     }
 
-    // Puts the line of a row at the end, and answers whether there was room. Where there was not, the bytes are as they
+    // Puts a cell at the end as `append_cell`, and answers whether there was room. Where there was not, the bytes are as they
     // were.
-    #[inline]
-    fn try_row(
+    #[inline(always)]
+    fn try_cell(
         &mut self,
         spare: &mut Spare,
-        columns: &[Column],
-        sources: &[CellSource<'_>],
+        column: &Column,
+        source: CellSource<'_>,
         row: usize,
+        place: usize,
         options: &SerializeOptions,
     ) -> bool
-        requires row { HasRow row columns.now }
-        requires sources { HaveSources (cell_options options.now) columns.now sources.now }
-        ensures put { OnTrue result (self.new ≡ self.old ++ row_line (cell_options options.now) columns.now row) }
+        requires row { row < length column.now.values }
+        requires source { IsSourceOf source (cell_options options.now) column.now }
+        ensures put { OnTrue result (self.new ≡ self.old ++ cell_in_line (cell_options options.now) column.now place row) }
         ensures unchanged { OnFalse result (self.new ≡ self.old) }
     {
-        match put_row(
+        match put_cell_in_line(
             &mut self.buffer,
             self.cursor,
             spare,
-            columns,
-            sources,
+            column,
+            source,
             row,
+            place,
             options,
         ) {
             Some(end) => {
                 self.cursor = end;
+                true
+            }
+            None => false,
+        }
+    }
+
+    /// Puts a line and what ends it at the end. Refuses only want of memory.
+    #[inline]
+    pub(crate) fn append_line(
+        &mut self,
+        line: &Block,
+        options: &SerializeOptions,
+    ) -> Result<(), AllocError>
+        ensures { OnOk result (self.new ≡ self.old ++ (line.now ++ options.now.line_terminator)) }
+    {
+        for _ in 0..64 {
+            if self.try_line(line, options) {
+                return Ok(());
+            }
+            self.grow()?;
+        }
+        Err(AllocError)
+    }
+
+    // Puts a line and what ends it at the end, and answers whether there was room. Where there was not, the bytes are as they
+    // were.
+    #[inline(always)]
+    fn try_line(&mut self, line: &Block, options: &SerializeOptions) -> bool
+        ensures put { OnTrue result (self.new ≡ self.old ++ (line.now ++ options.now.line_terminator)) }
+        ensures unchanged { OnFalse result (self.new ≡ self.old) }
+    {
+        match put_line(
+            &mut self.buffer,
+            self.cursor,
+            &line.buffer,
+            line.cursor,
+            options,
+        ) {
+            Some(behind) => {
+                self.cursor = behind;
                 true
             }
             None => false,

@@ -81,9 +81,9 @@ fn put_number(to: &mut [u8], at: usize, dtype: &DataType, number: i128) -> Optio
     }
 }
 
-// Puts a text that is ready, where there is room.
+/// Puts a text that is ready, where there is room.
 #[inline]
-fn put_ready(to: &mut [u8], at: usize, text: &[u8]) -> Option<usize>
+pub(crate) fn put_ready(to: &mut [u8], at: usize, text: &[u8]) -> Option<usize>
     requires room { at ≤ length to.old }
     ensures text { IfSome result (λ end. take end to.new ≡ take at to.old ++ text.now) }
     ensures within { IfSome result (λ end. end ≤ length to.new) }

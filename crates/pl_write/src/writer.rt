@@ -16,6 +16,7 @@ ghost use Rattle.pl_write.specs.Writing.{separator_before, AppendsPrefix, StaysI
 use crate::block::Block;
 use crate::cell_form::CellForm;
 use crate::cell_source::sources_of;
+use crate::lines::{append_rows, line_count, new_lines};
 use crate::options::{CsvWriterOptions, SerializeOptions};
 use crate::spare::Spare;
 use crate::texts::{push_as_needed, push_null, push_text};
@@ -27,7 +28,7 @@ use pl_frame::numbers::Numbers;
 use pl_frame::sink::{Sink, SinkFault, write_all};
 use std::alloc::{AllocError, Global};
 
-// So many bytes are written at a time, or a row more.
+// So many bytes are written at a time, or some rows more.
 const BLOCK: usize = 1 << 17;
 
 // Appends a text, quoted as the style asks.
@@ -258,16 +259,25 @@ pub fn write_frame<Si: Sink>(
     let Ok(mut block) = head_block(alloc, columns, options) else {
         return Err(SinkFault::OutOfMemory);
     };
+    let Ok(mut lines) = new_lines(alloc) else {
+        return Err(SinkFault::OutOfMemory);
+    };
+    let lines = lines.as_mut_slice();
     let mut spare = Spare::new(alloc);
-    for row in 0..row_count(columns) {
-        match block.append_row(
+    let height = row_count(columns);
+    let mut row = 0;
+    while row < height {
+        let count = line_count(lines, height - row);
+        match append_rows(
+            &mut block,
+            &mut lines[..count],
             &mut spare,
             columns,
             &sources,
             row,
             &options.serialize_options,
         ) {
-            Ok(()) => {}
+            Ok(()) => row += count,
             Err(_) => return Err(SinkFault::OutOfMemory),
         }
         if block.len() >= BLOCK {

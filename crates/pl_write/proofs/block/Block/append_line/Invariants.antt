@@ -1,0 +1,5 @@
+use Rattle.std.proofs.Common.{◌≡◌}
+use Rattle.pl_write.proofs.block.Block.append_line.Given as goal
+
+abbrev pub invariant-loop : goal.invariant-loop
+invariant-loop l = l.self ≡ l.initial.self

@@ -1,0 +1,127 @@
+//! The lines of some rows, put together column by column.
+ghost use Rattle.std.specs.Prelude.{◌≡◌, ◌+◌, ◌≤◌, ◌<◌, ◌++◌, [], length, IfOk, OnOk};
+ghost use Rattle.std.specs.List.{All, flat_map};
+ghost use Rattle.pl_frame.specs.Text.{row_lines};
+ghost use Rattle.pl_write.specs.CellSources.{IsSourceOf, HaveSources};
+ghost use Rattle.pl_write.specs.Lines.{cell_in_line, joined_cells, GrewBy, AreLines, HaveRows};
+ghost use Rattle.pl_write.specs.Options.{cell_options};
+
+use crate::block::Block;
+use crate::cell_source::CellSource;
+use crate::options::SerializeOptions;
+use crate::spare::Spare;
+use pl_frame::column::Column;
+use std::alloc::{AllocError, Global};
+
+// So many lines are put together at a time.
+const LINES: usize = 16;
+
+// Where a line is longer, the next is put together by itself.
+const LONG: usize = 1 << 16;
+
+/// Some lines, as many as are put together at a time. Refuses only want of memory.
+pub(crate) fn new_lines(alloc: Global) -> Result<Vec<Block>, AllocError>
+    ensures { IfOk result (λ lines. 0 < length lines.items) }
+{
+    let mut lines = Vec::new(alloc);
+    lines.push(Block::new(alloc))?;
+    for _ in 1..LINES {
+        lines.push(Block::new(alloc))?;
+    }
+    Ok(lines)
+}
+
+/// How many of the lines are put together next, where so many rows are left.
+pub(crate) fn line_count(lines: &[Block], left: usize) -> usize
+    requires lines { 0 < length lines.now }
+    requires left { 0 < left }
+    ensures some { 0 < result }
+    ensures lines { result ≤ length lines.now }
+    ensures left { result ≤ left }
+{
+    if lines[0].len() > LONG { 1 } else { lines.len().min(left) }
+}
+
+// Takes all bytes out of the lines.
+fn clear_lines(lines: &mut [Block])
+    ensures { AreLines (λ row. []) 0 lines.new }
+{
+    for line in lines.iter_mut() {
+        line.clear();
+    }
+}
+
+// Puts the cells of a column at the ends of the lines of the rows from one on. Refuses only want of memory.
+fn append_cells(
+    lines: &mut [Block],
+    spare: &mut Spare,
+    column: &Column,
+    source: CellSource<'_>,
+    first: usize,
+    place: usize,
+    options: &SerializeOptions,
+) -> Result<(), AllocError>
+    requires rows { first + length lines.old ≤ length column.now.values }
+    requires source { IsSourceOf source (cell_options options.now) column.now }
+    ensures { OnOk result (GrewBy (cell_in_line (cell_options options.now) column.now place) first lines.old lines.new) }
+{
+    // `len` is called for its clause: a row is no more than the number of rows.
+    let _len = column.len();
+    for (k, line) in lines.iter_mut().enumerate() {
+        line.append_cell(spare, column, source, first + k, place, options)?;
+    }
+    Ok(())
+}
+
+// Puts together the lines of the rows from one on, without what ends them. Refuses only want of memory.
+fn put_together(
+    lines: &mut [Block],
+    spare: &mut Spare,
+    columns: &[Column],
+    sources: &[CellSource<'_>],
+    first: usize,
+    options: &SerializeOptions,
+) -> Result<(), AllocError>
+    requires rows { HaveRows (first + length lines.old) columns.now }
+    requires sources { HaveSources (cell_options options.now) columns.now sources.now }
+    ensures { OnOk result (AreLines (joined_cells (cell_options options.now) columns.now) first lines.new) }
+{
+    clear_lines(lines);
+    for (place, column) in columns.iter().enumerate() {
+        append_cells(lines, spare, column, sources[place], first, place, options)?;
+    }
+    Ok(())
+}
+
+// Puts lines at the end of a block, each with what ends it. Refuses only want of memory.
+fn append_lines(
+    block: &mut Block,
+    lines: &[Block],
+    options: &SerializeOptions,
+) -> Result<(), AllocError>
+    ensures { OnOk result (block.new ≡ block.old ++ flat_map (λ line. line ++ options.now.line_terminator) lines.now) }
+{
+    for line in lines {
+        block.append_line(line, options)?;
+    }
+    Ok(())
+}
+
+/// Puts the lines of the rows from one on at the end of a block, as many as these lines, which are put together anew. Refuses
+/// only want of memory.
+pub(crate) fn append_rows(
+    block: &mut Block,
+    lines: &mut [Block],
+    spare: &mut Spare,
+    columns: &[Column],
+    sources: &[CellSource<'_>],
+    first: usize,
+    options: &SerializeOptions,
+) -> Result<(), AllocError>
+    requires rows { HaveRows (first + length lines.old) columns.now }
+    requires sources { HaveSources (cell_options options.now) columns.now sources.now }
+    ensures { OnOk result (block.new ≡ block.old ++ row_lines (cell_options options.now) columns.now first (length lines.old)) }
+{
+    put_together(lines, spare, columns, sources, first, options)?;
+    append_lines(block, lines, options)
+}

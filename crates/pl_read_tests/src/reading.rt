@@ -51,3 +51,36 @@ fn two_columns_of_two_rows_behind_their_numbers(rt: HostRuntime) {
     let frame = frame.expect(&rt, "a frame");
     assert!(rt; last_row(frame.columns()) == Some((Value::Whole(8), Value::Whole(3))));
 }
+
+// Whether the texts of a column have these codes.
+fn has_codes(column: &Column, wanted: &[u64]) -> bool {
+    if !column.dtype().is_coded() || column.len() != wanted.len() {
+        return false;
+    }
+    for (row, code) in wanted.iter().enumerate() {
+        if column.code(row) != Some(*code) {
+            return false;
+        }
+    }
+    true
+}
+
+#[test]
+fn codes_follow_first_appearance_over_all_pieces(rt: HostRuntime) {
+    let alloc = rt.alloc();
+    let mut schema = Schema::new(alloc);
+    add(&rt, alloc, &mut schema, "c", DataType::Categorical);
+    let mut options = CsvReadOptions::new(alloc);
+    options.has_header = false;
+    options.chunk_size = 1;
+    let options = options.with_schema(Some(schema));
+    let frame = read_frame(alloc, b"q\np\nq\nr\n", &options);
+    let frame = frame.expect(&rt, "a frame");
+    assert!(rt;
+        frame
+            .columns()
+            .iter()
+            .all(|column| has_codes(column, &[0, 1, 0, 2]))
+    );
+    assert!(rt; frame.width() == 1);
+}

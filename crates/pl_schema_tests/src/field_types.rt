@@ -29,15 +29,10 @@ fn other_texts_are_strings(rt: HostRuntime) {
     }
 }
 
-// Whether a column of values of some types has a type.
-fn is_finished(dtypes: &[DataType], dtype: &DataType) -> bool {
-    finish_infer_field_schema(dtypes) == *dtype
-}
-
 #[test]
 fn a_column_has_the_one_type_or_is_a_string(rt: HostRuntime) {
-    assert!(rt; is_finished(&[DataType::Int64], &DataType::Int64));
-    assert!(rt; is_finished(&[], &DataType::String));
+    assert!(rt; finish_infer_field_schema(&[DataType::Int64]) == DataType::Int64);
+    assert!(rt; finish_infer_field_schema(&[]) == DataType::String);
     let several = [DataType::Int64, DataType::Boolean];
-    assert!(rt; is_finished(&several, &DataType::String));
+    assert!(rt; finish_infer_field_schema(&several) == DataType::String);
 }

@@ -265,6 +265,17 @@ impl Column {
         }
     }
 
+    /// The numbers, where they are kept in 128 bits, without taking memory.
+    #[inline]
+    pub fn wide_numbers(&self) -> Option<&Numbers<i128>>
+        ensures { IfSome result (λ numbers. number_cells numbers.now ≡ self.now.values) }
+    {
+        match &self.kept {
+            Data::Wide(numbers) => Some(numbers),
+            _ => None,
+        }
+    }
+
     /// The texts, where they are kept one by one, without taking memory.
     #[inline]
     pub fn kept_texts(&self) -> Option<&Texts>

@@ -26,6 +26,7 @@ IsSourceOf (source.Digits numbers) o column = WritesNumbers signed_decimal numbe
 IsSourceOf (source.Dates numbers) o column = WritesNumbers date_text numbers.now o column × LieWithin day_range column
 IsSourceOf (source.Datetimes unit numbers) o column = WritesNumbers (datetime_text unit) numbers.now o column × LieWithin (datetime_range (units_in_second unit)) column
 IsSourceOf (source.Decimals scale numbers) o column = WritesNumbers (decimal_text scale) numbers.now o column × (1 ≤ scale) × (scale ≤ 7)
+IsSourceOf (source.WideDecimals scale numbers) o column = WritesNumbers (decimal_text scale) numbers.now o column × (1 ≤ scale) × (scale ≤ 7)
 IsSourceOf (source.Texts texts) o column = (o.style ≡ 0) × (text_cells texts.now ≡ column.values)
 IsSourceOf (source.Cells form) o column = FitsForm form o column.dtype
 

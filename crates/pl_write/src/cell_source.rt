@@ -24,6 +24,8 @@ pub(crate) enum CellSource<'a> {
     Datetimes(TimeUnit, &'a Numbers<i64>),
     /// Numbers of 64 bits, each written with a point before so many of its digits, one to seven.
     Decimals(usize, &'a Numbers<i64>),
+    /// The same, of 128 bits.
+    WideDecimals(usize, &'a Numbers<i128>),
     /// Texts, each quoted only where it must be.
     Texts(&'a Texts),
     /// The column, in this form.
@@ -68,17 +70,48 @@ fn source_of_numbers<'a>(
     }
 }
 
+// Where the cells of a column of wide numbers come from, where quotes are written only if necessary.
+fn source_of_wide<'a>(
+    column: &Column,
+    numbers: &'a Numbers<i128>,
+    options: &SerializeOptions,
+) -> CellSource<'a>
+    requires cells { number_cells numbers.now ≡ column.now.values }
+    requires style { (cell_options options.now).style ≡ 0 }
+    ensures { IsSourceOf result (cell_options options.now) column.now }
+{
+    match column.dtype() {
+        DataType::Decimal(_, Some(scale)) if *scale >= 1 && *scale <= 7 => {
+            CellSource::WideDecimals(*scale as usize, numbers)
+        }
+        _ => CellSource::Cells(CellForm::AsNeeded),
+    }
+}
+
+// Where the cells of a column come from that holds no numbers of 64 bits.
+fn source_of_others<'a>(
+    column: &'a Column,
+    form: CellForm,
+    options: &SerializeOptions,
+) -> CellSource<'a>
+    requires { FitsForm form (cell_options options.now) column.now.dtype }
+    ensures { IsSourceOf result (cell_options options.now) column.now }
+{
+    match (form, column.wide_numbers(), column.kept_texts()) {
+        (CellForm::AsNeeded, Some(numbers), _) => source_of_wide(column, numbers, options),
+        (CellForm::AsNeeded, _, Some(texts)) => CellSource::Texts(texts),
+        _ => CellSource::Cells(form),
+    }
+}
+
 // Where the cells of a column come from.
 fn source_of<'a>(column: &'a Column, options: &SerializeOptions) -> CellSource<'a>
     ensures { IsSourceOf result (cell_options options.now) column.now }
 {
     let form = form_of(column.dtype(), options);
-    if let Some(numbers) = column.narrow_numbers() {
-        return source_of_numbers(column, form, numbers, options);
-    }
-    match (form, column.kept_texts()) {
-        (CellForm::AsNeeded, Some(texts)) => CellSource::Texts(texts),
-        _ => CellSource::Cells(form),
+    match column.narrow_numbers() {
+        Some(numbers) => source_of_numbers(column, form, numbers, options),
+        None => source_of_others(column, form, options),
     }
 }
 

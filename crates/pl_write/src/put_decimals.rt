@@ -93,8 +93,29 @@ pub(crate) fn put_narrow_decimal(
     Some(put_scaled(to, behind, size, scale))
 }
 
+/// The same for a number of 128 bits.
+#[inline(always)]
+pub(crate) fn put_wide_decimal(
+    to: &mut [u8],
+    at: usize,
+    number: i128,
+    scale: usize,
+) -> Option<usize>
+    requires room { at + 26 ≤ length to.old }
+    requires some { 1 ≤ scale }
+    requires few { scale ≤ 7 }
+    ensures text { IfSome result (λ end. take end to.new ≡ take at to.old ++ decimal_text scale number) }
+    ensures within { IfSome result (λ end. end ≤ at + 18) }
+    ensures unchanged { IfNone result (to.new ≡ to.old) }
+{
+    match i64::try_from(number) {
+        Ok(number) => put_narrow_decimal(to, at, number, scale),
+        Err(_) => None,
+    }
+}
+
 /// Puts a decimal number of any width. Nothing is put where it has no places, more than seven, or more than sixteen digits.
-#[inline]
+#[inline(never)]
 pub(crate) fn put_decimal(to: &mut [u8], at: usize, number: i128, scale: u32) -> Option<usize>
     requires room { at + 26 ≤ length to.old }
     ensures text { IfSome result (λ end. take end to.new ≡ take at to.old ++ decimal_text scale number) }
@@ -104,8 +125,5 @@ pub(crate) fn put_decimal(to: &mut [u8], at: usize, number: i128, scale: u32) ->
     if scale == 0 || scale > 7 {
         return None;
     }
-    match i64::try_from(number) {
-        Ok(number) => put_narrow_decimal(to, at, number, scale as usize),
-        Err(_) => None,
-    }
+    put_wide_decimal(to, at, number, scale as usize)
 }

@@ -13,7 +13,7 @@ use crate::cell_form::CellForm;
 use crate::cell_source::CellSource;
 use crate::options::SerializeOptions;
 use crate::put_cells::put_value;
-use crate::put_decimals::put_narrow_decimal;
+use crate::put_decimals::{put_narrow_decimal, put_wide_decimal};
 use crate::put_parts::put_part;
 use crate::put_texts::put_null;
 use crate::put_times::{put_date, put_narrow_datetime};
@@ -114,6 +114,30 @@ fn put_decimal_cell(
     }
 }
 
+// The same for numbers of 128 bits.
+#[inline(always)]
+fn put_wide_decimal_cell(
+    to: &mut [u8],
+    at: usize,
+    scale: usize,
+    numbers: &Numbers<i128>,
+    row: usize,
+    options: &SerializeOptions,
+) -> Option<usize>
+    requires room { at + 66 ≤ length to.old }
+    requires some { 1 ≤ scale }
+    requires few { scale ≤ 7 }
+    requires row { row < length numbers.now }
+    ensures text { IfSome result (λ end. take end to.new ≡ take at to.old ++ number_or_null (decimal_text scale) (cell_options options.now) (unwrap_or (slice_get numbers.now row) None)) }
+    ensures within { IfSome result (λ end. end ≤ length to.new) }
+    ensures unchanged { IfNone result (to.new ≡ to.old) }
+{
+    match numbers.get(row) {
+        Some(number) => put_wide_decimal(to, at, number, scale),
+        None => put_null(to, at, options),
+    }
+}
+
 // Puts a text, quoted where it must be, or what stands for a null.
 #[inline(always)]
 fn put_text_cell(
@@ -162,6 +186,12 @@ pub(crate) fn put_cell(
         }
         CellSource::Decimals(scale, numbers) => {
             match put_decimal_cell(to, at, scale, numbers, row, options) {
+                Some(end) => Some(end),
+                None => put_value(to, at, spare, column, CellForm::ByCell, row, options),
+            }
+        }
+        CellSource::WideDecimals(scale, numbers) => {
+            match put_wide_decimal_cell(to, at, scale, numbers, row, options) {
                 Some(end) => Some(end),
                 None => put_value(to, at, spare, column, CellForm::ByCell, row, options),
             }

@@ -22,6 +22,7 @@ pub mod moment_types;
 pub mod null_test;
 pub mod null_values;
 mod plain_at;
+mod quoted_at;
 pub mod quoting;
 pub mod text_buffer;
 pub mod text_types;

@@ -1,16 +1,15 @@
 -- The cells of numbers that are read in place.
-use Rattle.std.proofs.Common.{◌≡◌, ◌<◌, ◌≤◌, ◌+◌, ◌-◌, ℕ, ◌==◌, nat_eq, get_or, take, drop, length, Bool, true, false, ◌||◌, if◌then◌else◌, List, [], ◌∷◌, ◌++◌, map, Option, Some, None, Ok, Err, refl, sym, ◌∙◌, ap, ap₂, subst, arith}
+use Rattle.std.proofs.Common.{◌≡◌, ◌≤◌, ◌+◌, ◌-◌, ℕ, ◌==◌, nat_eq, get_or, take, drop, length, Bool, true, false, ◌||◌, if◌then◌else◌, List, [], ◌∷◌, ◌++◌, map, Option, Some, None, Ok, Err, refl, sym, ◌∙◌, ap, ap₂, arith}
 use Rattle.std.proofs.lemmas.Bool.Decides.{nat_tests}
 use Rattle.std.proofs.lemmas.List.{map-append}
-use Rattle.std.specs.Char.{is_ascii_digit}
 use Rattle.std.specs.Option.{option_map}
 use Rattle.pl_frame.specs.declared.data_type.DataType.{DataType}
 use Rattle.pl_frame.specs.Frame.{Scalar}
 use Rattle.pl_frame.specs.Types.{is_text, is_whole_number}
-use Rattle.pl_scan.specs.Fields.{begins_quoted, is_quote}
+use Rattle.pl_scan.specs.Fields.{is_quote}
 use Rattle.pl_cells.specs.declared.utf8.CsvEncoding.{CsvEncoding}
 use Rattle.pl_cells.specs.BufferValue.{BufferValue, with_value, reading_of}
-use Rattle.pl_cells.specs.Cells.{Cell, Reading, cell, stripped_cell, plain_cell, value_or_null, value_cell, value_text, softened, quoted_cell}
+use Rattle.pl_cells.specs.Cells.{Cell, Reading, cell, stripped_cell, plain_cell, value_or_null, value_text, softened, quoted_cell}
 use Rattle.pl_cells.specs.Columns.{begins_number, is_number_quote, AddsSeen, StandsFor}
 use Rattle.pl_cells.specs.Faults as fault
 use Rattle.pl_cells.specs.Integers.{without_blanks}

@@ -1,14 +1,21 @@
-//! Texts in place of which the value is taken: a field, or what stands between its quotes. No call takes memory.
-ghost use Rattle.std.specs.Prelude.{◌≡◌, ◌≤◌, drop, length, IfSome, Some};
-ghost use Rattle.pl_cells.specs.Columns.{is_number_quote, StandsFor};
+//! The texts of fields in place: a field, or what stands between its quotes. No call takes memory.
+ghost use Rattle.std.specs.Prelude.{◌≡◌, ◌≤◌, drop, length, true, IfSome, Some};
+ghost use Rattle.std.specs.Str.{is_utf8};
+ghost use Rattle.pl_cells.specs.Columns.{is_number_quote, StandsFor, StandsForText};
+ghost use Rattle.pl_cells.specs.Quoting.{undouble};
 ghost use Rattle.pl_table.specs.Tables.{placed_text};
 
+use crate::lacks::is_seen_without;
+use crate::plain_at::plain_text;
+use crate::text_types::seen_text;
 use pl_table::table::Placed;
 
 // What stands between the quotes of a text that begins and ends with one, which is no carriage return.
 #[inline(always)]
 fn between_quotes_at(upto: &[u8], start: usize, quote: u8) -> Option<Placed<'_>>
-    ensures { IfSome result (λ text. StandsFor (Some quote) (drop start upto.now) (placed_text text)) }
+    ensures value { IfSome result (λ text. StandsFor (Some quote) (drop start upto.now) (placed_text text)) }
+    ensures text { IfSome result (λ text. undouble quote (placed_text text) ≡ placed_text text → StandsForText (Some quote) (drop start upto.now) (placed_text text)) }
+    ensures inside { IfSome result (λ text. text.start ≤ length text.upto.now) }
 {
     if quote == b'\r' || upto.len() < 2 || start > upto.len() - 2 {
         return None;
@@ -58,4 +65,33 @@ pub(crate) fn value_at(field: Placed<'_>, quote_char: Option<u8>) -> Option<Plac
         }
     }
     plain_at(field, quote_char)
+}
+
+// The text, where it is ASCII at sight, not empty, and holds no quote.
+#[inline(always)]
+fn bare_text(bytes: &[u8], quote: u8) -> Option<&str>
+    ensures text { IfSome result (λ text. text.now ≡ bytes.now) }
+    ensures utf8 { IfSome result (λ _. is_utf8 bytes.now ≡ true) }
+    ensures bare { IfSome result (λ _. undouble quote bytes.now ≡ bytes.now) }
+{
+    if is_seen_without(bytes, quote) {
+        let text = seen_text(bytes)?;
+        Some(text)
+    } else {
+        None
+    }
+}
+
+/// The text of a field, where it is ASCII at sight and not empty: what stands between its quotes and holds none, or all of it.
+#[inline(always)]
+pub(crate) fn text_at<'a>(field: Placed<'a>, quote_char: Option<u8>) -> Option<&'a str>
+    ensures text { IfSome result (λ text. StandsForText quote_char (placed_text field.entry) text.now) }
+    ensures utf8 { IfSome result (λ text. is_utf8 text.now ≡ true) }
+{
+    if let Some(quote) = quote_char {
+        if let Some(text) = between_quotes_at(field.upto, field.start, quote) {
+            return bare_text(&text.upto[text.start..], quote);
+        }
+    }
+    plain_text(field.upto, field.start, quote_char)
 }

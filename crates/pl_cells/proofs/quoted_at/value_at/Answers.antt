@@ -5,4 +5,4 @@ use Rattle.pl_cells.proofs.quoted_at.value_at.Goals as goal
 
 pub returns-in-Some-between_quotes_at : goal.returns-in-Some-between_quotes_at
 returns-in-Some-between_quotes_at c =
-    subst (λ (q : Option ℕ). StandsFor q (placed_text c.args.field) (placed_text c.in-Some-between_quotes_at.text)) (sym c.in-Some.is) c.in-Some-between_quotes_at.ensures
+    subst (λ (q : Option ℕ). StandsFor q (placed_text c.args.field) (placed_text c.in-Some-between_quotes_at.text)) (sym c.in-Some.is) c.in-Some-between_quotes_at.ensures.value

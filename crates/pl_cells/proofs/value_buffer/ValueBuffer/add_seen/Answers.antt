@@ -1,4 +1,4 @@
-use Rattle.std.proofs.Common.{◌≡◌, ◌∙◌, ap, sym, false}
+use Rattle.std.proofs.Common.{ap}
 use Rattle.pl_cells.specs.BufferValue.{BufferValue}
 use Rattle.pl_table.specs.Tables.{placed_text}
 use Rattle.pl_cells.proofs.SeenLaws.{seen_adds, one_more}

@@ -1,5 +1,5 @@
--- From a vector's mask to bytes that are ASCII.
-use Rattle.std.proofs.Common.{◌≡◌, ℕ, suc, ◌+◌, ◌-◌, ◌%◌, ◌^◌, ◌<◌, ◌≤◌, nat_le, Bool, true, false, not, cond, ◌==◌, List, [], ◌∷◌, length, get_or, map, replicate, refl, sym, ap, ap₂, ◌∙◌, arith}
+-- From a vector's mask to bytes that are ASCII, and to bytes that lack one.
+use Rattle.std.proofs.Common.{◌≡◌, ℕ, suc, ◌+◌, ◌-◌, ◌%◌, ◌^◌, ◌<◌, ◌≤◌, nat_le, Bool, true, false, not, cond, ◌==◌, eqb, List, [], ◌∷◌, length, get_or, map, replicate, refl, sym, ap, ap₂, ◌∙◌, arith}
 use Rattle.std.proofs.lemmas.Bool.{not-true, eqb-true}
 use Rattle.std.proofs.lemmas.Bool.Decides.{nat_tests}
 use Rattle.std.proofs.lemmas.Simd.{length-chunk, leading_from_mask_l, get_or-chunk, zip2_splat, mask_l-mod}
@@ -10,6 +10,9 @@ use Rattle.std.specs.Bool.{OnTrue}
 use Rattle.std.specs.Str.{IsAscii}
 use lib.Lanes.{chunk, mask_l, zip2, top}
 use Rattle.pl_cells.specs.Ascii.{IsAsciiBetween}
+use Rattle.pl_cells.specs.Lacks.{LacksBetween}
+use Rattle.pl_cells.specs.Quoting.{undouble}
+use Rattle.pl_cells.proofs.QuotingLaws.{undouble-other}
 
 abbrev high : ℕ → ℕ → ℕ
 high a b = cond (nat_le a b) 255 0
@@ -52,6 +55,34 @@ ascii_from_lanes d i n room few =
     ap (λ l. mask_l (map (top 7) l) % 2 ^ 64) lanes ∙ ap (λ l. mask_l l % 2 ^ 64) (tops v) ∙ mask_l-mod (map (nat_le 128) v) 64 (omega (arith, length-map v (nat_le 128), long)) in
     on_true (mask_l (map (top 7) (zip2 high (replicate n 128) v)) % 2 ^ 64 == 0) (IsAsciiBetween d i (i + n))
     (λ e k low far. below (get_or d k 0) (none_from_mask (nat_le 128) d i n room (sym mask ∙ eqb-true _ 0 e) k low far))
+
+-- ---- a byte that stands nowhere
+
+abbrev hit : ℕ → ℕ → ℕ
+hit a b = cond (eqb a b) 255 0
+
+hits : (q : ℕ) (v : List ℕ) → map (top 7) (map (λ x. hit x q) v) ≡ map (λ x. eqb x q) v
+hits q [] = refl
+hits q (x ∷ v) = ap₂ (λ a b. a ∷ b) (top_of_test (eqb x q)) (hits q v)
+
+-- the test of a vector of n lanes, as the code makes it
+pub lacks_from_lanes : (q : ℕ) (d : List ℕ) (i n : ℕ) → i + n ≤ length d → n ≤ 64
+    → OnTrue (mask_l (map (top 7) (zip2 hit (chunk i n d) (replicate n q))) % 2 ^ 64 == 0) (LacksBetween q d i (i + n))
+lacks_from_lanes q d i n room few =
+    let v = chunk i n d in
+    let long = length-chunk i n d room in
+    let mask = ap (λ l. mask_l (map (top 7) l) % 2 ^ 64) (zip2_splat hit v n q long) ∙ ap (λ l. mask_l l % 2 ^ 64) (hits q v) ∙ mask_l-mod (map (λ x. eqb x q) v) 64 (omega (arith, length-map v (λ x. eqb x q), long)) in
+    on_true _ _ (λ e. none_from_mask (λ x. eqb x q) d i n room (sym mask ∙ eqb-true _ 0 e))
+
+-- a text without the quote stays
+undouble_lacks : (q : ℕ) (xs : List ℕ) → LacksBetween q xs 0 (length xs) → undouble q xs ≡ xs
+undouble_lacks q [] none = refl
+undouble_lacks q (x ∷ xs) none =
+    undouble-other q x xs (none 0 (omega arith) (omega arith)) ∙ ap (λ l. x ∷ l) (undouble_lacks q xs (λ k low high. none (suc k) (omega arith) (omega arith)))
+
+pub undouble_bare : (b : Bool) (q : ℕ) (xs : List ℕ) → b ≡ true → OnTrue b (LacksBetween q xs 0 (length xs)) → undouble q xs ≡ xs
+undouble_bare true q xs is none = undouble_lacks q xs none
+undouble_bare false q xs is none = absurd (cc)
 
 -- what a test of the whole text tells
 pub ascii_text : (b : Bool) (text : List ℕ) → OnTrue b (IsAsciiBetween text 0 (length text)) → OnTrue b (IsAscii text)

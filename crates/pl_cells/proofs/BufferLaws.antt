@@ -267,7 +267,7 @@ pub quoted_answers : {T : Type 0} (old new : BufferValue) (q : ℕ) (missing ign
 quoted_answers old new q missing ignore text r h = subst (λ (c : Cell). Answers old new c r) (stripped_any old.encoding true missing ignore q old.dtype text) h
 
 -- the cell of a field that begins with the quote, by whether it is well quoted
-abbrev by_quoting : Reading → ℕ → DataType → List ℕ → Bool → Cell
+abbrev pub by_quoting : Reading → ℕ → DataType → List ℕ → Bool → Cell
 by_quoting reading q type text well =
     if not well then Err fault.Escape
     else (if (well && false) && not (is_missing (Some q) text) then Ok None else softened reading.ignore_errors (quoted_cell reading q type (inside text)))

@@ -1,11 +1,12 @@
 -- Decimals that are read in place.
-use Rattle.std.proofs.Common.{◌≡◌, ℕ, zero, suc, ◌+◌, ◌-◌, ◌*◌, ◌^◌, ◌<◌, ◌≤◌, true, List, [], ◌∷◌, length, take, drop, get_or, Some, refl, sym, ◌∙◌, ap, lit<, arith}
+use Rattle.std.proofs.Common.{◌≡◌, ℕ, suc, ◌+◌, ◌-◌, ◌*◌, ◌^◌, ◌<◌, ◌≤◌, Bool, true, false, if◌then◌else◌, List, [], ◌∷◌, length, take, drop, get_or, Some, None, refl, sym, ◌∙◌, ap, lit<, arith}
 use Rattle.std.proofs.Math.Nat.{pow-suc, pow-le-pow_right, mul-le-mul}
-use Rattle.std.proofs.lemmas.List.{length-drop, get_or-drop, drop-drop, drop-take}
+use Rattle.std.proofs.lemmas.List.{length-drop, get_or-drop, drop-drop, drop-take, take_all}
 use Rattle.std.specs.Str.{all_ascii_digits}
 use Rattle.pl_cells.specs.DecimalParts.{scaled_below}
 use Rattle.pl_cells.specs.Decimals.{before_point, behind_point}
-use Rattle.pl_cells.specs.Integers.{is_digits, number_after, number_of}
+use Rattle.pl_cells.specs.Integers.{is_digits, digits_value, number_after, number_of}
+use Rattle.pl_cells.specs.Dates.{part}
 use Rattle.pl_cells.proofs.DecimalLaws.{read_on-some, scaled-few}
 use Rattle.pl_cells.proofs.IntegerLaws.{all_ascii_digits-is}
 
@@ -49,3 +50,15 @@ scaled_in_place upto from point scale m f all inside few at_point digits is smal
     ap (λ k. m * 10 ^ scale + k) (is' ∙ ap number_of (sym fraction)) ∙ ap (λ k. m * 10 ^ k + number_of (drop (at + 1) text)) (sym long) ∙ sym (number_after-shift m (drop (at + 1) text)) in
     let last = read_on-some (2 ^ 128) m (drop (at + 1) text) (m * 10 ^ scale + f) (ap all_ascii_digits fraction ∙ all_ascii_digits-is (drop (point + 1) upto) digits') sum fits in
     scaled-few scale at (m * 10 ^ scale + f) m text (omega (arith, length-drop from upto)) (omega arith) dot fits first last
+
+-- two digits at the end
+value_told : (n : ℕ) (xs : List ℕ) → Some n ≡ digits_value xs → (is_digits xs ≡ true) × (n ≡ number_of xs)
+value_told n xs h = by (is_digits xs) refl h
+  where
+    by : (t : Bool) → is_digits xs ≡ t → Some n ≡ (if t then Some (number_of xs) else None) → (is_digits xs ≡ true) × (n ≡ number_of xs)
+    by true e same = (e, cc)
+    by false e same = absurd (cc)
+
+pub two_in_place : (upto : List ℕ) (from n : ℕ) → 2 ≤ length upto → from ≡ length upto - 2 → Some n ≡ digits_value (part from 2 upto) → (is_digits (drop from upto) ≡ true) × (n ≡ number_of (drop from upto))
+two_in_place upto from n some at h =
+    value_told n (drop from upto) (h ∙ ap digits_value (take_all 2 (drop from upto) (omega (arith, some, at, length-drop from upto))))

@@ -1,5 +1,5 @@
 -- Sixteen lanes of digits.
-use Rattle.std.proofs.Common.{◌≡◌, ℕ, zero, suc, ◌+◌, ◌-◌, ◌*◌, ◌/◌, ◌%◌, ◌^◌, ◌<◌, ◌≤◌, Bool, true, false, cond, nat_lt, nat_eq, List, [], ◌∷◌, ◌++◌, length, take, drop, get_or, map, replicate, refl, sym, ◌∙◌, ap, ap₂, subst, arith, Fits, w8, w32, w64}
+use Rattle.std.proofs.Common.{◌≡◌, ℕ, zero, suc, ◌+◌, ◌-◌, ◌*◌, ◌%◌, ◌^◌, ◌<◌, ◌≤◌, Bool, true, false, cond, nat_lt, nat_eq, List, [], ◌∷◌, ◌++◌, length, drop, get_or, map, replicate, refl, sym, ◌∙◌, ap, ap₂, arith, Fits, w8, w32}
 use Rattle.std.proofs.lemmas.Bool.{eqb-true}
 use Rattle.std.proofs.lemmas.Bool.Decides.{nat_tests}
 use Rattle.std.proofs.lemmas.Simd.{zip2_splat, zip2_splat_left, mask_l-mod}
@@ -9,7 +9,7 @@ use Rattle.std.specs.Char.{is_ascii_digit}
 use Rattle.std.specs.Str.{all_ascii_digits}
 use Rattle.pl_cells.specs.Integers.{number_after, number_of}
 use Rattle.pl_cells.specs.Lanes.{AreDigits, digit_of, digits_number}
-use lib.Lanes.{chunk, mask_l, zip2, top, pair_sums, dots, products, Each1, Each2, sel_l}
+use lib.Lanes.{chunk, mask_l, zip2, top, dots, Each2, sel_l}
 
 -- ten to a weight for each lane
 abbrev pub tens : List ℕ

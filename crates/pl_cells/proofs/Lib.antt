@@ -16,4 +16,5 @@ pub mod PlacedLaws
 pub mod QuotingLaws
 mod Rows
 pub mod SeenLaws
+pub mod TextSeenLaws
 pub mod TimeLaws

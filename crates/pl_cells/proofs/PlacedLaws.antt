@@ -1,14 +1,14 @@
 -- Numbers that are read in place.
-use Rattle.std.proofs.Common.{◌≡◌, ◌≢◌, ℕ, zero, suc, ◌+◌, ◌-◌, ◌<◌, ◌≤◌, ◌==◌, nat_eq, ℤ, pos, neg_ℤ, Bool, true, false, ◌&&◌, ◌||◌, if◌then◌else◌, List, [], ◌∷◌, length, take, drop, get_or, Option, Some, None, refl, sym, ◌∙◌, ap, subst, arith, rules}
+use Rattle.std.proofs.Common.{◌≡◌, ℕ, zero, suc, ◌+◌, ◌-◌, ◌<◌, ◌≤◌, ◌==◌, nat_eq, nat_le, Bool, true, false, ◌&&◌, ◌||◌, if◌then◌else◌, List, [], ◌∷◌, length, take, drop, get_or, Some, None, refl, sym, ◌∙◌, ap, ap₂, arith}
 use Rattle.std.proofs.lemmas.Bool.Decides.{nat_tests}
-use Rattle.std.proofs.lemmas.List.{drop_more, length-drop, get_or-drop}
+use Rattle.std.proofs.lemmas.List.{drop_more, drop_all, drop-drop, drop-take, length-drop, get_or-drop}
 use Rattle.std.specs.Char.{is_ascii_digit}
 use Rattle.std.specs.Cmp.Lexicographic.{pointwise}
 use Rattle.std.specs.List.{ends_with}
 use Rattle.std.specs.Str.{all_ascii_digits}
 use Rattle.pl_cells.specs.Columns.{begins_number}
 use Rattle.pl_cells.specs.Integers.{is_digits, without_minus, without_sign}
-use Rattle.pl_cells.specs.Quoting.{strip}
+use Rattle.pl_cells.specs.Quoting.{strip, quote_of, is_well_quoted, inside}
 use Rattle.pl_cells.proofs.IntegerLaws.{all_ascii_digits_spoilt, all_ascii_digits-is}
 
 -- ---- no carriage return at the end
@@ -118,3 +118,31 @@ strip_last upto start inside other =
 
 pub begins_at : (upto : List ℕ) (start : ℕ) → start < length upto → (is_ascii_digit (get_or upto start 0) || get_or upto start 0 == 45) ≡ true → begins_number (drop start upto) ≡ true
 begins_at upto start inside first = ap begins_number (drop_more upto start 0 inside) ∙ first
+
+-- ---- texts between quotes
+
+same_nat : (q : ℕ) → nat_eq q q ≡ true
+same_nat q = grind (arith, nat_tests)
+
+pub begins_with : (q : ℕ) (upto : List ℕ) (start : ℕ) → start < length upto → get_or upto start 0 ≡ q → quote_of (Some q) (drop start upto) ≡ Some q
+begins_with q upto start inside first =
+    ap (quote_of (Some q)) (drop_more upto start 0 inside) ∙ ap (λ t. if t then Some q else None) (ap (λ x. x == q) first ∙ same_nat q)
+
+pub well_quoted : (q : ℕ) (upto : List ℕ) (start : ℕ) → start + 2 ≤ length upto → get_or upto (length upto - 1) 0 ≡ q → is_well_quoted q (drop start upto) ≡ true
+well_quoted q upto start room last =
+    let field = drop start upto in
+    let long : length field ≡ length upto - start = length-drop start upto in
+    let back = drop_more field (length field - 1) 0 (omega (arith, long, room)) in
+    let none : drop (length field - 1 + 1) field ≡ [] = drop_all (length field - 1 + 1) field (omega (arith, long, room)) in
+    let final : get_or field (length field - 1) 0 ≡ q = last_byte upto start (omega (arith, room)) ∙ last in
+    let ends : ends_with nat_eq field (q ∷ []) ≡ true =
+    ap (λ (l : List ℕ). pointwise nat_eq (q ∷ []) l) back ∙ ap₂ (λ t (l : List ℕ). t && pointwise nat_eq [] l) (ap (nat_eq q) final ∙ same_nat q) none in
+    let two : nat_le 2 (length field) ≡ true = grind (arith, nat_tests, long, room) in
+    ap₂ (λ a b. a && b) two ends
+
+pub inside_at : (upto : List ℕ) (start : ℕ) → start + 2 ≤ length upto → drop (start + 1) (take (length upto - 1) upto) ≡ inside (drop start upto)
+inside_at upto start room =
+    let long : length (drop start upto) ≡ length upto - start = length-drop start upto in
+    let count : length upto - 1 ≡ start + 1 + (length (drop start upto) - 2) = omega (arith, long, room) in
+    ap (λ n. drop (start + 1) (take n upto)) count ∙ drop-take (start + 1) (length (drop start upto) - 2) upto
+    ∙ ap (take (length (drop start upto) - 2)) (sym (drop-drop 1 start upto))

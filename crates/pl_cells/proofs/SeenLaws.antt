@@ -1,23 +1,23 @@
 -- The cells of numbers that are read in place.
-use Rattle.std.proofs.Common.{◌≡◌, ◌<◌, ℕ, ◌==◌, length, Bool, true, false, ◌||◌, if◌then◌else◌, List, [], ◌∷◌, ◌++◌, map, Option, Some, None, Ok, Err, refl, sym, ◌∙◌, ap, ap₂, subst, arith}
+use Rattle.std.proofs.Common.{◌≡◌, ◌≤◌, ◌+◌, ◌-◌, ℕ, ◌==◌, nat_eq, get_or, take, drop, length, Bool, true, false, ◌||◌, if◌then◌else◌, List, [], ◌∷◌, ◌++◌, map, Option, Some, None, Ok, Err, refl, sym, ◌∙◌, ap, ap₂, arith}
 use Rattle.std.proofs.lemmas.Bool.Decides.{nat_tests}
 use Rattle.std.proofs.lemmas.List.{map-append}
-use Rattle.std.specs.Char.{is_ascii_digit}
 use Rattle.std.specs.Option.{option_map}
 use Rattle.pl_frame.specs.declared.data_type.DataType.{DataType}
 use Rattle.pl_frame.specs.Frame.{Scalar}
 use Rattle.pl_frame.specs.Types.{is_text, is_whole_number}
-use Rattle.pl_scan.specs.Fields.{begins_quoted, is_quote}
+use Rattle.pl_scan.specs.Fields.{is_quote}
 use Rattle.pl_cells.specs.declared.utf8.CsvEncoding.{CsvEncoding}
 use Rattle.pl_cells.specs.BufferValue.{BufferValue, with_value, reading_of}
-use Rattle.pl_cells.specs.Cells.{Cell, Reading, cell, stripped_cell, plain_cell, value_or_null, value_cell, value_text, softened}
-use Rattle.pl_cells.specs.Columns.{begins_number, is_number_quote, AddsSeen}
+use Rattle.pl_cells.specs.Cells.{Cell, Reading, cell, stripped_cell, plain_cell, value_or_null, value_text, softened, quoted_cell}
+use Rattle.pl_cells.specs.Columns.{begins_number, is_number_quote, AddsSeen, StandsFor}
 use Rattle.pl_cells.specs.Faults as fault
 use Rattle.pl_cells.specs.Integers.{without_blanks}
 use Rattle.pl_cells.specs.NullTest.{nothing_is_null}
-use Rattle.pl_cells.specs.Quoting.{strip, quote_of}
+use Rattle.pl_cells.specs.Quoting.{strip, quote_of, is_well_quoted, inside}
 use Rattle.pl_cells.specs.Values.{value_of_text}
-use Rattle.pl_cells.proofs.BufferLaws.{record_of, plain_value, softened_ok}
+use Rattle.pl_cells.proofs.BufferLaws.{record_of, plain_value, quoted_value, softened_ok, by_quoting}
+use Rattle.pl_cells.proofs.PlacedLaws.{strip_last, begins_with, well_quoted, inside_at}
 
 -- a number does not begin with such a quote
 unquoted : (quote : Option ℕ) (text : List ℕ) → begins_number text ≡ true → is_number_quote quote ≡ false → quote_of quote text ≡ None
@@ -60,11 +60,30 @@ seen_cell reading quote type text value no_text front back other is =
     ∙ softened_ok reading.ignore_errors (plain_cell reading type text) (Some value)
     (plain_value reading type text no_text ∙ ap (value_or_null type) (unblanked type text front) ∙ some_cell type text value front is)
 
-pub seen_adds : (old new : BufferValue) (quote : Option ℕ) (type : DataType) (text : List ℕ) (value : Scalar) → type ≡ old.dtype → is_text type ≡ false → begins_number text ≡ true → strip text ≡ text
-    → is_number_quote quote ≡ false → value_of_text type text ≡ Some value → new ≡ with_value old (Some value) → AddsSeen quote text old new
-seen_adds old new quote type text value same no_text front back other is pushed missing ignore = record {
+-- where no number begins with the quote, a text stands for itself
+pub plain_stands : (quote : Option ℕ) (text : List ℕ) → is_number_quote quote ≡ false → StandsFor quote text text
+plain_stands quote text other = λ reading type value no_text front back is. seen_cell reading quote type text value no_text front back other is
+
+-- and what stands between quotes for the field
+quoted_stands : (q : ℕ) (field text : List ℕ) → quote_of (Some q) field ≡ Some q → strip field ≡ field → is_well_quoted q field ≡ true → text ≡ inside field → StandsFor (Some q) field text
+quoted_stands q field text begins same well is = λ reading type value no_text front back has.
+    ap₂ (λ (o : Option ℕ) (t : List ℕ). stripped_cell reading nothing_is_null o type t) begins same
+    ∙ (λ j. by_quoting reading q type field (well j))
+    ∙ ap (λ (t : List ℕ). softened reading.ignore_errors (quoted_cell reading q type t)) (sym is)
+    ∙ softened_ok reading.ignore_errors (quoted_cell reading q type text) (Some value)
+    (quoted_value reading q type text no_text ∙ ap (value_or_null type) (unblanked type text front) ∙ some_cell type text value front has)
+
+pub quoted_place : (q : ℕ) (upto : List ℕ) (start : ℕ) → start + 2 ≤ length upto → nat_eq 13 q ≡ false → get_or upto start 0 ≡ q → get_or upto (length upto - 1) 0 ≡ q
+    → StandsFor (Some q) (drop start upto) (drop (start + 1) (take (length upto - 1) upto))
+quoted_place q upto start room other first last =
+    quoted_stands q (drop start upto) (drop (start + 1) (take (length upto - 1) upto)) (begins_with q upto start (omega (arith, room)) first)
+    (strip_last upto start (omega (arith, room)) (ap (nat_eq 13) last ∙ other)) (well_quoted q upto start room last) (inside_at upto start room)
+
+pub seen_adds : (old new : BufferValue) (quote : Option ℕ) (type : DataType) (field text : List ℕ) (value : Scalar) → type ≡ old.dtype → is_text type ≡ false → begins_number text ≡ true → strip text ≡ text
+    → StandsFor quote field text → value_of_text type text ≡ Some value → new ≡ with_value old (Some value) → AddsSeen quote field old new
+seen_adds old new quote type field text value same no_text front back stands is pushed missing ignore = record {
   value = Some value;
-  is = ap (λ (t : DataType). cell (reading_of old missing ignore) nothing_is_null quote t text) (sym same) ∙ seen_cell (reading_of old missing ignore) quote type text value no_text front back other is;
+  is = ap (λ (t : DataType). cell (reading_of old missing ignore) nothing_is_null quote t field) (sym same) ∙ stands (reading_of old missing ignore) type value no_text front back is;
   pushed = pushed;
 }
 

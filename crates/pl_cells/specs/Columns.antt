@@ -1,12 +1,15 @@
 -- The cells of a column of records, and of fields that are read in place (docs/types.md, "Cells").
-use Rattle.std.specs.Prelude.{◌≡◌, ℕ, Bool, true, false, ◌||◌, ◌==◌, List, [], ◌∷◌, ◌++◌, map, Option, None, Some, slice_get, unwrap_or}
+use Rattle.std.specs.Prelude.{◌≡◌, ℕ, Bool, true, false, ◌||◌, ◌==◌, List, [], ◌∷◌, ◌++◌, map, Option, None, Some, Ok, slice_get, unwrap_or}
 use Rattle.std.specs.Char.{is_ascii_digit}
 use Rattle.std.specs.List.{AllByRecursion}
 use Rattle.pl_frame.specs.declared.data_type.DataType.{DataType}
 use Rattle.pl_frame.specs.Frame.{Scalar}
+use Rattle.pl_frame.specs.Types.{is_text}
 use Rattle.pl_cells.specs.BufferValue.{BufferValue, Adds, with_value, with_values, reading_of}
-use Rattle.pl_cells.specs.Cells.{Cell, Reading, cell, text_cell, value_of, fault_of}
+use Rattle.pl_cells.specs.Cells.{Cell, Reading, cell, text_cell, softened, value_of, fault_of}
 use Rattle.pl_cells.specs.NullTest.{NullTest, nothing_is_null}
+use Rattle.pl_cells.specs.Quoting.{strip}
+use Rattle.pl_cells.specs.Values.{value_of_text}
 
 -- the field of a record in a column, or the empty one where the record has fewer
 abbrev pub field_in : List (List ℕ) → ℕ → List ℕ
@@ -50,3 +53,11 @@ begins_number (x ∷ xs) = is_ascii_digit x || x == 45
 abbrev pub is_number_quote : Option ℕ → Bool
 is_number_quote None = false
 is_number_quote (Some q) = is_ascii_digit q || q == 45
+
+-- a text stands for a field: where it begins like a number, the value that it has is the field's, where no text means null
+abbrev pub StandsFor : Option ℕ → List ℕ → List ℕ → Type 0
+StandsFor quote field text = (reading : Reading) (type : DataType) (value : Scalar) → is_text type ≡ false → begins_number text ≡ true → strip text ≡ text → value_of_text type text ≡ Some value → cell reading nothing_is_null quote type field ≡ Ok (Some value)
+
+-- the same of texts that are not empty
+abbrev pub StandsForText : Option ℕ → List ℕ → List ℕ → Type 0
+StandsForText quote field text = (reading : Reading) (type : DataType) → is_text type ≡ true → cell reading nothing_is_null quote type field ≡ softened reading.ignore_errors (text_cell reading type text)

@@ -12,6 +12,7 @@ pub mod EnumPlaces
 pub mod Faults
 pub mod InitBuffers
 pub mod Integers
+pub mod Lacks
 pub mod Lanes
 pub mod Laws
 pub mod NullEqual

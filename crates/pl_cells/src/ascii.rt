@@ -64,7 +64,15 @@ fn is_ascii_4_to_8(text: &[u8]) -> bool
     is_ascii_4(text, 0) && is_ascii_4(text, text.len() - 4)
 }
 
-/// True only where every byte is ASCII, which is seen in texts of four bytes or more. Takes no memory.
+#[inline(always)]
+fn is_ascii_1_to_3(text: &[u8]) -> bool
+    requires { (1 ≤ length text.now) × (length text.now ≤ 3) }
+    ensures { OnTrue result (IsAsciiBetween text.now 0 (length text.now)) }
+{
+    text[0] < 128 && text[text.len() / 2] < 128 && text[text.len() - 1] < 128
+}
+
+/// True only where every byte is ASCII. The empty text is not looked at. Takes no memory.
 #[inline]
 pub(crate) fn is_seen_ascii(text: &[u8]) -> bool
     ensures { OnTrue result (IsAscii text.now) }
@@ -76,6 +84,6 @@ pub(crate) fn is_seen_ascii(text: &[u8]) -> bool
     } else if text.len() >= 4 {
         is_ascii_4_to_8(text)
     } else {
-        false
+        !text.is_empty() && is_ascii_1_to_3(text)
     }
 }

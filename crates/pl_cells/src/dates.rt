@@ -7,7 +7,7 @@ ghost use Rattle.pl_cells.specs.Dates.{part, date_value, number_of_day};
 use jiff_core::civil::Date;
 
 /// The number that two digits write.
-#[inline]
+#[inline(always)]
 pub(crate) fn two_digits(text: &[u8], start: usize) -> Option<u8>
     requires { start + 2 ≤ length text.now }
     ensures value { result ≡ digits_value (part start 2 text.now) }
@@ -22,7 +22,7 @@ pub(crate) fn two_digits(text: &[u8], start: usize) -> Option<u8>
 }
 
 // The number that four digits write.
-#[inline]
+#[inline(always)]
 fn four_digits(text: &[u8]) -> Option<u16>
     requires { 4 ≤ length text.now }
     ensures value { result ≡ digits_value (part 0 4 text.now) }
@@ -50,7 +50,7 @@ fn day_of(year: u16, month: u8, day: u8) -> Option<i64>
 
 /// The days from 1970-01-01 to the date that a text writes as `YYYY-MM-DD`: a day of the calendar, of the years 0000 to
 /// 9999.
-#[inline]
+#[inline(always)]
 pub fn parse_date(text: &[u8]) -> Option<i64>
     ensures value { result ≡ date_value text.now }
     ensures within { IfSome result (λ n. is_within day_range n ≡ true) }

@@ -1,12 +1,13 @@
 //! Decimals read in place: of the bytes from a place of a text to its end. No call takes memory.
-ghost use Rattle.std.specs.Prelude.{◌≡◌, ◌≤◌, ◌^◌, ℕ, drop, take, true, IfSome, Some};
+ghost use Rattle.std.specs.Prelude.{◌≡◌, ◌≤◌, ◌<◌, ◌^◌, ℕ, drop, take, true, IfSome, Some};
 ghost use Rattle.pl_frame.specs.Types.{decimal_range, is_readable_decimal, is_within};
 ghost use Rattle.pl_cells.specs.Columns.{begins_number};
 ghost use Rattle.pl_cells.specs.DecimalParts.{scaled_below};
 ghost use Rattle.pl_cells.specs.Decimals.{before_point, behind_point, decimal_value};
-ghost use Rattle.pl_cells.specs.Integers.{is_digits};
+ghost use Rattle.pl_cells.specs.Integers.{is_digits, number_of};
 ghost use Rattle.pl_cells.specs.Quoting.{strip};
 
+use crate::dates::two_digits;
 use crate::decimals::{limit_of, with_sign};
 use crate::lanes::number_at;
 use crate::whole_at::digits_from;
@@ -41,6 +42,21 @@ fn power_of_ten(exponent: usize) -> u64
     POWERS[exponent]
 }
 
+// Up to sixteen digits from a place of a text to its end. Two digits, as many as prices have, are read by themselves.
+#[inline(always)]
+fn fraction_at(upto: &[u8], from: usize) -> Option<u64>
+    ensures digits { IfSome result (λ _. is_digits (drop from upto.now) ≡ true) }
+    ensures value { IfSome result (λ n. n ≡ number_of (drop from upto.now)) }
+    ensures small { IfSome result (λ n. n < 10 ^ 16) }
+{
+    if upto.len() >= 2 && from == upto.len() - 2 {
+        let number = two_digits(upto, from)?;
+        Some(u64::from(number))
+    } else {
+        number_at(upto, from)
+    }
+}
+
 // Up to sixteen digits, a point, and as many digits behind it as the scale says, as one number. Other texts are not seen.
 #[inline(always)]
 fn scaled_at(upto: &[u8], from: usize, scale: usize) -> Option<u128>
@@ -56,7 +72,7 @@ fn scaled_at(upto: &[u8], from: usize, scale: usize) -> Option<u128>
         return None;
     }
     let whole = number_at(&upto[..point], from)?;
-    let fraction = number_at(upto, point + 1)?;
+    let fraction = fraction_at(upto, point + 1)?;
     Some(u128::from(whole) * u128::from(power_of_ten(scale)) + u128::from(fraction))
 }
 

@@ -1,5 +1,5 @@
 //! Texts among the categories of an enum.
-ghost use Rattle.std.specs.Prelude.{◌≡◌, ◌++◌, ◌∷◌, [], None, Some, position, take, IfOk, IsOkUnless, OnOk, OnErr};
+ghost use Rattle.std.specs.Prelude.{◌≡◌, refl, ◌++◌, ◌∷◌, [], None, Some, position, take, IfOk, IsOkUnless, OnOk, OnErr};
 ghost use Rattle.std.specs.Str.{bytes_eq};
 ghost use Rattle.pl_frame.specs.declared.data_type.DataType.TheVariants as dtype;
 ghost use Rattle.pl_frame.specs.declared.error.PolarsError.TheVariants as error;
@@ -135,6 +135,8 @@ impl TextType for EnumTexts {
     ghost dtype = { λ t. dtype.Enum (Some t.categories) };
 
     ghost values = { λ t. text_cells t.texts };
+
+    ghost all_text = { λ _. refl };
 
     fn data_type(&self) -> PolarsResult<DataType> {
         let categories = self.categories.copy_texts()?;

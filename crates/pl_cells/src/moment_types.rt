@@ -6,7 +6,7 @@ ghost use Rattle.pl_frame.specs.Frame.{Number};
 
 use crate::dates::parse_date;
 use crate::plain_at::number_text;
-use crate::times::{parse_datetime, parse_time};
+use crate::times::{parse_datetime, parse_seconds, parse_time};
 use crate::value_types::ValueType;
 use pl_frame::column::Column;
 use pl_frame::data_type::{DataType, TimeUnit};
@@ -134,7 +134,7 @@ impl ValueType for Datetime {
     #[inline(always)]
     fn parse_at(&self, upto: &[u8], start: usize) -> Option<i64> {
         match number_text(upto, start) {
-            Some(text) => parse_datetime(text, self.unit),
+            Some(text) => parse_seconds(text, self.unit),
             None => None,
         }
     }

@@ -10,7 +10,7 @@ ghost use Rattle.pl_table.specs.Tables.{placed_text};
 
 use crate::cell_fault::CellFault;
 use crate::column_settings::ColumnSettings;
-use crate::plain_at::plain_text;
+use crate::quoted_at::text_at;
 use crate::quoting::undouble_into;
 use crate::text_types::TextType;
 use crate::utf8::CsvEncoding;
@@ -133,7 +133,7 @@ impl<L: TextType> TextBuffer<L> {
         self.texts.add_missing(is_null)
     }
 
-    /// Puts the text of a field at the end where it is plain at sight, and else leaves all as it was. No text means null.
+    /// Puts the text of a field at the end where it is seen soon, and else leaves all as it was. No text means null.
     /// Refuses only want of memory, and is then as it was.
     #[inline(always)]
     pub(crate) fn add_seen(
@@ -144,7 +144,7 @@ impl<L: TextType> TextBuffer<L> {
         ensures seen { IfOk result (λ seen. IsSeen quote_char (placed_text field.entry) self.old self.new seen) }
         ensures err { OnErr result (self.new ≡ self.old) }
     {
-        match plain_text(field.upto, field.start, quote_char) {
+        match text_at(field, quote_char) {
             Some(text) => {
                 let seen = self.texts.add_known(text)?;
                 Ok(seen)

@@ -1,5 +1,5 @@
 //! Lists of texts, one for each type whose cells are texts.
-ghost use Rattle.std.specs.Prelude.{◌≡◌, ◌++◌, ◌∷◌, [], Bool, List, Option, true, false, length, map, take, IsUtf8, OnOk, OnErr, IfOk, IfSome, IsOkUnless, MatchOption};
+ghost use Rattle.std.specs.Prelude.{◌≡◌, refl, ◌++◌, ◌∷◌, [], Bool, List, Option, true, false, length, map, take, IsUtf8, OnOk, OnErr, IfOk, IfSome, IsOkUnless, MatchOption};
 ghost use Rattle.std.specs.Str.{is_utf8};
 ghost use Rattle.std.specs.Str.Lossy.{utf8_lossy};
 ghost use Rattle.std.specs.Option.{option_map};
@@ -29,6 +29,9 @@ pub trait TextType {
     ghost dtype: { Self → DataType };
 
     ghost values: { Self → List (Option Scalar) };
+
+    // Its values are texts.
+    ghost all_text: { (texts : Self) → is_text (dtype texts) ≡ true };
 
     /// The type as a column has it. Refuses only want of memory.
     fn data_type(&self) -> PolarsResult<DataType>
@@ -135,6 +138,8 @@ impl TextType for Texts {
 
     ghost values = { text_cells };
 
+    ghost all_text = { λ _. refl };
+
     fn data_type(&self) -> PolarsResult<DataType> {
         Ok(DataType::String)
     }
@@ -192,6 +197,8 @@ impl TextType for CodesBuilder {
     ghost dtype = { λ _. dtype.Categorical };
 
     ghost values = { text_cells };
+
+    ghost all_text = { λ _. refl };
 
     fn data_type(&self) -> PolarsResult<DataType> {
         Ok(DataType::Categorical)

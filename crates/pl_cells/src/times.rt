@@ -13,7 +13,7 @@ use pl_frame::data_type::TimeUnit;
 const NANOSECONDS: u64 = 1_000_000_000;
 
 // The second of the day, where there is one.
-#[inline]
+#[inline(always)]
 fn second_of(hour: u8, minute: u8, second: u8) -> Option<u64>
     ensures value { result ≡ second_of_day (Some hour) (Some minute) (Some second) }
     ensures small { IfSome result (λ n. n < 86400) }
@@ -26,7 +26,7 @@ fn second_of(hour: u8, minute: u8, second: u8) -> Option<u64>
 }
 
 // The second of the day that a text writes as `HH:MM:SS`.
-#[inline]
+#[inline(always)]
 fn parse_clock(text: &[u8]) -> Option<u64>
     ensures value { result ≡ clock_value text.now }
     ensures small { IfSome result (λ n. n < 86400) }
@@ -75,7 +75,7 @@ fn nanoseconds_of(digits: &[u8]) -> Option<u64>
 }
 
 // The nanoseconds of a second: of no text, or of a point and one to nine digits.
-#[inline]
+#[inline(always)]
 fn parse_fraction(text: &[u8]) -> Option<u64>
     ensures value { result ≡ fraction_value text.now }
     ensures small { IfSome result (λ n. n < 10 ^ 9) }
@@ -88,7 +88,7 @@ fn parse_fraction(text: &[u8]) -> Option<u64>
 }
 
 // The nanoseconds of the day.
-#[inline]
+#[inline(always)]
 fn nanosecond_of_day(text: &[u8]) -> Option<u64>
     ensures value { result ≡ time_value text.now }
     ensures small { IfSome result (λ n. n < 86400 * 10 ^ 9) }
@@ -116,7 +116,7 @@ pub fn parse_time(text: &[u8]) -> Option<i64>
 }
 
 // The number, where it fits 64 bits.
-#[inline]
+#[inline(always)]
 fn in_64_bits(number: i128) -> Option<i64>
     ensures { result ≡ only_within (signed_range 64) number }
 {
@@ -128,7 +128,7 @@ fn in_64_bits(number: i128) -> Option<i64>
 }
 
 // The count of units, of which so many make a second, of a day and of the nanoseconds of that day.
-#[inline]
+#[inline(always)]
 fn count_of(units: u64, day: i64, nanoseconds: u64) -> i128
     requires units_in { units ≤ 10 ^ 9 }
     requires some { 0 < units }
@@ -141,7 +141,7 @@ fn count_of(units: u64, day: i64, nanoseconds: u64) -> i128
 }
 
 // The same for a unit. Each has an arm of its own, in which the divisor is known.
-#[inline]
+#[inline(always)]
 fn count_in(unit: TimeUnit, day: i64, nanoseconds: u64) -> i128
     requires day_in { is_within day_range day ≡ true }
     requires time_in { nanoseconds < 86400 * 10 ^ 9 }
@@ -155,7 +155,7 @@ fn count_in(unit: TimeUnit, day: i64, nanoseconds: u64) -> i128
 }
 
 // The same, which lies in the range of the type.
-#[inline]
+#[inline(always)]
 fn units_of(unit: TimeUnit, day: i64, nanoseconds: u64) -> i128
     requires day_in { is_within day_range day ≡ true }
     requires time_in { nanoseconds < 86400 * 10 ^ 9 }
@@ -166,7 +166,7 @@ fn units_of(unit: TimeUnit, day: i64, nanoseconds: u64) -> i128
 }
 
 // The count of units of a date and a time of day.
-#[inline]
+#[inline(always)]
 fn datetime_of_parts(date: &[u8], time: &[u8], unit: TimeUnit) -> Option<i64>
     ensures value { result ≡ datetime_of (units_in_second unit) (date_value date.now) (time_value time.now) }
     ensures within { IfSome result (λ n. is_within (datetime_range (units_in_second unit)) n ≡ true) }
@@ -176,10 +176,10 @@ fn datetime_of_parts(date: &[u8], time: &[u8], unit: TimeUnit) -> Option<i64>
     in_64_bits(units_of(unit, day, nanoseconds))
 }
 
-/// The count of units from 1970-01-01T00:00:00 that a text writes as a date, `T` or one space, and a time, where it fits
-/// 64 bits. Digits past the unit are cut.
-#[inline]
-pub fn parse_datetime(text: &[u8], unit: TimeUnit) -> Option<i64>
+// The count of units that a text writes as a date, `T` or one space, and a time. It is put where it is called, so that a text
+// of a known length is read without tests of its length.
+#[inline(always)]
+fn datetime_of_text(text: &[u8], unit: TimeUnit) -> Option<i64>
     ensures value { result ≡ datetime_value unit text.now }
     ensures within { IfSome result (λ n. is_within (datetime_range (units_in_second unit)) n ≡ true) }
 {
@@ -189,5 +189,27 @@ pub fn parse_datetime(text: &[u8], unit: TimeUnit) -> Option<i64>
     match text[10] {
         b'T' | b' ' => datetime_of_parts(&text[..10], &text[11..], unit),
         _ => None,
+    }
+}
+
+/// The count of units from 1970-01-01T00:00:00 that a text writes as a date, `T` or one space, and a time, where it fits
+/// 64 bits. Digits past the unit are cut.
+pub fn parse_datetime(text: &[u8], unit: TimeUnit) -> Option<i64>
+    ensures value { result ≡ datetime_value unit text.now }
+    ensures within { IfSome result (λ n. is_within (datetime_range (units_in_second unit)) n ≡ true) }
+{
+    datetime_of_text(text, unit)
+}
+
+/// The same of a text of whole seconds, which is read faster. Other texts are not seen.
+#[inline(always)]
+pub(crate) fn parse_seconds(text: &[u8], unit: TimeUnit) -> Option<i64>
+    ensures value { IfSome result (λ n. datetime_value unit text.now ≡ Some n) }
+    ensures within { IfSome result (λ n. is_within (datetime_range (units_in_second unit)) n ≡ true) }
+{
+    if text.len() == 19 {
+        datetime_of_text(text, unit)
+    } else {
+        None
     }
 }

@@ -3,12 +3,13 @@ ghost use Rattle.std.specs.Prelude.{◌≡◌, true, [], length, IfOk, OnOk, OnE
 ghost use Rattle.pl_frame.specs.Types.{is_text};
 ghost use Rattle.pl_cells.specs.BufferValue.{Answers, with_value, cut_to, reading_of, column_of};
 ghost use Rattle.pl_cells.specs.Cells.{missing_value, plain_cell, quoted_cell, softened, value_or_null, value_text};
-ghost use Rattle.pl_cells.specs.Columns.{IsSeen, is_number_quote};
+ghost use Rattle.pl_cells.specs.Columns.{IsSeen};
 ghost use Rattle.pl_cells.specs.Integers.{without_blanks};
 ghost use Rattle.pl_table.specs.Tables.{placed_text};
 
 use crate::cell_fault::CellFault;
 use crate::column_settings::ColumnSettings;
+use crate::quoted_at::value_at;
 use crate::value_types::ValueType;
 use pl_frame::column::Series;
 use pl_frame::data_type::DataType;
@@ -63,17 +64,6 @@ fn value_text<'a, K: ValueType>(kind: &K, text: &'a [u8]) -> &'a [u8]
         skip_blanks(text)
     } else {
         text
-    }
-}
-
-// Whether a quote may be the first byte of a number.
-#[inline(always)]
-fn is_number_quote(quote_char: Option<u8>) -> bool
-    ensures { result ≡ is_number_quote quote_char }
-{
-    match quote_char {
-        Some(quote) => quote.is_ascii_digit() || quote == b'-',
-        None => false,
     }
 }
 
@@ -163,10 +153,10 @@ impl<K: ValueType> ValueBuffer<K> {
         ensures seen { IfOk result (λ seen. IsSeen quote_char (placed_text field.entry) self.old self.new seen) }
         ensures err { OnErr result (self.new ≡ self.old) }
     {
-        if is_number_quote(quote_char) {
+        let Some(text) = value_at(field, quote_char) else {
             return Ok(false);
-        }
-        match self.kind.parse_at(field.upto, field.start) {
+        };
+        match self.kind.parse_at(text.upto, text.start) {
             Some(value) => {
                 self.values.push(value)?;
                 Ok(true)

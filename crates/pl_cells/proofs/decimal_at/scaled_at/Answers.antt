@@ -1,4 +1,4 @@
-use Rattle.std.proofs.Common.{◌≡◌, ◌+◌, ◌-◌, ◌*◌, ◌^◌, ◌<◌, ◌≤◌, ℕ, List, length, take, drop, get_or, true, Some, sym, ◌∙◌, ap, subst, arith, rules}
+use Rattle.std.proofs.Common.{◌≡◌, ◌+◌, ◌-◌, ◌*◌, ◌^◌, ℕ, List, length, take, drop, get_or, Some, sym, ◌∙◌, ap, arith, rules}
 use Rattle.std.proofs.lemmas.List.{drop-take}
 use Rattle.pl_cells.specs.Integers.{is_digits}
 use Rattle.pl_cells.proofs.DecimalAtLaws.{scaled_in_place}

@@ -1,6 +1,6 @@
-use Rattle.std.proofs.Common.{◌≡◌, ℕ, ◌+◌, ◌-◌, ◌<◌, ◌≤◌, ◌^◌, List, length, take, drop, get_or, length-take, length-drop, Option, Some, None, sym, ◌∙◌, ap, arith, rules}
+use Rattle.std.proofs.Common.{◌≡◌, ℕ, ◌+◌, ◌-◌, ◌<◌, ◌≤◌, ◌^◌, List, length, take, drop, get_or, length-take, length-drop, Option, Some, None, ◌∙◌, ap, arith, rules}
 use Rattle.std.specs.Prelude.{IfSome}
-use Rattle.std.proofs.lemmas.List.{take_all, get_or_default}
+use Rattle.std.proofs.lemmas.List.{take_all}
 use Rattle.pl_cells.specs.Decimals.{before_point, behind_point}
 use Rattle.pl_cells.specs.DecimalParts.{scaled_below, read_on}
 use Rattle.pl_cells.proofs.IntegerLaws.{nineteen}

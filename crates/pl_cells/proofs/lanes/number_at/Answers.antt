@@ -1,6 +1,6 @@
-use Rattle.std.proofs.Common.{◌≡◌, ◌<◌, ◌-◌, ◌+◌, ◌++◌, ◌∙◌, ap, sym, subst, ℕ, List, length, drop, map, get_or, replicate, true, Fits, w8, arith}
+use Rattle.std.proofs.Common.{◌<◌, ◌-◌, ◌+◌, ◌∙◌, ap, sym, subst, ℕ, length, drop, get_or, Fits, w8, arith}
 use Rattle.std.proofs.lemmas.List.{length-drop, get_or-drop}
-use Rattle.pl_cells.specs.Lanes.{AreDigits, digit_of, digits_number}
+use Rattle.pl_cells.specs.Lanes.{AreDigits, digits_number}
 use Rattle.pl_cells.proofs.IntegerLaws.{is_digits-cons}
 use Rattle.pl_cells.proofs.LaneLaws.{text_digits, told}
 use Rattle.pl_cells.proofs.lanes.number_at.Goals as goal

@@ -1,4 +1,4 @@
-use Rattle.std.proofs.Common.{◌≡◌, ◌<◌, ◌+◌, ◌*◌, get_or, arith, ap, ◌∙◌}
+use Rattle.std.proofs.Common.{◌≡◌, get_or, arith}
 use Rattle.std.proofs.lemmas.Simd.{dot4_Fits}
 use Rattle.pl_cells.proofs.LaneLaws.{tens, ones, fours, products_fit, sums_fit, four_small, fours_number}
 use Rattle.pl_cells.proofs.lanes.number_of_lanes.Goals as goal

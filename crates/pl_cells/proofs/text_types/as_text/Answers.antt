@@ -1,6 +1,3 @@
-use Rattle.std.proofs.Common.{◌≡◌, Bool, true, false, ◌∙◌, sym}
-use Rattle.std.specs.Bool.{OnTrue}
-use Rattle.std.specs.Str.{IsUtf8, IsAscii}
 use Rattle.std.proofs.lemmas.Str.{is_utf8-from_IsUtf8, IsUtf8-from_ascii}
 use Rattle.pl_cells.proofs.QuotingLaws.{is_utf8-not}
 use Rattle.pl_cells.proofs.AsciiLaws.{told}

@@ -1,5 +1,5 @@
-use Rattle.std.proofs.Common.{◌≡◌, ◌∙◌, List, ℕ, drop, true, ap, sym}
-use Rattle.pl_cells.specs.Integers.{is_digits, without_minus}
+use Rattle.std.proofs.Common.{◌∙◌, drop, ap, sym}
+use Rattle.pl_cells.specs.Integers.{is_digits}
 use Rattle.pl_cells.proofs.PlacedLaws.{strip_whole}
 use Rattle.pl_cells.proofs.whole_at.whole_at.Goals as goal
 

@@ -1,0 +1,6 @@
+use Rattle.std.proofs.Common.{arith}
+use Rattle.pl_cells.proofs.AsciiLaws.{lacks_from_lanes}
+use Rattle.pl_cells.proofs.lacks.lacks_8.Goals as goal
+
+pub returns : goal.returns
+returns c = lacks_from_lanes c.args.byte c.args.text.now c.args.at 8 c.requires (omega arith)

@@ -57,8 +57,8 @@ fn is_readable_at(schema: &Schema, place: usize) -> bool
     dtype.readable()
 }
 
-// The first of these places whose type can't be read.
-fn first_unreadable(projection: &[usize], schema: &Schema) -> Option<usize>
+/// The first of these places whose type can't be read. Takes no memory.
+pub fn first_unreadable(projection: &[usize], schema: &Schema) -> Option<usize>
     requires { (k : ℕ) → k < length projection.now → slice_index projection.now k < length schema.now }
     ensures { result ≡ first_unreadable schema.now projection.now }
 {

@@ -2,6 +2,7 @@
 ghost use Rattle.std.specs.Prelude.{◌≡◌, ◌≤◌, length};
 
 use crate::given::add;
+use pl_cells::init_buffers::first_unreadable;
 use pl_frame::column::Value;
 use pl_frame::data_type::DataType;
 use pl_frame::error::FaultKind;
@@ -27,6 +28,7 @@ fn read(
     add(rt, alloc, &mut schema, "a", dtype);
     let options = CsvParseOptions::new();
     assert!(rt; options.has_dialect() && schema.len() == 1);
+    assert!(rt; first_unreadable(&[0], &schema).is_none());
     let done = read_chunk(
         alloc,
         bytes,

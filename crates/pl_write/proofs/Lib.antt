@@ -1,4 +1,5 @@
 mod BlockLaws
+mod CountLaws
 mod DateLaws
 mod DigitLaws
 mod DoubledLaws

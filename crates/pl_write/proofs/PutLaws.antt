@@ -1,5 +1,5 @@
 -- Bytes put into a block from a place on.
-use Rattle.std.proofs.Common.{◌≡◌, ℕ, ◌+◌, ◌-◌, ◌≤◌, List, ◌++◌, length, take, drop, sym, ◌∙◌, ap, append_assoc, arith, length-append}
+use Rattle.std.proofs.Common.{◌≡◌, ℕ, ◌+◌, ◌-◌, ◌≤◌, List, [], ◌∷◌, ◌++◌, length, take, drop, sym, ◌∙◌, ap, append_assoc, arith, length-append}
 use Rattle.std.specs.Prelude.{Option, None, Some, IfSome, IfNone}
 use Rattle.std.proofs.lemmas.List.{take-take, take_at, take_rest, take-append-drop, length-take-le}
 use Rattle.pl_write.proofs.PointLaws.{take-behind}
@@ -20,6 +20,17 @@ put-first to buffer new at n count end inside fits few is put =
 -- two texts one behind the other
 pub put-both : (old mid new x y whole : List ℕ) → mid ≡ old ++ x → new ≡ mid ++ y → x ++ y ≡ whole → new ≡ old ++ whole
 put-both old mid new x y whole first last both = last ∙ ap (λ l. l ++ y) first ∙ append_assoc old x y ∙ ap (λ l. old ++ l) both
+
+-- three texts with a byte between each two
+pub put-three : (old one two three four new x y z : List ℕ) (a b : ℕ) → one ≡ old ++ x → two ≡ one ++ a ∷ [] → three ≡ two ++ y → four ≡ three ++ b ∷ [] → new ≡ four ++ z
+    → new ≡ old ++ (x ++ a ∷ (y ++ b ∷ z))
+put-three old one two three four new x y z a b first second third fourth last =
+    last
+    ∙ ap (λ l. l ++ z) (fourth ∙ ap (λ l. l ++ b ∷ []) (third ∙ ap (λ l. l ++ y) (second ∙ ap (λ l. l ++ a ∷ []) first)))
+    ∙ regrouped
+  where
+    regrouped : ((((old ++ x) ++ a ∷ []) ++ y) ++ b ∷ []) ++ z ≡ old ++ (x ++ a ∷ (y ++ b ∷ z))
+    regrouped = simp append_assoc
 
 -- what stood in front stays there
 pub put-kept : (old new text : List ℕ) (start at : ℕ) → start ≤ length old → at ≤ length new → take at new ≡ take start old ++ text → take start new ≡ take start old

@@ -5,7 +5,7 @@ use Rattle.std.proofs.lemmas.Nat.{pow-add}
 use Rattle.std.specs.Int.{w64, to_le_bytes, bytes_low_first, byte_at}
 use Rattle.pl_frame.specs.Printed.{padded}
 use Rattle.std.specs.Prelude.{decimal}
-use Rattle.pl_write.proofs.PaddedLaws.{padded-step, padded-three, padded-four, padded-onto, padded-drop, padded-bare, decimal-onto_four}
+use Rattle.pl_write.proofs.PaddedLaws.{padded-step, padded-two, padded-three, padded-four, padded-onto, padded-drop, padded-bare, decimal-onto_four}
 
 -- ---- the table of two digits
 
@@ -49,6 +49,10 @@ padded-pairs n small =
     let b : n / 10 % 10 ≡ n % 100 / 10 = omega arith in
     let e : n % 10 ≡ n % 100 % 10 = omega arith in
     padded-four n small ∙ rw (a, b, e) refl
+
+-- four digits are twice two
+pub padded-twice : (n : ℕ) → n < 10000 → padded 2 (n / 100) ++ padded 2 (n % 100) ≡ padded 4 n
+padded-twice n small = rw (padded-two (n / 100) (omega arith), padded-two (n % 100) (omega arith)) (sym (padded-pairs n small))
 
 pub padded-eight : (n : ℕ) → n < 100000000 → padded 8 n ≡ padded 4 (n / 10000) ++ padded 4 (n % 10000)
 padded-eight n small = padded-onto_four 3 n (omega (arith, small))
@@ -100,6 +104,13 @@ word-digits n w small is =
     word_of (48 + high / 100 / 10) (48 + high / 100 % 10) (48 + high % 100 / 10) (48 + high % 100 % 10) (48 + low / 100 / 10) (48 + low / 100 % 10) (48 + low % 100 / 10) (48 + low % 100 % 10) w
     (omega arith) (omega arith) (omega arith) (omega arith) (omega arith) (omega arith) (omega arith) (omega arith) is
     ∙ sym (padded-eight n small ∙ rw (padded-pairs high (omega arith), padded-pairs low (omega arith)) refl)
+
+-- the word of a pair of digits
+pub pair-digits : (n w : ℕ) → n < 100 → w ≡ pair_of n → take 2 (to_le_bytes w64 w) ≡ padded 2 n
+pair-digits n w small is =
+    let e0 : w % 256 ≡ 48 + n / 10 = omega arith in
+    let e1 : w / 256 % 256 ≡ 48 + n % 10 = omega arith in
+    rw (e0, e1) (sym (padded-two n small))
 
 -- ---- the bytes from a place on
 

@@ -24,6 +24,15 @@ fn pair(n: u32) -> u64
     u64::from(PAIRS[n as usize])
 }
 
+/// The two digits of a number below 100, in front of eight bytes.
+#[inline]
+pub(crate) fn two_digits(n: u32) -> [u8; 8]
+    requires { n < 100 }
+    ensures { take 2 result ≡ padded 2 n }
+{
+    pair(n).to_le_bytes()
+}
+
 /// The eight digits of a number below 10^8, zeros in front among them.
 #[inline]
 pub(crate) fn eight_digits(n: u32) -> u64

@@ -11,15 +11,6 @@ fn digit(n: u32) -> u8
     b'0' + n as u8
 }
 
-/// A number below 100 in two digits.
-#[inline]
-pub(crate) fn two_digits(n: u32) -> [u8; 2]
-    requires { n < 100 }
-    ensures { result ≡ padded 2 n }
-{
-    [digit(n / 10), digit(n % 10)]
-}
-
 /// A number below 1000 in three digits.
 #[inline]
 pub(crate) fn three_digits(n: u32) -> [u8; 3]
@@ -27,20 +18,6 @@ pub(crate) fn three_digits(n: u32) -> [u8; 3]
     ensures { result ≡ padded 3 n }
 {
     [digit(n / 100), digit(n / 10 % 10), digit(n % 10)]
-}
-
-/// A number below 10000 in four digits.
-#[inline]
-pub(crate) fn four_digits(n: u32) -> [u8; 4]
-    requires { n < 10000 }
-    ensures { result ≡ padded 4 n }
-{
-    [
-        digit(n / 1000),
-        digit(n / 100 % 10),
-        digit(n / 10 % 10),
-        digit(n % 10),
-    ]
 }
 
 /// A number below a thousand million in nine digits.

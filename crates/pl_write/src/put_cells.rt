@@ -11,9 +11,10 @@ ghost use Rattle.pl_write.specs.declared.cell_form.CellForm.TheVariants as CellF
 
 use crate::cell_form::CellForm;
 use crate::options::{QuoteStyle, SerializeOptions};
+use crate::put_dates::put_date;
 use crate::put_decimals::put_decimal;
 use crate::put_texts::{put_as_needed, put_null, put_quoted};
-use crate::put_times::{put_date, put_datetime, put_time};
+use crate::put_times::{put_datetime, put_time};
 use crate::put_wholes::put_whole;
 use crate::puts::put_bytes;
 use crate::spare::Spare;

@@ -2,8 +2,9 @@
 ghost use Rattle.std.specs.Prelude.{◌≡◌, ◌++◌, ◌∷◌, [], ◌<◌, ◌≤◌, ◌+◌, ◌-◌, length, take, drop, IfSome, IfNone};
 ghost use Rattle.pl_frame.specs.Printed.{padded, point_text, decimal_text};
 
+use crate::digit_counts::short_digit_count;
 use crate::digit_words::{bytes_from, eight_digits};
-use crate::put_wholes::{put_short, short_digit_count};
+use crate::put_wholes::put_short;
 use crate::puts::{put_byte, put_byte_if, put_front};
 
 // Puts the last digits of the eight that a number below 10^8 has, with a point before the last of them.

@@ -1,28 +1,29 @@
-//! Dates, times of the day, and dates with times, put into a block from a place on.
+//! Times of the day, and dates with times, put into a block from a place on.
 ghost use Rattle.std.specs.Prelude.{◌≡◌, ◌++◌, ◌∷◌, [], ◌<◌, ◌+◌, ◌≤◌, ◌*◌, ◌^◌, true, pos, unsigned_abs, length, take};
 ghost use Rattle.std.specs.Int.{int_div_euclid};
 ghost use Rattle.pl_frame.specs.Types.{is_within, day_range, time_range, datetime_range, units_in_second};
-ghost use Rattle.pl_frame.specs.Printed.{padded, date_text, time_text, places_of, second_text, datetime_text};
+ghost use Rattle.pl_frame.specs.Printed.{padded, clock_text, time_text, places_of, second_text, datetime_text};
 
-use crate::dates::date_digits;
 use crate::digit_words::{bytes_from, eight_digits};
 use crate::digits::{nine_digits, three_digits};
-use crate::puts::{put_bytes, put_front};
-use crate::times::{
-    clock_and_point, clock_in_datetime, rest_of, second_of, second_of_day, wide_rest_of,
-    wide_second_of,
-};
+use crate::put_dates::{put_date, put_two};
+use crate::puts::{put_byte, put_bytes, put_front};
+use crate::times::{rest_of, second_of, second_of_day, wide_rest_of, wide_second_of};
 use pl_frame::data_type::TimeUnit;
 
-/// Puts the date of a day number, as `YYYY-MM-DD`.
-#[inline]
-pub(crate) fn put_date(to: &mut [u8], at: usize, day: i64) -> usize
-    requires room { at + 10 ≤ length to.old }
-    requires day { is_within day_range day ≡ true }
-    ensures text { take result to.new ≡ take at to.old ++ date_text day }
-    ensures end { result ≡ at + 10 }
+// Puts a second of the day as `HH:MM:SS`.
+#[inline(always)]
+fn put_clock(to: &mut [u8], at: usize, second: u32) -> usize
+    requires room { at + 14 ≤ length to.old }
+    requires second { second < 86400 }
+    ensures text { take result to.new ≡ take at to.old ++ clock_text second }
+    ensures end { result ≡ at + 8 }
 {
-    put_bytes(to, at, &date_digits(day))
+    let hour_end = put_two(to, at, second / 3600);
+    let minute_begin = put_byte(to, hour_end, b':');
+    let minute_end = put_two(to, minute_begin, second / 60 % 60);
+    let second_begin = put_byte(to, minute_end, b':');
+    put_two(to, second_begin, second % 60)
 }
 
 // Puts a time of the day, given in nanoseconds.
@@ -33,14 +34,11 @@ fn put_nanoseconds(to: &mut [u8], at: usize, nanoseconds: u64) -> usize
     ensures text { take result to.new ≡ take at to.old ++ time_text nanoseconds }
     ensures end { result ≡ at + 18 }
 {
-    let behind = put_bytes(
-        to,
-        at,
-        &clock_and_point((nanoseconds / 1_000_000_000) as u32),
-    );
+    let behind = put_clock(to, at, (nanoseconds / 1_000_000_000) as u32);
+    let point = put_byte(to, behind, b'.');
     put_bytes(
         to,
-        behind,
+        point,
         &nine_digits((nanoseconds % 1_000_000_000) as u32),
     )
 }
@@ -59,13 +57,15 @@ pub(crate) fn put_time(to: &mut [u8], at: usize, nanoseconds: i64) -> usize
 // Puts the date and the time of the day at a count of seconds from 1970-01-01T00:00:00, with a point behind them.
 #[inline]
 fn put_second(to: &mut [u8], at: usize, second: i64) -> usize
-    requires room { at + 20 ≤ length to.old }
+    requires room { at + 25 ≤ length to.old }
     requires day { is_within day_range (int_div_euclid second (pos 86400)) ≡ true }
     ensures text { take result to.new ≡ take at to.old ++ (second_text second ++ 46 ∷ []) }
     ensures end { result ≡ at + 20 }
 {
-    let behind = put_date(to, at, second.div_euclid(86_400));
-    put_bytes(to, behind, &clock_in_datetime(second_of_day(second)))
+    let date_end = put_date(to, at, second.div_euclid(86_400));
+    let clock_begin = put_byte(to, date_end, b'T');
+    let clock_end = put_clock(to, clock_begin, second_of_day(second));
+    put_byte(to, clock_end, b'.')
 }
 
 // Puts a number in six digits.

@@ -3,29 +3,10 @@ ghost use Rattle.std.specs.Prelude.{◌≡◌, ◌++◌, ◌∷◌, [], ◌<◌,
 ghost use Rattle.std.specs.Fmt.{signed_decimal};
 ghost use Rattle.pl_frame.specs.Printed.{padded};
 
+use crate::digit_counts::{digit_count, short_digit_count};
 use crate::digit_words::{bytes_from, eight_digits};
 use crate::puts::{put_byte_if, put_bytes, put_front};
 use itoa::{Buffer, write_digits};
-
-// How many digits a number has.
-#[inline]
-fn digit_count(n: u64) -> usize
-    ensures count { result ≡ length (decimal n) }
-    ensures few { result ≤ 20 }
-{
-    n.max(1).ilog10() as usize + 1
-}
-
-// How many digits a number below 10^8 has.
-#[inline]
-pub(crate) fn short_digit_count(n: u32) -> usize
-    requires { n < 100000000 }
-    ensures count { result ≡ length (decimal n) }
-    ensures some { 1 ≤ result }
-    ensures few { result ≤ 8 }
-{
-    n.max(1).ilog10() as usize + 1
-}
 
 // Puts the digits of a number below 10^8.
 #[inline(always)]

@@ -1,47 +1,14 @@
 //! Times of the day, and dates with times, as text.
-ghost use Rattle.std.specs.Prelude.{◌≡◌, ◌++◌, ◌∷◌, [], ◌<◌, ◌*◌, ◌^◌, true, pos, unsigned_abs, OnOk};
+ghost use Rattle.std.specs.Prelude.{◌≡◌, ◌++◌, ◌<◌, ◌*◌, ◌^◌, true, pos, unsigned_abs, OnOk};
 ghost use Rattle.std.specs.Int.{int_div_euclid, int_rem_euclid};
 ghost use Rattle.jiff_core.specs.Calendar.{IsBetween};
 ghost use Rattle.pl_frame.specs.Types.{is_within, time_range, datetime_range, units_in_second};
-ghost use Rattle.pl_frame.specs.Printed.{clock_text, time_text, datetime_text};
+ghost use Rattle.pl_frame.specs.Printed.{time_text, datetime_text};
 ghost use Rattle.pl_write.specs.Writing.{StaysInFront};
 
-use crate::digits::two_digits;
 use crate::put_times::{put_datetime, put_time};
 use pl_frame::data_type::TimeUnit;
 use std::alloc::AllocError;
-
-// `HH:MM:SS` of a second of the day.
-#[inline]
-fn clock_digits(second: u32) -> [u8; 8]
-    requires { second < 86400 }
-    ensures { result ≡ clock_text second }
-{
-    let [a, b] = two_digits(second / 3600);
-    let [c, d] = two_digits(second / 60 % 60);
-    let [e, f] = two_digits(second % 60);
-    [a, b, b':', c, d, b':', e, f]
-}
-
-// The same with a point behind it.
-#[inline]
-pub(crate) fn clock_and_point(second: u32) -> [u8; 9]
-    requires { second < 86400 }
-    ensures { result ≡ clock_text second ++ 46 ∷ [] }
-{
-    let [a, b, c, d, e, f, g, h] = clock_digits(second);
-    [a, b, c, d, e, f, g, h, b'.']
-}
-
-// The same with a `T` before it, too.
-#[inline]
-pub(crate) fn clock_in_datetime(second: u32) -> [u8; 10]
-    requires { second < 86400 }
-    ensures { result ≡ 84 ∷ (clock_text second ++ 46 ∷ []) }
-{
-    let [a, b, c, d, e, f, g, h] = clock_digits(second);
-    [b'T', a, b, c, d, e, f, g, h, b'.']
-}
 
 // The second of the day at a count of seconds.
 #[inline]

@@ -1,6 +1,6 @@
 use Rattle.std.proofs.Common.{◌*◌, ◌^◌, ◌<◌, ◌≤◌, max, arith}
 use Rattle.pl_write.proofs.DigitLaws.{digits_between}
-use Rattle.pl_write.proofs.put_wholes.digit_count.Goals as goal
+use Rattle.pl_write.proofs.digit_counts.digit_count.Goals as goal
 
 pub returns-clause-count : goal.returns-clause-count
 returns-clause-count c =

@@ -6,11 +6,11 @@ use Rattle.std.specs.Option.{option_map}
 use Rattle.pl_frame.specs.declared.data_type.DataType.{DataType}
 use Rattle.pl_frame.specs.Frame.{Scalar}
 use Rattle.pl_frame.specs.Types.{is_text, is_whole_number}
-use Rattle.pl_scan.specs.Fields.{is_quote}
+use Rattle.pl_scan.specs.Fields.{begins_quoted}
 use Rattle.pl_cells.specs.declared.utf8.CsvEncoding.{CsvEncoding}
 use Rattle.pl_cells.specs.BufferValue.{BufferValue, with_value, reading_of}
-use Rattle.pl_cells.specs.Cells.{Cell, Reading, cell, stripped_cell, plain_cell, value_or_null, value_text, softened, quoted_cell}
-use Rattle.pl_cells.specs.Columns.{begins_number, is_number_quote, AddsSeen, StandsFor}
+use Rattle.pl_cells.specs.Cells.{Cell, cell, stripped_cell, plain_cell, value_or_null, value_text, softened, quoted_cell}
+use Rattle.pl_cells.specs.Columns.{begins_number, AddsSeen, StandsFor}
 use Rattle.pl_cells.specs.Faults as fault
 use Rattle.pl_cells.specs.Integers.{without_blanks}
 use Rattle.pl_cells.specs.NullTest.{nothing_is_null}
@@ -19,17 +19,7 @@ use Rattle.pl_cells.specs.Values.{value_of_text}
 use Rattle.pl_cells.proofs.BufferLaws.{record_of, plain_value, quoted_value, softened_ok, by_quoting}
 use Rattle.pl_cells.proofs.PlacedLaws.{strip_last, begins_with, well_quoted, inside_at}
 
--- a number does not begin with such a quote
-unquoted : (quote : Option ℕ) (text : List ℕ) → begins_number text ≡ true → is_number_quote quote ≡ false → quote_of quote text ≡ None
-unquoted quote [] front other = absurd (cc)
-unquoted None (x ∷ xs) front other = refl
-unquoted (Some q) (x ∷ xs) front other = by (is_quote (Some q) x) refl
-  where
-    by : (t : Bool) → is_quote (Some q) x ≡ t → (if t then Some q else None) ≡ None
-    by false e = refl
-    by true e = absurd (grind (arith, nat_tests, e, front, other))
-
--- nor with a blank
+-- a number does not begin with a blank
 unblanked : (type : DataType) (text : List ℕ) → begins_number text ≡ true → value_text type text ≡ text
 unblanked type [] front = absurd (cc)
 unblanked type (x ∷ xs) front = by (is_whole_number type)
@@ -53,16 +43,12 @@ some_cell type (x ∷ xs) value front is = ap cell_of is
     cell_of None = Err fault.Value
     cell_of (Some v) = Ok (Some v)
 
-seen_cell : (reading : Reading) (quote : Option ℕ) (type : DataType) (text : List ℕ) (value : Scalar) → is_text type ≡ false → begins_number text ≡ true → strip text ≡ text → is_number_quote quote ≡ false
-    → value_of_text type text ≡ Some value → cell reading nothing_is_null quote type text ≡ Ok (Some value)
-seen_cell reading quote type text value no_text front back other is =
-    ap₂ (λ (q : Option ℕ) (t : List ℕ). stripped_cell reading nothing_is_null q type t) (unquoted quote text front other) back
+-- a text that does not begin with the quote stands for itself
+pub plain_stands : (quote : Option ℕ) (text : List ℕ) → quote_of quote text ≡ None → StandsFor quote text text
+plain_stands quote text begins = λ reading type value no_text front back is.
+    ap₂ (λ (q : Option ℕ) (t : List ℕ). stripped_cell reading nothing_is_null q type t) begins back
     ∙ softened_ok reading.ignore_errors (plain_cell reading type text) (Some value)
     (plain_value reading type text no_text ∙ ap (value_or_null type) (unblanked type text front) ∙ some_cell type text value front is)
-
--- where no number begins with the quote, a text stands for itself
-pub plain_stands : (quote : Option ℕ) (text : List ℕ) → is_number_quote quote ≡ false → StandsFor quote text text
-plain_stands quote text other = λ reading type value no_text front back is. seen_cell reading quote type text value no_text front back other is
 
 -- and what stands between quotes for the field
 quoted_stands : (q : ℕ) (field text : List ℕ) → quote_of (Some q) field ≡ Some q → strip field ≡ field → is_well_quoted q field ≡ true → text ≡ inside field → StandsFor (Some q) field text
@@ -95,3 +81,11 @@ one_more {X} old name type quote encoding f values new value is pushed =
     ap (λ (l : List (Option X)). record_of name type quote encoding (map (option_map f) l)) pushed
     ∙ ap (record_of name type quote encoding) (map-append (option_map f) values (Some value ∷ []))
     ∙ ap (λ (b : BufferValue). with_value b (Some (f value))) is
+
+-- the quote that a text begins with is the given one
+pub quote_given : (quote : Option ℕ) (text : List ℕ) (q : ℕ) → quote_of quote text ≡ Some q → quote ≡ Some q
+quote_given quote text q h = by (begins_quoted quote text) h
+  where
+    by : (t : Bool) → (if t then quote else None) ≡ Some q → quote ≡ Some q
+    by true e = e
+    by false e = absurd (cc)

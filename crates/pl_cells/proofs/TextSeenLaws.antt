@@ -1,10 +1,11 @@
 -- The cells of texts that are read in place.
-use Rattle.std.proofs.Common.{◌≡◌, ◌≤◌, ◌+◌, ◌-◌, ℕ, true, false, List, length, nat_eq, get_or, take, drop, Option, Some, sym, ◌∙◌, ap, ap₂, arith}
+use Rattle.std.proofs.Common.{◌≡◌, ◌<◌, ◌≤◌, ◌+◌, ◌-◌, ℕ, true, false, List, length, nat_eq, get_or, take, drop, Option, Some, None, sym, ◌∙◌, ap, ap₂, arith}
+use Rattle.std.proofs.lemmas.Bool.Decides.{nat_tests}
 use Rattle.pl_cells.specs.Cells.{stripped_cell, quoted_cell, text_cell, softened}
 use Rattle.pl_cells.specs.Columns.{StandsForText}
 use Rattle.pl_cells.specs.NullTest.{nothing_is_null}
 use Rattle.pl_cells.specs.Quoting.{strip, quote_of, is_well_quoted, inside, undouble}
-use Rattle.pl_cells.proofs.BufferLaws.{quoted_text, by_quoting}
+use Rattle.pl_cells.proofs.BufferLaws.{plain_some, quoted_text, by_quoting}
 use Rattle.pl_cells.proofs.PlacedLaws.{strip_last, begins_with, well_quoted, inside_at}
 
 -- what stands between quotes, where it holds none, stands for the field
@@ -22,3 +23,9 @@ pub quoted_text_place : (q : ℕ) (upto : List ℕ) (start : ℕ) → start + 2 
 quoted_text_place q upto start room other first last bare =
     quoted_text_stands q (drop start upto) (drop (start + 1) (take (length upto - 1) upto)) (begins_with q upto start (omega (arith, room)) first)
     (strip_last upto start (omega (arith, room)) (ap (nat_eq 13) last ∙ other)) (well_quoted q upto start room last) (inside_at upto start room) bare
+
+-- a text that begins with no quote stands for itself
+pub plain_text_stands : (quote : Option ℕ) (text : List ℕ) → 0 < length text → quote_of quote text ≡ None → strip text ≡ text → StandsForText quote text text
+plain_text_stands quote text some front back = λ reading type texts.
+    ap₂ (λ (o : Option ℕ) (t : List ℕ). stripped_cell reading nothing_is_null o type t) front back
+    ∙ ap (softened reading.ignore_errors) (plain_some reading type text (grind (arith, nat_tests, some)))

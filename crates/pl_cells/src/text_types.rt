@@ -98,7 +98,7 @@ fn known_text(bytes: &[u8]) -> &str
 
 // The bytes as text, where they are ASCII at sight.
 #[inline(always)]
-pub(crate) fn seen_text(bytes: &[u8]) -> Option<&str>
+fn seen_text(bytes: &[u8]) -> Option<&str>
     ensures utf8 { IfSome result (λ _. is_utf8 bytes.now ≡ true) }
     ensures text { IfSome result (λ text. text.now ≡ bytes.now) }
 {
@@ -106,6 +106,30 @@ pub(crate) fn seen_text(bytes: &[u8]) -> Option<&str>
         Some(known_text(bytes))
     } else {
         None
+    }
+}
+
+// The bytes as text, where they are UTF-8, of any bytes.
+#[inline(never)]
+fn valid_text(bytes: &[u8]) -> Option<&str>
+    ensures utf8 { IfSome result (λ _. is_utf8 bytes.now ≡ true) }
+    ensures text { IfSome result (λ text. text.now ≡ bytes.now) }
+{
+    match simdutf8::basic::from_utf8(bytes) {
+        Ok(text) => Some(text),
+        Err(_) => None,
+    }
+}
+
+// The same where most are ASCII, which is seen here.
+#[inline(always)]
+pub(crate) fn text_in_place(bytes: &[u8]) -> Option<&str>
+    ensures utf8 { IfSome result (λ _. is_utf8 bytes.now ≡ true) }
+    ensures text { IfSome result (λ text. text.now ≡ bytes.now) }
+{
+    match seen_text(bytes) {
+        Some(text) => Some(text),
+        None => valid_text(bytes),
     }
 }
 

@@ -39,7 +39,11 @@ pub(crate) fn line_count(lines: &[Block], left: usize) -> usize
     ensures lines { result ≤ length lines.now }
     ensures left { result ≤ left }
 {
-    if lines[0].len() > LONG { 1 } else { lines.len().min(left) }
+    if lines[0].len() > LONG {
+        1
+    } else {
+        lines.len().min(left)
+    }
 }
 
 // Takes all bytes out of the lines.

@@ -56,5 +56,11 @@ pub(crate) fn put_date(to: &mut [u8], at: usize, day: i64) -> usize
     ensures end { result ≡ at + 10 }
 {
     let date = Date::from_days_since_min((day + 4_371_587) as u32);
-    put_civil(to, at, date.year as u32, u32::from(date.month), u32::from(date.day))
+    put_civil(
+        to,
+        at,
+        date.year as u32,
+        u32::from(date.month),
+        u32::from(date.day),
+    )
 }

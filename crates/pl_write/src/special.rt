@@ -88,7 +88,11 @@ pub(crate) fn clear_count(bytes: &[u8], separator: u8, quote: u8) -> usize
         | v.simd_eq(u8x32::splat(b'\n'))
         | v.simd_eq(u8x32::splat(b'\r'))
         | v.simd_eq(u8x32::splat(quote))).to_bitmask();
-    if special == 0 { 32 } else { special.trailing_zeros() as usize }
+    if special == 0 {
+        32
+    } else {
+        special.trailing_zeros() as usize
+    }
 }
 
 // True only where no special byte is there.

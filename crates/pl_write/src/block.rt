@@ -1,12 +1,11 @@
 //! The bytes that are to be written next.
 ghost use Rattle.std.specs.Prelude.{◌≡◌, [], ◌++◌, ◌<◌, length, OnOk};
 ghost use Rattle.std.specs.Bool.{OnTrue, OnFalse};
-ghost use Rattle.pl_write.specs.CellSources.{IsSourceOf};
 ghost use Rattle.pl_write.specs.Lines.{cell_in_line};
 ghost use Rattle.pl_write.specs.Options.{cell_options};
 
-use crate::cell_source::CellSource;
 use crate::options::SerializeOptions;
+use crate::put_cell::PutCell;
 use crate::put_lines::{put_cell_in_line, put_line};
 use crate::spare::Spare;
 use pl_frame::column::Column;
@@ -87,17 +86,17 @@ impl Block {
 
     /// Puts a cell at the end, with a separator in front unless it is the first of its line. Refuses only want of memory.
     #[inline(always)]
-    pub(crate) fn append_cell(
+    pub(crate) fn append_cell<C: PutCell>(
         &mut self,
         spare: &mut Spare,
         column: &Column,
-        source: CellSource<'_>,
+        source: &C,
         row: usize,
         place: usize,
         options: &SerializeOptions,
     ) -> Result<(), AllocError>
         requires row { row < length column.now.values }
-        requires source { IsSourceOf source (cell_options options.now) column.now }
+        requires source { C.fits source.now (cell_options options.now) column.now }
         ensures { OnOk result (self.new ≡ self.old ++ cell_in_line (cell_options options.now) column.now place row) }
     {
         // Each time the block is twice as large, so memory is wanting long before the last.
@@ -113,17 +112,17 @@ impl Block {
     // Puts a cell at the end as `append_cell`, and answers whether there was room. Where there was not, the bytes are as they
     // were.
     #[inline(always)]
-    fn try_cell(
+    fn try_cell<C: PutCell>(
         &mut self,
         spare: &mut Spare,
         column: &Column,
-        source: CellSource<'_>,
+        source: &C,
         row: usize,
         place: usize,
         options: &SerializeOptions,
     ) -> bool
         requires row { row < length column.now.values }
-        requires source { IsSourceOf source (cell_options options.now) column.now }
+        requires source { C.fits source.now (cell_options options.now) column.now }
         ensures put { OnTrue result (self.new ≡ self.old ++ cell_in_line (cell_options options.now) column.now place row) }
         ensures unchanged { OnFalse result (self.new ≡ self.old) }
     {

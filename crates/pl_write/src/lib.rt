@@ -13,6 +13,7 @@ mod digit_words;
 mod digits;
 mod lines;
 pub mod options;
+mod put_cell;
 mod put_cells;
 mod put_dates;
 mod put_decimals;

@@ -9,6 +9,11 @@ ghost use Rattle.pl_write.specs.Options.{cell_options};
 use crate::block::Block;
 use crate::cell_source::CellSource;
 use crate::options::SerializeOptions;
+use crate::put_cell::PutCell;
+use crate::put_sources::{
+    ColumnSource, DateSource, DatetimeSource, DecimalSource, DigitSource, TextSource,
+    WideDecimalSource,
+};
 use crate::spare::Spare;
 use pl_frame::column::Column;
 use std::alloc::{AllocError, Global};
@@ -56,7 +61,30 @@ fn clear_lines(lines: &mut [Block])
 }
 
 // Puts the cells of a column at the ends of the lines of the rows from one on. Refuses only want of memory.
-fn append_cells(
+#[inline(never)]
+fn append_cells<C: PutCell>(
+    lines: &mut [Block],
+    spare: &mut Spare,
+    column: &Column,
+    source: &C,
+    first: usize,
+    place: usize,
+    options: &SerializeOptions,
+) -> Result<(), AllocError>
+    requires rows { first + length lines.old ≤ length column.now.values }
+    requires source { C.fits source.now (cell_options options.now) column.now }
+    ensures { OnOk result (GrewBy (cell_in_line (cell_options options.now) column.now place) first lines.old lines.new) }
+{
+    // `len` is called for its clause: a row is no more than the number of rows.
+    let _len = column.len();
+    for (k, line) in lines.iter_mut().enumerate() {
+        line.append_cell(spare, column, source, first + k, place, options)?;
+    }
+    Ok(())
+}
+
+// The same for a source of any kind.
+fn append_column(
     lines: &mut [Block],
     spare: &mut Spare,
     column: &Column,
@@ -69,12 +97,85 @@ fn append_cells(
     requires source { IsSourceOf source (cell_options options.now) column.now }
     ensures { OnOk result (GrewBy (cell_in_line (cell_options options.now) column.now place) first lines.old lines.new) }
 {
-    // `len` is called for its clause: a row is no more than the number of rows.
-    let _len = column.len();
-    for (k, line) in lines.iter_mut().enumerate() {
-        line.append_cell(spare, column, source, first + k, place, options)?;
+    match source {
+        CellSource::Digits(numbers) => {
+            append_cells(
+                lines,
+                spare,
+                column,
+                &DigitSource(numbers),
+                first,
+                place,
+                options,
+            )
+        }
+        CellSource::Dates(days) => {
+            append_cells(
+                lines,
+                spare,
+                column,
+                &DateSource(days),
+                first,
+                place,
+                options,
+            )
+        }
+        CellSource::Datetimes(unit, counts) => {
+            append_cells(
+                lines,
+                spare,
+                column,
+                &DatetimeSource(unit, counts),
+                first,
+                place,
+                options,
+            )
+        }
+        CellSource::Decimals(scale, numbers) => {
+            append_cells(
+                lines,
+                spare,
+                column,
+                &DecimalSource(scale, numbers),
+                first,
+                place,
+                options,
+            )
+        }
+        CellSource::WideDecimals(scale, numbers) => {
+            append_cells(
+                lines,
+                spare,
+                column,
+                &WideDecimalSource(scale, numbers),
+                first,
+                place,
+                options,
+            )
+        }
+        CellSource::Texts(texts) => {
+            append_cells(
+                lines,
+                spare,
+                column,
+                &TextSource(texts),
+                first,
+                place,
+                options,
+            )
+        }
+        CellSource::Cells(form) => {
+            append_cells(
+                lines,
+                spare,
+                column,
+                &ColumnSource(form),
+                first,
+                place,
+                options,
+            )
+        }
     }
-    Ok(())
 }
 
 // Puts together the lines of the rows from one on, without what ends them. Refuses only want of memory.
@@ -92,7 +193,7 @@ fn put_together(
 {
     clear_lines(lines);
     for (place, column) in columns.iter().enumerate() {
-        append_cells(lines, spare, column, sources[place], first, place, options)?;
+        append_column(lines, spare, column, sources[place], first, place, options)?;
     }
     Ok(())
 }

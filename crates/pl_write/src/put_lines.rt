@@ -1,14 +1,12 @@
 //! The cells of a line and lines, put into a block from a place on.
 ghost use Rattle.std.specs.Prelude.{◌≡◌, ◌<◌, ◌++◌, ◌+◌, ◌≤◌, length, take, IfSome, IfNone};
-ghost use Rattle.pl_write.specs.CellSources.{IsSourceOf};
 ghost use Rattle.pl_write.specs.Lines.{cell_in_line};
 ghost use Rattle.pl_write.specs.Options.{cell_options};
 ghost use Rattle.pl_write.specs.Writing.{separator_before};
 
-use crate::cell_source::CellSource;
 use crate::options::SerializeOptions;
+use crate::put_cell::PutCell;
 use crate::put_cells::put_ready;
-use crate::put_sources::put_cell;
 use crate::puts::{put_byte, put_byte_if, put_bytes};
 use crate::spare::Spare;
 use pl_frame::column::Column;
@@ -50,19 +48,19 @@ fn put_terminator(to: &mut [u8], at: usize, options: &SerializeOptions) -> Optio
 /// Puts a cell, with a separator in front unless it is the first of its line. Where there is no room for both, or memory is
 /// wanting, no cell is put, and what stood in front stays.
 #[inline(always)]
-pub(crate) fn put_cell_in_line(
+pub(crate) fn put_cell_in_line<C: PutCell>(
     to: &mut [u8],
     at: usize,
     spare: &mut Spare,
     column: &Column,
-    source: CellSource<'_>,
+    source: &C,
     row: usize,
     place: usize,
     options: &SerializeOptions,
 ) -> Option<usize>
     requires at { at ≤ length to.old }
     requires row { row < length column.now.values }
-    requires source { IsSourceOf source (cell_options options.now) column.now }
+    requires source { C.fits source.now (cell_options options.now) column.now }
     ensures text { IfSome result (λ end. take end to.new ≡ take at to.old ++ cell_in_line (cell_options options.now) column.now place row) }
     ensures within { IfSome result (λ end. end ≤ length to.new) }
     ensures kept { IfNone result (take at to.new ≡ take at to.old) }
@@ -71,7 +69,7 @@ pub(crate) fn put_cell_in_line(
         return None;
     }
     let front = put_separator(to, at, options.separator, place);
-    put_cell(to, front, spare, column, source, row, options)
+    source.put(to, front, spare, column, row, options)
 }
 
 // Puts the first bytes of a buffer, where there is room.

@@ -1,17 +1,14 @@
-//! Cells from the sources of their columns, put into a block from a place on. A cell for which there is no room is not put.
+//! The sources of columns, which put their cells into a block from a place on. A cell for which there is no room is not put.
 ghost use Rattle.std.specs.Prelude.{◌≡◌, ℤ, true, ◌<◌, ◌++◌, ◌+◌, ◌≤◌, length, take, None, Some, unwrap_or, slice_get, IfSome, IfNone};
 ghost use Rattle.std.specs.Fmt.{signed_decimal};
-ghost use Rattle.pl_frame.specs.Frame.{cell_at};
 ghost use Rattle.pl_frame.specs.Printed.{date_text, datetime_text, decimal_text};
-ghost use Rattle.pl_frame.specs.Text.{written_cell};
 ghost use Rattle.pl_frame.specs.Types.{is_within, day_range, datetime_range, units_in_second};
 ghost use Rattle.pl_write.specs.CellForms.{number_or_null, text_or_null};
-ghost use Rattle.pl_write.specs.CellSources.{IsSourceOf};
 ghost use Rattle.pl_write.specs.Options.{cell_options};
 
 use crate::cell_form::CellForm;
-use crate::cell_source::CellSource;
 use crate::options::SerializeOptions;
+use crate::put_cell::PutCell;
 use crate::put_cells::put_value;
 use crate::put_dates::put_date;
 use crate::put_decimals::{put_narrow_decimal, put_wide_decimal};
@@ -161,43 +158,179 @@ fn put_text_cell(
     }
 }
 
-/// Puts the cell of a column, which comes from this source.
-#[inline(always)]
-pub(crate) fn put_cell(
-    to: &mut [u8],
-    at: usize,
-    spare: &mut Spare,
-    column: &Column,
-    source: CellSource<'_>,
-    row: usize,
-    options: &SerializeOptions,
-) -> Option<usize>
-    requires room { at + 66 ≤ length to.old }
-    requires row { row < length column.now.values }
-    requires source { IsSourceOf source (cell_options options.now) column.now }
-    ensures text { IfSome result (λ end. take end to.new ≡ take at to.old ++ written_cell (cell_options options.now) column.now.dtype (cell_at column.now row)) }
-    ensures within { IfSome result (λ end. end ≤ length to.new) }
-    ensures unchanged { IfNone result (to.new ≡ to.old) }
-{
-    match source {
-        CellSource::Digits(numbers) => put_digits_cell(to, at, numbers, row, options),
-        CellSource::Dates(days) => put_date_cell(to, at, days, row, options),
-        CellSource::Datetimes(unit, counts) => {
-            put_datetime_cell(to, at, unit, counts, row, options)
+/// Numbers of 64 bits, each written as its digits.
+#[derive(Clone, Copy, Debug)]
+pub(crate) struct DigitSource<'a>(pub(crate) &'a Numbers<i64>);
+
+impl PutCell for DigitSource<'_> {
+    ghost use Rattle.std.specs.Fmt.{signed_decimal};
+    ghost use Rattle.pl_write.specs.CellSources.{WritesNumbers};
+
+    ghost fits = { λ source o column. WritesNumbers signed_decimal source.0.now o column };
+
+    #[inline(always)]
+    fn put(
+        &self,
+        to: &mut [u8],
+        at: usize,
+        spare: &mut Spare,
+        column: &Column,
+        row: usize,
+        options: &SerializeOptions,
+    ) -> Option<usize> {
+        put_digits_cell(to, at, self.0, row, options)
+    }
+}
+
+/// Numbers of days, each written as its date.
+#[derive(Clone, Copy, Debug)]
+pub(crate) struct DateSource<'a>(pub(crate) &'a Numbers<i64>);
+
+impl PutCell for DateSource<'_> {
+    ghost use Rattle.pl_frame.specs.Printed.{date_text};
+    ghost use Rattle.pl_frame.specs.Types.{day_range};
+    ghost use Rattle.pl_write.specs.CellSources.{WritesNumbers, LieWithin};
+
+    ghost fits = { λ source o column. WritesNumbers date_text source.0.now o column × LieWithin day_range column };
+
+    #[inline(always)]
+    fn put(
+        &self,
+        to: &mut [u8],
+        at: usize,
+        spare: &mut Spare,
+        column: &Column,
+        row: usize,
+        options: &SerializeOptions,
+    ) -> Option<usize> {
+        put_date_cell(to, at, self.0, row, options)
+    }
+}
+
+/// Counts of a unit, each written as its datetime.
+#[derive(Clone, Copy, Debug)]
+pub(crate) struct DatetimeSource<'a>(pub(crate) TimeUnit, pub(crate) &'a Numbers<i64>);
+
+impl PutCell for DatetimeSource<'_> {
+    ghost use Rattle.pl_frame.specs.Printed.{datetime_text};
+    ghost use Rattle.pl_frame.specs.Types.{datetime_range, units_in_second};
+    ghost use Rattle.pl_write.specs.CellSources.{WritesNumbers, LieWithin};
+
+    ghost fits = { λ source o column. WritesNumbers (datetime_text source.0) source.1.now o column × LieWithin (datetime_range (units_in_second source.0)) column };
+
+    #[inline(always)]
+    fn put(
+        &self,
+        to: &mut [u8],
+        at: usize,
+        spare: &mut Spare,
+        column: &Column,
+        row: usize,
+        options: &SerializeOptions,
+    ) -> Option<usize> {
+        put_datetime_cell(to, at, self.0, self.1, row, options)
+    }
+}
+
+/// Numbers of 64 bits, each written with a point before so many of its digits, one to seven.
+#[derive(Clone, Copy, Debug)]
+pub(crate) struct DecimalSource<'a>(pub(crate) usize, pub(crate) &'a Numbers<i64>);
+
+impl PutCell for DecimalSource<'_> {
+    ghost use Rattle.std.specs.Prelude.{◌≤◌};
+    ghost use Rattle.pl_frame.specs.Printed.{decimal_text};
+    ghost use Rattle.pl_write.specs.CellSources.{WritesNumbers};
+
+    ghost fits = { λ source o column. WritesNumbers (decimal_text source.0) source.1.now o column × (1 ≤ source.0) × (source.0 ≤ 7) };
+
+    #[inline(always)]
+    fn put(
+        &self,
+        to: &mut [u8],
+        at: usize,
+        spare: &mut Spare,
+        column: &Column,
+        row: usize,
+        options: &SerializeOptions,
+    ) -> Option<usize> {
+        match put_decimal_cell(to, at, self.0, self.1, row, options) {
+            Some(end) => Some(end),
+            None => put_value(to, at, spare, column, CellForm::ByCell, row, options),
         }
-        CellSource::Decimals(scale, numbers) => {
-            match put_decimal_cell(to, at, scale, numbers, row, options) {
-                Some(end) => Some(end),
-                None => put_value(to, at, spare, column, CellForm::ByCell, row, options),
-            }
+    }
+}
+
+/// The same, of 128 bits.
+#[derive(Clone, Copy, Debug)]
+pub(crate) struct WideDecimalSource<'a>(pub(crate) usize, pub(crate) &'a Numbers<i128>);
+
+impl PutCell for WideDecimalSource<'_> {
+    ghost use Rattle.std.specs.Prelude.{◌≤◌};
+    ghost use Rattle.pl_frame.specs.Printed.{decimal_text};
+    ghost use Rattle.pl_write.specs.CellSources.{WritesNumbers};
+
+    ghost fits = { λ source o column. WritesNumbers (decimal_text source.0) source.1.now o column × (1 ≤ source.0) × (source.0 ≤ 7) };
+
+    #[inline(always)]
+    fn put(
+        &self,
+        to: &mut [u8],
+        at: usize,
+        spare: &mut Spare,
+        column: &Column,
+        row: usize,
+        options: &SerializeOptions,
+    ) -> Option<usize> {
+        match put_wide_decimal_cell(to, at, self.0, self.1, row, options) {
+            Some(end) => Some(end),
+            None => put_value(to, at, spare, column, CellForm::ByCell, row, options),
         }
-        CellSource::WideDecimals(scale, numbers) => {
-            match put_wide_decimal_cell(to, at, scale, numbers, row, options) {
-                Some(end) => Some(end),
-                None => put_value(to, at, spare, column, CellForm::ByCell, row, options),
-            }
-        }
-        CellSource::Texts(texts) => put_text_cell(to, at, texts, row, options),
-        CellSource::Cells(form) => put_value(to, at, spare, column, form, row, options),
+    }
+}
+
+/// Texts, each quoted only where it must be.
+#[derive(Clone, Copy, Debug)]
+pub(crate) struct TextSource<'a>(pub(crate) &'a Texts);
+
+impl PutCell for TextSource<'_> {
+    ghost use Rattle.std.specs.Prelude.{◌≡◌};
+    ghost use Rattle.pl_frame.specs.Columns.{text_cells};
+
+    ghost fits = { λ source o column. (o.style ≡ 0) × (text_cells source.0.now ≡ column.values) };
+
+    #[inline(always)]
+    fn put(
+        &self,
+        to: &mut [u8],
+        at: usize,
+        spare: &mut Spare,
+        column: &Column,
+        row: usize,
+        options: &SerializeOptions,
+    ) -> Option<usize> {
+        put_text_cell(to, at, self.0, row, options)
+    }
+}
+
+/// The column, in a form.
+#[derive(Clone, Copy, Debug)]
+pub(crate) struct ColumnSource(pub(crate) CellForm);
+
+impl PutCell for ColumnSource {
+    ghost use Rattle.pl_write.specs.CellForms.{FitsForm};
+
+    ghost fits = { λ source o column. FitsForm source.0 o column.dtype };
+
+    #[inline(always)]
+    fn put(
+        &self,
+        to: &mut [u8],
+        at: usize,
+        spare: &mut Spare,
+        column: &Column,
+        row: usize,
+        options: &SerializeOptions,
+    ) -> Option<usize> {
+        put_value(to, at, spare, column, self.0, row, options)
     }
 }

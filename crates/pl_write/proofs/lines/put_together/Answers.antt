@@ -10,8 +10,8 @@ use Rattle.pl_write.proofs.lines.put_together.Goals as goal
 pub bounds-sources-place : goal.bounds-sources-place
 bounds-sources-place c = omega (arith, HaveSources-length (cell_options c.args.options.now) c.args.columns.now c.args.sources.now c.requires.sources, c.loop-place-test.true)
 
-pub append_cells-requires-clause-source : goal.append_cells-requires-clause-source
-append_cells-requires-clause-source c =
+pub append_column-requires-clause-source : goal.append_column-requires-clause-source
+append_column-requires-clause-source c =
     let o = cell_options c.args.options.now in
     let i = c.loop-place.place in
     let d = c.index-columns-place.result in
@@ -22,7 +22,7 @@ append_cells-requires-clause-source c =
 
 pub loop-place-preserved : goal.loop-place-preserved
 loop-place-preserved c = λ k h.
-    let inside : k < length c.loop-place.lines = omega (arith, c.append_cells.auto.lines) in
+    let inside : k < length c.loop-place.lines = omega (arith, c.append_column.auto.lines) in
     line-more (cell_options c.args.options.now) c.args.columns.now c.loop-place.place c.index-columns-place.result (c.args.first + k)
-    (get_or c.loop-place.lines k []) (get_or c.append_cells.new.lines k []) c.loop-place-test.true c.index-columns-place.is
-    (c.loop-place.invariant k inside) (c.in_ok-append_cells.ensures k h)
+    (get_or c.loop-place.lines k []) (get_or c.append_column.new.lines k []) c.loop-place-test.true c.index-columns-place.is
+    (c.loop-place.invariant k inside) (c.in_ok-append_column.ensures k h)

@@ -1,7 +1,8 @@
 -- Doubling the quotes of a text.
-use Rattle.std.proofs.Common.{◌≡◌, ℕ, zero, suc, ◌<◌, ◌≤◌, Bool, true, false, ◌==◌, List, [], ◌∷◌, ◌++◌, length, take, drop, get_or, refl, ◌∙◌, ap, append-nil, add-zero, length-drop, arith}
+use Rattle.std.proofs.Common.{◌≡◌, ℕ, zero, suc, ◌<◌, ◌≤◌, Bool, true, false, not, if◌then◌else◌, ◌==◌, List, [], ◌∷◌, ◌++◌, length, take, drop, get_or, refl, sym, ◌∙◌, ap, append_assoc, append-nil, add-zero, length-drop, arith}
 use Rattle.std.proofs.lemmas.List.{take_all, drop_all, get_or-drop}
 use Rattle.std.proofs.lemmas.Bool.Decides.{nat_tests}
+use Rattle.std.specs.List.{prefix_len}
 use Rattle.memchr.specs.Find.{Nowhere, Passes, is_byte}
 use Rattle.pl_frame.specs.Text.{doubled}
 
@@ -32,3 +33,13 @@ pub doubled-step : (q : ℕ) (xs : List ℕ) (n : ℕ) → Nowhere (Passes (is_b
 doubled-step q xs n none fits is =
     doubled-pass q xs n none (omega arith)
     ∙ ap (λ l. take n xs ++ l) (doubled-quote q (drop n xs) (omega (arith, length-drop n xs)) (get_or-drop n xs 0 0 ∙ rw add-zero is))
+
+-- the first bytes, before the first quote, stay
+pub doubled-before : (q : ℕ) (xs : List ℕ) (n : ℕ) → n ≤ prefix_len (λ x. not (x == q)) xs → doubled q (take n xs) ≡ take n xs
+doubled-before q xs zero before = refl
+doubled-before q [] (suc n) before = refl
+doubled-before q (x ∷ xs) (suc n) before = by (x == q) refl (λ rest. doubled-before q xs n rest)
+  where
+    by : (t : Bool) → (x == q) ≡ t → (n ≤ prefix_len (λ y. not (y == q)) xs → doubled q (take n xs) ≡ take n xs) → doubled q (take (suc n) (x ∷ xs)) ≡ take (suc n) (x ∷ xs)
+    by true e rest = absurd (omega (arith, rw e at before))
+    by false e rest = rw e (ap (λ l. x ∷ l) (rest (omega (arith, rw e at before))))

@@ -1,13 +1,14 @@
 -- From a vector's mask to bytes that are not special.
 use Rattle.std.proofs.Common.{◌≡◌, ℕ, zero, suc, ◌+◌, ◌-◌, ◌%◌, ◌^◌, ◌<◌, ◌≤◌, Bool, true, false, not, ◌||◌, cond, ◌==◌, eqb, List, [], ◌∷◌, length, take, get_or, map, replicate, bit_or, refl, sym, ap, ap₂, ◌∙◌, arith}
 use Rattle.std.proofs.lemmas.Bool.{not-true, eqb-true, ne_eqb}
-use Rattle.std.proofs.lemmas.Simd.{length-chunk, leading_from_mask_l, first_set_mask_l, get_or-chunk, zip2_splat, mask_l-mod}
+use Rattle.std.proofs.lemmas.Simd.{bitmask_splat, length-chunk, leading_from_mask_l, first_set_mask_l, get_or-chunk, zip2_splat, mask_l-mod}
 use Rattle.std.proofs.lemmas.List.{length-map, length-take-le, take_all}
 use Rattle.std.proofs.lemmas.List.Sums.{prefix_len_passes}
 use Rattle.std.specs.Bool.{OnTrue}
 use Rattle.std.specs.List.{list_any, prefix_len}
 use lib.Count.{count_trailing_zeros}
 use lib.Lanes.{chunk, mask_l, zip2, top}
+use mir.Syntax.{w8}
 use Rattle.std.proofs.lemmas.Bool.Decides.{nat_tests}
 use Rattle.pl_frame.specs.Text.{is_special, needs_quotes}
 use Rattle.pl_write.specs.Special.{HasNoSpecial}
@@ -94,6 +95,27 @@ first_special-none s q d long none =
 pub first_special-some : (s q : ℕ) (d : List ℕ) → length d ≡ 32 → (tests_mask s q (take 32 d) 32 ≡ 0 → ⊥) → count_trailing_zeros 64 (tests_mask s q (take 32 d) 32) ≡ prefix_len (λ x. not (is_special s q x)) d
 first_special-some s q d long some =
     sym (ap (λ b. cond b 32 (count_trailing_zeros 64 (tests_mask s q (take 32 d) 32))) (ne_eqb _ 0 some)) ∙ first_special s q d long
+
+-- the mask of one test
+abbrev quote_mask : ℕ → List ℕ → ℕ → ℕ
+quote_mask q v n = mask_l (map (top 7) (zip2 hit v (replicate n q))) % 2 ^ 64
+
+-- where the first quote of 32 bytes stands
+first_quote : (q : ℕ) (d : List ℕ) → length d ≡ 32 → cond (eqb (quote_mask q (take 32 d) 32) 0) 32 (count_trailing_zeros 64 (quote_mask q (take 32 d) 32)) ≡ prefix_len (λ x. not (x == q)) d
+first_quote q d long =
+    let all : take 32 d ≡ d = take_all 32 d (omega (arith, long)) in
+    let whole : length (take 32 d) ≡ 32 = ap length all ∙ long in
+    ap (λ m. cond (eqb m 0) 32 (count_trailing_zeros 64 m)) (bitmask_splat w8 eqb (take 32 d) 32 q whole (omega arith))
+    ∙ first_set_mask_l (λ x. x == q) (take 32 d) 32 whole (omega arith)
+    ∙ ap (prefix_len (λ x. not (x == q))) all
+
+pub first_quote-none : (q : ℕ) (d : List ℕ) → length d ≡ 32 → quote_mask q (take 32 d) 32 ≡ 0 → 32 ≡ prefix_len (λ x. not (x == q)) d
+first_quote-none q d long none =
+    sym (ap (λ m. cond (eqb m 0) 32 (count_trailing_zeros 64 m)) none) ∙ first_quote q d long
+
+pub first_quote-some : (q : ℕ) (d : List ℕ) → length d ≡ 32 → (quote_mask q (take 32 d) 32 ≡ 0 → ⊥) → count_trailing_zeros 64 (quote_mask q (take 32 d) 32) ≡ prefix_len (λ x. not (x == q)) d
+first_quote-some q d long some =
+    sym (ap (λ b. cond b 32 (count_trailing_zeros 64 (quote_mask q (take 32 d) 32))) (ne_eqb _ 0 some)) ∙ first_quote q d long
 
 -- no byte at any place is none in the list
 none_in : (p : ℕ → Bool) (xs : List ℕ) → ((k : ℕ) → 0 ≤ k → k < length xs → p (get_or xs k 0) ≡ false) → list_any p xs ≡ false

@@ -1,5 +1,5 @@
 //! Whether a text holds a special byte, which only a quoted text may hold. Two loads that overlap cover a short text.
-ghost use Rattle.std.specs.Prelude.{◌≡◌, ◌+◌, ◌≤◌, length, not};
+ghost use Rattle.std.specs.Prelude.{◌≡◌, ◌==◌, ◌+◌, ◌≤◌, length, not};
 ghost use Rattle.std.specs.Bool.{OnTrue};
 ghost use Rattle.std.specs.List.{list_any, prefix_len};
 ghost use Rattle.pl_frame.specs.Text.{is_special};
@@ -79,7 +79,7 @@ pub(crate) fn is_clear_4_to_8(text: &[u8], separator: u8, quote: u8) -> bool
 
 /// How many of 32 bytes stand before the first special one.
 #[inline(always)]
-pub(crate) fn clear_count(bytes: &[u8], separator: u8, quote: u8) -> usize
+pub(crate) fn count_before_special(bytes: &[u8], separator: u8, quote: u8) -> usize
     requires { length bytes.now ≡ 32 }
     ensures { result ≡ prefix_len (λ x. not (is_special separator quote x)) bytes.now }
 {
@@ -93,6 +93,17 @@ pub(crate) fn clear_count(bytes: &[u8], separator: u8, quote: u8) -> usize
     } else {
         special.trailing_zeros() as usize
     }
+}
+
+/// How many of 32 bytes stand before the first that is a quote.
+#[inline(always)]
+pub(crate) fn count_before_quote(bytes: &[u8], quote: u8) -> usize
+    requires { length bytes.now ≡ 32 }
+    ensures { result ≡ prefix_len (λ x. not (x == quote)) bytes.now }
+{
+    let v = u8x32::from_slice(bytes);
+    let quotes = v.simd_eq(u8x32::splat(quote)).to_bitmask();
+    if quotes == 0 { 32 } else { quotes.trailing_zeros() as usize }
 }
 
 // True only where no special byte is there.

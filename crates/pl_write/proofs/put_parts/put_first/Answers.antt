@@ -4,7 +4,7 @@ use Rattle.pl_frame.specs.Text.{needs_quotes, quoted}
 use Rattle.pl_write.proofs.PutLaws.{put-front}
 use Rattle.pl_write.proofs.SpecialLaws.{first_bare, first_empty, first_quoted}
 use Rattle.pl_write.proofs.put_parts.put_first.Goals as goal
-use Rattle.pl_write.proofs.put_parts.put_first.Goals.{then-count-eq0-via-then-count-eq0, then-count-eq0-via-else-count-eq0+then-clear_count-count}
+use Rattle.pl_write.proofs.put_parts.put_first.Goals.{then-count-eq0-via-then-count-eq0, then-count-eq0-via-else-count-eq0+then-count_before_special-count}
 
 pub returns-then-count-eq0-clause-text : goal.returns-then-count-eq0-clause-text
 returns-then-count-eq0-clause-text c =
@@ -14,9 +14,9 @@ returns-then-count-eq0-clause-text c =
     let n = c.args.count in
     let needs : needs_quotes s q (take n bytes) ≡ true = elim c.then-count-eq0.branch [
       | then-count-eq0-via-then-count-eq0 w ↦ first_empty s q bytes n w.if-count-eq0.true
-      | then-count-eq0-via-else-count-eq0+then-clear_count-count w ↦ first_quoted s q bytes n (omega arith) (omega (arith, w.clear_count.ensures, w.if-clear_count-count.true))
+      | then-count-eq0-via-else-count-eq0+then-count_before_special-count w ↦ first_quoted s q bytes n (omega arith) (omega (arith, w.count_before_special.ensures, w.if-count_before_special-count.true))
     ] in
-    c.put_quoted.ensures.text ∙ ap (λ (b : Bool). take c.args.at c.args.to.now ++ (if b then quoted q (take n bytes) else take n bytes)) (sym needs)
+    c.put_first_quoted.ensures.text ∙ ap (λ (b : Bool). take c.args.at c.args.to.now ++ (if b then quoted q (take n bytes) else take n bytes)) (sym needs)
 
 pub returns-clause-text : goal.returns-clause-text
 returns-clause-text c =
@@ -26,6 +26,6 @@ returns-clause-text c =
     let n = c.args.count in
     let to = c.args.to.now in
     let at = c.args.at in
-    let bare = first_bare s q bytes n (omega arith) c.if-count-eq0.false (omega (arith, c.clear_count.ensures, c.if-clear_count-count.false)) in
+    let bare = first_bare s q bytes n (omega arith) c.if-count-eq0.false (omega (arith, c.count_before_special.ensures, c.if-count_before_special-count.false)) in
     let put = put-front (take at to) bytes c.put_bytes.new.to at (length bytes) n (length-take-le at to (omega arith)) (omega arith) (rw c.put_bytes.ensures.end at c.put_bytes.ensures.text) in
     rw bare put

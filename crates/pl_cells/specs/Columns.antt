@@ -1,13 +1,13 @@
 -- The cells of a column of records, and of fields that are read in place (docs/types.md, "Cells").
-use Rattle.std.specs.Prelude.{◌≡◌, ℕ, Bool, true, false, ◌||◌, ◌==◌, List, [], ◌∷◌, ◌++◌, map, Option, None, Some, Ok, slice_get, unwrap_or}
+use Rattle.std.specs.Prelude.{◌≡◌, ℕ, Bool, true, false, not, ◌&&◌, ◌||◌, ◌==◌, List, [], ◌∷◌, ◌++◌, map, Option, None, Some, Ok, slice_get, unwrap_or}
 use Rattle.std.specs.Char.{is_ascii_digit}
 use Rattle.std.specs.List.{AllByRecursion}
 use Rattle.pl_frame.specs.declared.data_type.DataType.{DataType}
 use Rattle.pl_frame.specs.Frame.{Scalar}
 use Rattle.pl_frame.specs.Types.{is_text}
 use Rattle.pl_cells.specs.BufferValue.{BufferValue, Adds, with_value, with_values, reading_of}
-use Rattle.pl_cells.specs.Cells.{Cell, Reading, cell, text_cell, softened, value_of, fault_of}
-use Rattle.pl_cells.specs.NullTest.{NullTest, nothing_is_null}
+use Rattle.pl_cells.specs.Cells.{Cell, Reading, cell, is_missing, text_cell, softened, value_of, fault_of}
+use Rattle.pl_cells.specs.NullTest.{NullTest, null_test, nothing_is_null}
 use Rattle.pl_cells.specs.Quoting.{strip}
 use Rattle.pl_cells.specs.Values.{value_of_text}
 
@@ -56,3 +56,7 @@ StandsFor quote field text = (reading : Reading) (type : DataType) (value : Scal
 -- the same of texts that are not empty
 abbrev pub StandsForText : Option ℕ → List ℕ → List ℕ → Type 0
 StandsForText quote field text = (reading : Reading) (type : DataType) → is_text type ≡ true → cell reading nothing_is_null quote type field ≡ softened reading.ignore_errors (text_cell reading type text)
+
+-- a field without its carriage return means null and is not missing, given the quote that it begins with
+abbrev pub is_null_by : NullTest → Option ℕ → List ℕ → Bool
+is_null_by is_null quote text = null_test is_null quote text && not (is_missing quote text)

@@ -11,6 +11,7 @@ ghost use Rattle.pl_cells.specs.NullValues.{HaveTexts, means_null};
 use crate::buffer::Buffer;
 use crate::cell_buffer::{CellBuffer, put_field};
 use crate::cell_fault::CellFault;
+use crate::null_test::is_null_field;
 use crate::null_values::NullValuesCompiled;
 use pl_table::table::{Placed, Table};
 
@@ -31,6 +32,15 @@ fn placed_in<'a>(table: &Table, text: &'a [u8], row: usize, column: usize) -> Pl
     }
 }
 
+// The bytes of a field.
+#[inline(always)]
+fn bytes_of(field: Placed<'_>) -> &[u8]
+    requires { field.start ≤ length field.upto.now }
+    ensures { result.now ≡ placed_text field.entry }
+{
+    &field.upto[field.start..]
+}
+
 // Puts the cell of a field of a column at the end. Refuses the cell's fault, and want of memory; the buffer is then as it was.
 #[inline(always)]
 fn put_placed<B: CellBuffer>(
@@ -46,10 +56,13 @@ fn put_placed<B: CellBuffer>(
     requires texts { HaveTexts null_values (suc column) }
     ensures { Answers (B.state buffer.old) (B.state buffer.new) (cell (reading_of (B.state buffer.old) missing_is_null ignore_errors) (means_null (option_copied null_values.entry) column) quote_char (B.state buffer.old).dtype (placed_text field.entry)) result }
 {
-    if null_values.is_none() && buffer.put_seen(field, quote_char)? {
-        return Ok(());
+    let bytes = bytes_of(field);
+    if !is_null_field(null_values, bytes, column, quote_char) {
+        let seen = buffer.put_seen(field, quote_char)?;
+        if seen {
+            return Ok(());
+        }
     }
-    let bytes = &field.upto[field.start..];
     put_field(
         buffer,
         bytes,

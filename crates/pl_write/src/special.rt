@@ -103,7 +103,11 @@ pub(crate) fn count_before_quote(bytes: &[u8], quote: u8) -> usize
 {
     let v = u8x32::from_slice(bytes);
     let quotes = v.simd_eq(u8x32::splat(quote)).to_bitmask();
-    if quotes == 0 { 32 } else { quotes.trailing_zeros() as usize }
+    if quotes == 0 {
+        32
+    } else {
+        quotes.trailing_zeros() as usize
+    }
 }
 
 // True only where no special byte is there.

@@ -59,8 +59,9 @@ def python_with_pandas():
 PANDAS = python_with_pandas()
 # Each task: its name, whether it is there, its command (source and target are files; None for standard input and output), and what it checks.
 TASKS = [
-    ("pl_csv", lambda: True, lambda w, i, o: ([f"{TOP}/pl_csv", "--schema", ours(w)], i, o), "types as told; every cell, date and UTF-8 text is checked"),
-    ("pl_csv, no schema", lambda: True, lambda w, i, o: ([f"{TOP}/pl_csv", "--dates"], i, o), "types by a sample; every cell and UTF-8 text is checked"),
+    ("pl_csv", lambda: True, lambda w, i, o: ([f"{TOP}/pl_csv", "--schema", ours(w), "--workers", "1"], i, o), "types as told; every cell, date and UTF-8 text is checked"),
+    ("pl_csv, 4 workers", lambda: True, lambda w, i, o: ([f"{TOP}/pl_csv", "--schema", ours(w), "--workers", "4"], i, o), "the same; four workers read, and one thread writes"),
+    ("pl_csv, no schema", lambda: True, lambda w, i, o: ([f"{TOP}/pl_csv", "--dates", "--workers", "1"], i, o), "types by a sample; every cell and UTF-8 text is checked"),
     ("data.table", has_data_table, lambda w, i, o: (["Rscript", f"{HERE}/peers/datatable.R", i, o, neutral(w)], None, None), "types by a sample; decimals as doubles; doubled quotes stay"),
     ("pandas", lambda: PANDAS, lambda w, i, o: ([PANDAS, f"{HERE}/peers/pandas_peer.py", i, o, neutral(w)], None, None), "types as told; decimals as doubles"),
     ("sqlite3", lambda: shutil.which("sqlite3"), lambda w, i, o: ([f"{HERE}/peers/sqlite.sh", i, o, neutral(w)], None, None), "refuses nothing; dates stay texts"),
@@ -112,7 +113,7 @@ def page(workloads, tasks, sizes, best, rounds):
     speed = lambda at: f"{sizes[at[1]] / 1e6 / best[at][0]:.0f}" if best.get(at) else "failed"
     lines = [
         "# Speed", "",
-        "A transcode on one thread: a file is read into typed columns and written as CSV again, from one file in memory to another. The numbers are MB of input a second, "
+        "A transcode, on one thread but where workers are named: a file is read into typed columns and written as CSV again, from one file in memory to another. The numbers are MB of input a second, "
         f"the best of {rounds} rounds in which all programs ran in turn. [bench/README.md](../bench/README.md) says how to run it.", "",
         f"Machine: {processor()}, {os.cpu_count()} processors, {platform.system()} {platform.release()}.", "",
         "![MB of input a second by workload and program](speed.svg)", "",
@@ -130,7 +131,7 @@ def page(workloads, tasks, sizes, best, rounds):
 
 def plot(workloads, tasks, sizes, best):
     """Returns docs/speed.svg: a group of bars for each workload."""
-    colors = ["#1b6ca8", "#7fb2d6", "#c8553d", "#e0a458", "#8a8d91", "#b7c0a6", "#d8c4b6"]
+    colors = ["#1b6ca8", "#0b3d63", "#7fb2d6", "#c8553d", "#e0a458", "#8a8d91", "#b7c0a6", "#d8c4b6"]
     bar, gap, left, width = 13, 16, 70, 640
     most = max(sizes[at[1]] / 1e6 / found[0] for at, found in best.items() if found)
     rows, y = [], 40

@@ -2,4 +2,10 @@
 #![tactic(auto)]
 
 #[cfg(test)]
+mod board;
+#[cfg(test)]
+mod rows;
+#[cfg(test)]
 mod state;
+#[cfg(test)]
+mod threads;

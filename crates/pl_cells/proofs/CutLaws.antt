@@ -16,7 +16,7 @@ use Rattle.pl_cells.proofs.BufferLaws.{record_of}
 use Rattle.pl_cells.proofs.EnumLaws.{enum_of}
 
 -- each value of a column fits its type
-fits_at : (type : DataType) (xs : List (Option Scalar)) → HoldsType type xs → (k : ℕ) → k < length xs → misfits type (get_or xs k None) ≡ false
+pub fits_at : (type : DataType) (xs : List (Option Scalar)) → HoldsType type xs → (k : ℕ) → k < length xs → misfits type (get_or xs k None) ≡ false
 fits_at type xs held k l = by (misfits type (get_or xs k None)) refl
   where
     by : (b : Bool) → misfits type (get_or xs k None) ≡ b → misfits type (get_or xs k None) ≡ false

@@ -8,6 +8,7 @@ pub mod DecimalAtLaws
 pub mod DecimalLaws
 pub mod EnumLaws
 pub mod IntegerLaws
+pub mod JoinLaws
 pub mod LaneLaws
 pub mod NullEqualLaws
 pub mod NullLaws

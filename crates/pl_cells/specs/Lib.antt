@@ -21,3 +21,4 @@ pub mod NullValues
 pub mod Quoting
 pub mod Times
 pub mod Values
+pub mod Variants

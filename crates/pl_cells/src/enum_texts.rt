@@ -114,6 +114,15 @@ impl EnumTexts {
         self.places.push(place as u64)
     }
 
+    // Puts texts among the same categories at the end.
+    fn append(&mut self, other: &EnumTexts) -> Result<(), AllocError>
+        requires { self.old.categories ≡ other.now.categories }
+        ensures ok { OnOk result (self.new ≡ record { categories = self.old.categories; texts = self.old.texts ++ other.now.texts }) }
+        ensures err { OnErr result (self.new ≡ self.old) }
+    {
+        self.places.append(&other.places)
+    }
+
     // Keeps so many texts, or all if there are fewer.
     fn truncate(&mut self, len: usize)
         ensures { self.new ≡ record { categories = self.old.categories; texts = take len self.old.texts } }
@@ -148,8 +157,17 @@ impl TextType for EnumTexts {
         self.places.len()
     }
 
-    fn make_room(&mut self, additional: usize) -> Result<(), AllocError> {
+    fn make_room(&mut self, additional: usize, _bytes: usize) -> Result<(), AllocError> {
         self.places.reserve(additional)
+    }
+
+    #[inline]
+    fn text_bytes(&self) -> usize {
+        0
+    }
+
+    fn add_all(&mut self, other: &Self) -> Result<(), AllocError> {
+        self.append(other)
     }
 
     fn cut_back(&mut self, len: usize) {

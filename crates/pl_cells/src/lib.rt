@@ -16,6 +16,7 @@ pub mod decimals;
 pub mod enum_texts;
 pub mod init_buffers;
 pub mod integers;
+pub mod join;
 mod lacks;
 mod lanes;
 pub mod laws;

@@ -1,8 +1,11 @@
 //! Buffers of texts.
-ghost use Rattle.std.specs.Prelude.{◌≡◌, ℕ, Bool, true, IsTrue, [], length, OnOk, OnErr, IfOk, IsOkUnless};
+ghost use Rattle.std.specs.Prelude.{◌≡◌, ◌≤◌, ℕ, Bool, true, IsTrue, [], length, map, OnOk, OnErr, IfOk, IsOkUnless};
 ghost use Rattle.pl_frame.specs.declared.error.PolarsError.TheVariants as error;
+ghost use Rattle.pl_frame.specs.ByteCount.{byte_count};
+ghost use Rattle.pl_frame.specs.Columns.{text_in};
+ghost use Rattle.pl_frame.specs.declared.data_type.DataType.TheVariants as dtype;
 ghost use Rattle.pl_frame.specs.Types.{is_text};
-ghost use Rattle.pl_cells.specs.BufferValue.{Answers, ListAnswers, with_value, cut_to, reading_of, reading_with, column_of};
+ghost use Rattle.pl_cells.specs.BufferValue.{Answers, ListAnswers, with_value, with_values, cut_to, reading_of, reading_with, column_of};
 ghost use Rattle.pl_cells.specs.Cells.{missing_value, plain_cell, quoted_cell, softened, text_cell};
 ghost use Rattle.pl_cells.specs.Columns.{IsSeen};
 ghost use Rattle.pl_cells.specs.Quoting.{undouble};
@@ -113,7 +116,41 @@ impl<L: TextType> TextBuffer<L> {
     pub(crate) fn reserve(&mut self, additional: usize) -> Result<(), AllocError>
         ensures { self.new ≡ self.old }
     {
-        self.texts.make_room(additional)
+        self.texts.make_room(additional, 0)
+    }
+
+    /// Makes room for so many more cells, with so many bytes in their texts. Refuses only want of memory; the cells stay as
+    /// they are.
+    pub(crate) fn reserve_for(&mut self, cells: usize, bytes: usize) -> Result<(), AllocError>
+        ensures { self.new ≡ self.old }
+    {
+        self.texts.make_room(cells, bytes)
+    }
+
+    /// At least as many bytes as the texts have, where the type is `String`, which is room enough for them, without taking
+    /// memory.
+    #[inline]
+    pub(crate) fn text_bytes(&self) -> usize
+        ensures { self.now.dtype ≡ dtype.String → byte_count (map text_in self.now.values) ≤ result }
+    {
+        self.texts.text_bytes()
+    }
+
+    /// The type is one of the kind.
+    #[inline]
+    pub(crate) fn know_type(&self)
+        ensures { (texts : L) × (L.dtype texts ≡ self.now.dtype) }
+    {
+        let _ = &self.texts;
+    }
+
+    /// Puts the cells of another buffer of the type at the end. Refuses only want of memory, and is then as it was.
+    pub(crate) fn append(&mut self, other: &TextBuffer<L>) -> Result<(), AllocError>
+        requires { self.old.dtype ≡ other.now.dtype }
+        ensures ok { OnOk result (self.new ≡ with_values self.old other.now.values) }
+        ensures err { OnErr result (self.new ≡ self.old) }
+    {
+        self.texts.add_all(&other.texts)
     }
 
     /// Keeps so many cells, or all if there are fewer, without taking memory.

@@ -1,12 +1,13 @@
 //! Lists of texts, one for each type whose cells are texts.
-ghost use Rattle.std.specs.Prelude.{◌≡◌, refl, ◌++◌, ◌∷◌, [], Bool, List, Option, true, false, length, map, take, IsUtf8, OnOk, OnErr, IfOk, IfSome, IsOkUnless, MatchOption};
+ghost use Rattle.std.specs.Prelude.{◌≡◌, ◌≤◌, refl, ◌++◌, ◌∷◌, [], Bool, List, Option, true, false, length, map, take, IsUtf8, OnOk, OnErr, IfOk, IfSome, IsOkUnless, MatchOption};
 ghost use Rattle.std.specs.Str.{is_utf8};
 ghost use Rattle.std.specs.Str.Lossy.{utf8_lossy};
 ghost use Rattle.std.specs.Option.{option_map};
 ghost use Rattle.pl_frame.specs.declared.data_type.DataType.{DataType};
-ghost use Rattle.pl_frame.specs.declared.data_type.DataType.TheVariants as dtype;
+ghost use Rattle.pl_frame.specs.declared.data_type.DataType.TheVariants as column_type;
 ghost use Rattle.pl_frame.specs.declared.error.PolarsError.TheVariants as error;
-ghost use Rattle.pl_frame.specs.Columns.{text_cells};
+ghost use Rattle.pl_frame.specs.ByteCount.{byte_count};
+ghost use Rattle.pl_frame.specs.Columns.{text_cells, text_in};
 ghost use Rattle.pl_frame.specs.Frame.{Scalar, Letters};
 ghost use Rattle.pl_frame.specs.Types.{is_text};
 ghost use Rattle.pl_cells.specs.BufferValue.{ListAnswers, reading_with};
@@ -42,9 +43,21 @@ pub trait TextType {
     fn count(&self) -> usize
         ensures { result ≡ length (values self.now) };
 
-    /// Makes room for so many more. Refuses only want of memory; the values stay as they are.
-    fn make_room(&mut self, additional: usize) -> Result<(), AllocError>
+    /// Makes room for so many more, with so many bytes in them. Refuses only want of memory; the values stay as they are.
+    fn make_room(&mut self, additional: usize, bytes: usize) -> Result<(), AllocError>
         ensures same { values self.new ≡ values self.old }
+        ensures dtype { dtype self.new ≡ dtype self.old };
+
+    /// At least as many bytes as the texts have, where the type is `String`, which is room enough for them, without taking
+    /// memory.
+    fn text_bytes(&self) -> usize
+        ensures { dtype self.now ≡ column_type.String → byte_count (map text_in (values self.now)) ≤ result };
+
+    /// Puts the values of another list of the type at the end. Refuses only want of memory, and is then as it was.
+    fn add_all(&mut self, other: &Self) -> Result<(), AllocError>
+        requires { dtype self.old ≡ dtype other.now }
+        ensures ok { OnOk result (values self.new ≡ values self.old ++ values other.now) }
+        ensures err { OnErr result (values self.new ≡ values self.old) }
         ensures dtype { dtype self.new ≡ dtype self.old };
 
     /// Keeps so many values, or all if there are fewer, without taking memory.
@@ -158,7 +171,7 @@ fn push_lossy(texts: &mut Texts, alloc: Global, bytes: &[u8]) -> Result<(), Allo
 
 // Strings.
 impl TextType for Texts {
-    ghost dtype = { λ _. dtype.String };
+    ghost dtype = { λ _. column_type.String };
 
     ghost values = { text_cells };
 
@@ -173,8 +186,17 @@ impl TextType for Texts {
         self.len()
     }
 
-    fn make_room(&mut self, additional: usize) -> Result<(), AllocError> {
-        self.reserve(additional, 0)
+    fn make_room(&mut self, additional: usize, bytes: usize) -> Result<(), AllocError> {
+        self.reserve(additional, bytes)
+    }
+
+    #[inline]
+    fn text_bytes(&self) -> usize {
+        self.byte_len()
+    }
+
+    fn add_all(&mut self, other: &Self) -> Result<(), AllocError> {
+        self.append(other)
     }
 
     fn cut_back(&mut self, len: usize) {
@@ -218,7 +240,7 @@ impl TextType for Texts {
 
 // Categories.
 impl TextType for CodesBuilder {
-    ghost dtype = { λ _. dtype.Categorical };
+    ghost dtype = { λ _. column_type.Categorical };
 
     ghost values = { text_cells };
 
@@ -233,8 +255,17 @@ impl TextType for CodesBuilder {
         self.len()
     }
 
-    fn make_room(&mut self, _additional: usize) -> Result<(), AllocError> {
-        Ok(())
+    fn make_room(&mut self, additional: usize, _bytes: usize) -> Result<(), AllocError> {
+        self.reserve(additional)
+    }
+
+    #[inline]
+    fn text_bytes(&self) -> usize {
+        0
+    }
+
+    fn add_all(&mut self, other: &Self) -> Result<(), AllocError> {
+        self.append(other)
     }
 
     fn cut_back(&mut self, len: usize) {

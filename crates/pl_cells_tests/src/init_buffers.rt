@@ -133,3 +133,44 @@ fn an_empty_category_stands_between_quotes(rt: HostRuntime) {
     fill_categories(&rt, &mut buffer);
     assert!(rt; is_category(&rt, rt.alloc(), &series(&rt, buffer), ""));
 }
+
+// Puts the numbers of a buffer behind those of another.
+fn join_numbers(rt: &impl Abort, buffer: &mut Buffer, other: &Buffer) {
+    let (Ok(DataType::Int64), Ok(DataType::Int64)) = (buffer.dtype(), other.dtype()) else {
+        panic!(rt; "no numbers");
+    };
+    buffer
+        .reserve_for(other.len(), other.text_bytes())
+        .expect(rt, "room");
+    buffer.append(other).expect(rt, "room");
+}
+
+#[test]
+fn numbers_are_joined(rt: HostRuntime) {
+    let mut buffer = buffer_of(&rt, rt.alloc(), DataType::Int64);
+    let mut other = buffer_of(&rt, rt.alloc(), DataType::Int64);
+    assert!(rt; fault(&mut buffer, b"5") == None);
+    other.add_null(true).expect(&rt, "a null");
+    join_numbers(&rt, &mut buffer, &other);
+    assert!(rt; is_int64(&rt, rt.alloc(), &series(&rt, buffer), 5));
+}
+
+// Puts the texts of a buffer behind those of another.
+fn join_texts(rt: &impl Abort, buffer: &mut Buffer, other: &Buffer) {
+    let (Ok(DataType::String), Ok(DataType::String)) = (buffer.dtype(), other.dtype()) else {
+        panic!(rt; "no texts");
+    };
+    assert!(rt; other.text_bytes() == 3);
+    buffer.reserve_for(1, 3).expect(rt, "room");
+    buffer.append(other).expect(rt, "room");
+}
+
+#[test]
+fn texts_are_joined(rt: HostRuntime) {
+    let mut buffer = buffer_of(&rt, rt.alloc(), DataType::String);
+    let mut other = buffer_of(&rt, rt.alloc(), DataType::String);
+    assert!(rt; fault(&mut buffer, b"abcd") == None);
+    assert!(rt; fault(&mut other, b"xyz") == None);
+    join_texts(&rt, &mut buffer, &other);
+    assert!(rt; is_string(&rt, rt.alloc(), &series(&rt, buffer), "abcd", "xyz"));
+}

@@ -14,6 +14,8 @@ use pl_frame::source::Source;
 use pl_words::conversion::Conversion;
 use pl_words::words::{WordsFault, parse_words};
 use std::alloc::Global;
+use std::sync::Wait;
+use std::thread::Threads;
 
 /// Why a run ends with a status other than 0.
 #[derive(Debug, Drop)]
@@ -98,7 +100,8 @@ fn read_input<So: Source>(
 }
 
 // Reads the source and writes the text of its frame to the sink.
-fn convert<So: Source, Si: Sink>(
+fn convert<W: Threads + Wait + Sync, So: Source, Si: Sink>(
+    rt: &W,
     alloc: Global,
     words: &[String],
     source: &mut So,
@@ -112,7 +115,7 @@ fn convert<So: Source, Si: Sink>(
     ensures sink_later { Si.faults out.old ≤ Si.faults out.new }
 {
     let (conversion, input) = read_input(alloc, words, source)?;
-    match transcode(alloc, &input, &conversion.read, &conversion.write, out) {
+    match transcode(rt, alloc, &input, &conversion.read, &conversion.write, out) {
         Ok(_) => Ok(()),
         Err(fault) => Err(Refusal::Polars(fault)),
     }
@@ -127,7 +130,8 @@ fn convert<So: Source, Si: Sink>(
 /// or nothing received; 6 an input of more than 2^36 bytes; and from 11 on the first cause against the frame that the input
 /// means, by the table of docs/command-line.md ("Statuses"). At 2, 3, 6 and from 11 on `out` received nothing. `err` receives
 /// the fault line of the status; a fault of `err` cuts it short, and changes neither status nor `out`.
-pub fn run<So: Source, Si: Sink, Se: Sink>(
+pub fn run<W: Threads + Wait + Sync, So: Source, Si: Sink, Se: Sink>(
+    rt: &W,
     alloc: Global,
     words: &[String],
     source: &mut So,
@@ -156,7 +160,7 @@ pub fn run<So: Source, Si: Sink, Se: Sink>(
     ensures source_later { So.faults source.old ≤ So.faults source.new }
     ensures sink_later { Si.faults out.old ≤ Si.faults out.new }
 {
-    match convert(alloc, words, source, out) {
+    match convert(rt, alloc, words, source, out) {
         Ok(()) => 0,
         Err(refusal) => {
             tell_refusal(err, &refusal);

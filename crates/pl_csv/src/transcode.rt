@@ -9,14 +9,18 @@ use pl_frame::frame::DataFrame;
 use pl_frame::sink::{Sink, SinkFault};
 use pl_infer::read_options::CsvReadOptions;
 use pl_read::checks::check_options;
+use pl_read::csv_reader::OpenGate;
 use pl_read::reading::read_checked;
 use pl_write::options::CsvWriterOptions;
 use pl_write::writer::write_frame;
 use std::alloc::Global;
+use std::sync::Wait;
+use std::thread::Threads;
 
 // The frame that an input means under its settled schema, which can be written. Refuses the first cause against it,
 // and want of memory.
-fn read_valid(
+fn read_valid<W: Threads + Wait + Sync>(
+    rt: &W,
     alloc: Global,
     input: &[u8],
     read: &CsvReadOptions,
@@ -29,7 +33,7 @@ fn read_valid(
             if !write.serialize_options.quote_char.is_ascii() {
                 return Err(PolarsError::ComputeError(ComputeFault::Quote));
             }
-            read_checked(alloc, input, read)
+            read_checked(rt, alloc, &OpenGate, input, read)
         }
         Err(fault) => Err(fault),
     }
@@ -42,7 +46,8 @@ fn read_valid(
 /// not ASCII standing behind wrong options and before a compressed input. Refuses a fault of the sink (`IO`), which then
 /// received a prefix of the text; and want of memory, with such a prefix or nothing received.
 #[tactic(auto, using(crate::proofs::TranscodeLaws::fault_unread))]
-pub fn transcode<S: Sink>(
+pub fn transcode<W: Threads + Wait + Sync, S: Sink>(
+    rt: &W,
     alloc: Global,
     input: &[u8],
     read: &CsvReadOptions,
@@ -56,7 +61,7 @@ pub fn transcode<S: Sink>(
     ensures later { S.faults sink.old ≤ S.faults sink.new }
     ensures later_wants { S.wants sink.old ≤ S.wants sink.new }
 {
-    let frame = read_valid(alloc, input, read, write)?;
+    let frame = read_valid(rt, alloc, input, read, write)?;
     match write_frame(alloc, frame.columns(), write, sink) {
         Ok(()) => Ok(frame),
         Err(SinkFault::Device) => Err(PolarsError::IO),

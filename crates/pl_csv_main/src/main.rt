@@ -28,6 +28,7 @@ fn refuse(err: &mut impl Write, fault: &io::Error) -> u8 {
 fn main(rt: HostRuntime) -> ExitCode {
     let status = match words(&rt) {
         Ok(words) => run(
+            &rt,
             rt.alloc(),
             &words,
             &mut ReadSource::new(rt.stdin()),

@@ -9,6 +9,8 @@ use pl_csv::run::run;
 use pl_frame::sink::MemSink;
 use pl_frame::source::MemSource;
 use std::alloc::Global;
+use std::sync::Wait;
+use std::thread::Threads;
 
 /// The words and the input of a run, and what it is to answer.
 #[derive(Drop)]
@@ -28,17 +30,20 @@ pub enum Way {
     Comments,
     /// In pieces of one byte, so that each ends with the first line end at even parity.
     Pieces,
+    /// In such pieces, by three workers.
+    Workers,
 }
 
 impl Way {
-    pub const ALL: [Way; 3] = [Way::Plain, Way::Comments, Way::Pieces];
+    pub const ALL: [Way; 4] = [Way::Plain, Way::Comments, Way::Pieces, Way::Workers];
 
     // The words that ask for it.
     fn words(self) -> &'static [&'static str] {
         match self {
             Way::Plain => &[],
             Way::Comments => &["--comment", "\u{1}\u{2}"],
-            Way::Pieces => &["--piece", "1"],
+            Way::Pieces => &["--piece", "1", "--workers", "1"],
+            Way::Workers => &["--workers", "3", "--piece", "1"],
         }
     }
 }
@@ -96,10 +101,17 @@ impl<'a> Case<'a> {
     pub fn takes(&self, way: Way) -> bool {
         match way.words() {
             [] => true,
-            [name, ..] => {
-                self.wanted.status != 2 && !self.words.iter().any(|word| word.starts_with(*name))
+            [name, _] => self.wanted.status != 2 && !self.has(name),
+            [first, _, second, ..] => {
+                self.wanted.status != 2 && !self.has(first) && !self.has(second)
             }
+            _ => false,
         }
+    }
+
+    // Whether one of the words begins so.
+    fn has(&self, name: &str) -> bool {
+        self.words.iter().any(|word| word.starts_with(name))
     }
 
     /// Adds the words of a way.
@@ -111,11 +123,11 @@ impl<'a> Case<'a> {
     }
 
     /// What `run` answers.
-    pub fn answer(&self, alloc: Global) -> Result<Answer> {
+    pub fn answer<W: Threads + Wait + Sync>(&self, rt: &W, alloc: Global) -> Result<Answer> {
         let mut source = MemSource::new(&self.input);
         let mut out = MemSink::new(alloc);
         let mut err = MemSink::new(alloc);
-        let status = run(alloc, &self.words, &mut source, &mut out, &mut err);
+        let status = run(rt, alloc, &self.words, &mut source, &mut out, &mut err);
         Ok(Answer {
             status,
             out: out.received().to_vec(alloc)?,

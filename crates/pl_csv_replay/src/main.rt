@@ -7,6 +7,8 @@ mod case;
 use anyhow::{Context, Result};
 use case::{Case, Way};
 use std::rt::{Env, Files};
+use std::sync::Wait;
+use std::thread::Threads;
 use std::{env, fs};
 
 // How many cases were answered as wanted, and how many were not.
@@ -27,8 +29,8 @@ impl Tally {
 }
 
 // Replays a case, and prints where the answer is another one.
-fn replay(rt: &(impl Print + AllocGlobal), case: &Case) -> Result<bool> {
-    let got = case.answer(rt.alloc())?;
+fn replay<R: Print + AllocGlobal + Threads + Wait + Sync>(rt: &R, case: &Case) -> Result<bool> {
+    let got = case.answer(rt, rt.alloc())?;
     let passed = got == case.wanted;
     if !passed {
         let name = case.name;
@@ -38,7 +40,11 @@ fn replay(rt: &(impl Print + AllocGlobal), case: &Case) -> Result<bool> {
 }
 
 // Replays the case of these lines in each of the ways.
-fn replay_ways(rt: &(impl Print + AllocGlobal), lines: &str, tally: &mut Tally) -> Result<()> {
+fn replay_ways<R: Print + AllocGlobal + Threads + Wait + Sync>(
+    rt: &R,
+    lines: &str,
+    tally: &mut Tally,
+) -> Result<()> {
     for way in Way::ALL {
         let mut case = Case::from_lines(rt.alloc(), lines)?;
         if case.takes(way) {
@@ -50,7 +56,7 @@ fn replay_ways(rt: &(impl Print + AllocGlobal), lines: &str, tally: &mut Tally) 
 }
 
 // Replays the cases of a file: an empty line stands behind each.
-fn replay_file<R: Files + Print + AllocGlobal>(
+fn replay_file<R: Files + Print + AllocGlobal + Threads + Wait + Sync>(
     rt: &R,
     path: &str,
     tally: &mut Tally,

@@ -20,7 +20,9 @@ use std::alloc::Global;
 use std::fs;
 use std::process::Abort;
 use std::rt::Files;
+use std::sync::Wait;
 use std::test::Fail;
+use std::thread::Threads;
 
 // A read of the columns `id`, `name` and `amount`.
 fn orders(alloc: Global) -> PolarsResult<CsvReadOptions>
@@ -35,12 +37,16 @@ fn orders(alloc: Global) -> PolarsResult<CsvReadOptions>
 }
 
 // The frame of a file.
-fn read_a_file(files: &impl Files, alloc: Global, path: &str) -> PolarsResult<DataFrame> {
+fn read_a_file<W: Files + Threads + Wait + Sync>(
+    rt: &W,
+    alloc: Global,
+    path: &str,
+) -> PolarsResult<DataFrame> {
     let path = PlSmallStr::from_str(alloc, path)?;
-    let mut opener = FsOpener::new(files);
+    let mut opener = FsOpener::new(rt);
     let options = orders(alloc)?;
     let mut reader = options.try_into_reader_with_file_path(alloc, &mut opener, Some(path))?;
-    reader.finish()
+    reader.finish(rt)
 }
 
 // Whether columns have these names.
@@ -64,21 +70,29 @@ fn a_file_is_read(rt: HostRuntime) -> Result<(), Fail> {
 }
 
 // The frame of a text whose header names the columns and whose texts give the types.
-fn read_without_a_schema(alloc: Global, text: &[u8]) -> PolarsResult<DataFrame> {
+fn read_without_a_schema<W: Threads + Wait + Sync>(
+    rt: &W,
+    alloc: Global,
+    text: &[u8],
+) -> PolarsResult<DataFrame> {
     let mut reader = CsvReader::new(alloc, MemSource::new(text));
-    reader.finish()
+    reader.finish(rt)
 }
 
 #[test]
 fn a_text_is_read_without_a_schema(rt: HostRuntime) {
-    let frame = read_without_a_schema(rt.alloc(), b"id,name\n1,Anna\n2,\n");
+    let frame = read_without_a_schema(&rt, rt.alloc(), b"id,name\n1,Anna\n2,\n");
     let frame = frame.expect(&rt, "a frame");
     assert!(rt; have_names(frame.columns(), &["id", "name"]));
     assert!(rt; frame.height() == 2 && frame.width() == 2);
 }
 
 // The columns `id` and `amount` of a text.
-fn read_two_columns(alloc: Global, text: &[u8]) -> PolarsResult<DataFrame> {
+fn read_two_columns<W: Threads + Wait + Sync>(
+    rt: &W,
+    alloc: Global,
+    text: &[u8],
+) -> PolarsResult<DataFrame> {
     let amount = PlSmallStr::from_str(alloc, "amount")?;
     let id = PlSmallStr::from_str(alloc, "id")?;
     let Ok(names) = vec![in alloc; amount, id] else {
@@ -86,12 +100,12 @@ fn read_two_columns(alloc: Global, text: &[u8]) -> PolarsResult<DataFrame> {
     };
     let options = orders(alloc)?.with_columns(Some(ColumnNames::new(names)));
     let mut reader = options.into_reader_with_file_handle(alloc, MemSource::new(text));
-    reader.finish()
+    reader.finish(rt)
 }
 
 #[test]
 fn two_columns_are_read(rt: HostRuntime) {
-    let frame = read_two_columns(rt.alloc(), b"id,name,amount\n1,Anna,2.50\n");
+    let frame = read_two_columns(&rt, rt.alloc(), b"id,name,amount\n1,Anna,2.50\n");
     let frame = frame.expect(&rt, "a frame");
     assert!(rt; have_names(frame.columns(), &["id", "amount"]));
     assert!(rt; frame.width() == 2);
@@ -105,11 +119,11 @@ fn write_a_frame(alloc: Global, frame: &DataFrame, sink: &mut MemSink) -> Polars
 }
 
 // The frame of orders in a text.
-fn orders_of(rt: &impl Abort, alloc: Global, text: &[u8]) -> DataFrame {
+fn orders_of<W: Abort + Threads + Wait + Sync>(rt: &W, alloc: Global, text: &[u8]) -> DataFrame {
     let options = orders(alloc).expect(rt, "options");
     let source = MemSource::new(text);
     let mut reader = options.into_reader_with_file_handle(alloc, source);
-    reader.finish().expect(rt, "a frame")
+    reader.finish(rt).expect(rt, "a frame")
 }
 
 #[test]

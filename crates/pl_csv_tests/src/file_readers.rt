@@ -15,7 +15,9 @@ use std::alloc::Global;
 use std::fs;
 use std::process::Abort;
 use std::rt::Files;
+use std::sync::Wait;
 use std::test::Fail;
+use std::thread::Threads;
 
 // Options for a column of whole numbers.
 fn numbers(rt: &impl Abort, alloc: Global) -> CsvReadOptions
@@ -29,19 +31,30 @@ fn numbers(rt: &impl Abort, alloc: Global) -> CsvReadOptions
 }
 
 // The frame of a reader.
-fn read<R: MmapBytesReader>(rt: &impl Abort, reader: &mut CsvReader<R>) -> DataFrame {
-    reader.finish().expect(rt, "a frame")
+fn read<W: Abort + Threads + Wait + Sync, R: MmapBytesReader>(
+    rt: &W,
+    reader: &mut CsvReader<R>,
+) -> DataFrame {
+    reader.finish(rt).expect(rt, "a frame")
 }
 
 // The frame of a source.
-fn frame_of<R: MmapBytesReader + Drop>(rt: &impl Abort, alloc: Global, source: R) -> DataFrame {
+fn frame_of<W: Abort + Threads + Wait + Sync, R: MmapBytesReader + Drop>(
+    rt: &W,
+    alloc: Global,
+    source: R,
+) -> DataFrame {
     let options = numbers(rt, alloc);
     let mut reader = options.into_reader_with_file_handle(alloc, source);
     read(rt, &mut reader)
 }
 
 // The frame of the file of a name.
-fn frame_at(rt: &(impl Abort + Files), alloc: Global, name: &str) -> DataFrame {
+fn frame_at<W: Abort + Files + Threads + Wait + Sync>(
+    rt: &W,
+    alloc: Global,
+    name: &str,
+) -> DataFrame {
     let path = PlSmallStr::from_str(alloc, name).expect(rt, "a name");
     let mut files = FsOpener::new(rt);
     let options = numbers(rt, alloc);

@@ -5,6 +5,8 @@ use pl_frame::sink::{MemSink, PipeSink};
 use pl_frame::source::{MemSource, PipeSource};
 use std::alloc::Global;
 use std::process::Abort;
+use std::sync::Wait;
+use std::thread::Threads;
 
 const TWO_COLUMNS: &str = "--schema a:int64,b:string";
 
@@ -25,8 +27,8 @@ fn words_for(rt: &impl Abort, alloc: Global, line: &str) -> Vec<String> {
 }
 
 // The status, and whether these are what the two sinks received.
-fn converts(
-    rt: &impl Abort,
+fn converts<W: Abort + Threads + Wait + Sync>(
+    rt: &W,
     alloc: Global,
     words: &str,
     input: &[u8],
@@ -37,7 +39,7 @@ fn converts(
     let mut source = MemSource::new(input);
     let mut sink = MemSink::new(alloc);
     let mut err = MemSink::new(alloc);
-    let status = run(alloc, &words, &mut source, &mut sink, &mut err);
+    let status = run(rt, alloc, &words, &mut source, &mut sink, &mut err);
     (status, sink.received() == out && err.received() == line)
 }
 
@@ -60,8 +62,8 @@ fn names_and_types_are_inferred_without_words(rt: HostRuntime) {
 
 // The status where the calls with these numbers fail, what the sink holds, whether that begins the row, and whether the
 // error sink holds the line.
-fn converts_failing(
-    rt: &impl Abort,
+fn converts_failing<W: Abort + Threads + Wait + Sync>(
+    rt: &W,
     alloc: Global,
     reads: &[usize],
     writes: &[usize],
@@ -71,7 +73,7 @@ fn converts_failing(
     let mut source = PipeSource::new(ROW.as_bytes(), 1, reads);
     let mut sink = PipeSink::new(alloc, 1, writes);
     let mut err = MemSink::new(alloc);
-    let status = run(alloc, &words, &mut source, &mut sink, &mut err);
+    let status = run(rt, alloc, &words, &mut source, &mut sink, &mut err);
     let received = sink.received();
     let begins = ROW.as_bytes().starts_with(received);
     (status, received.len(), begins && err.received() == line)
@@ -104,7 +106,7 @@ fn failing_error_sink_cuts_the_line_short(rt: HostRuntime) {
     let mut source = MemSource::new(ROW.as_bytes());
     let mut sink = MemSink::new(alloc);
     let mut err = PipeSink::new(alloc, 1, &[2]);
-    let status = run(alloc, &words, &mut source, &mut sink, &mut err);
+    let status = run(&rt, alloc, &words, &mut source, &mut sink, &mut err);
     assert!(rt; status == 2 && err.received() == b"wo".as_slice());
     assert!(rt; sink.received().is_empty());
 }

@@ -13,6 +13,8 @@ use pl_infer::read_options::CsvReadOptions;
 use pl_write::options::CsvWriterOptions;
 use std::alloc::Global;
 use std::process::Abort;
+use std::sync::Wait;
+use std::thread::Threads;
 
 // Options for an input of one column `c` without a header, of which these places are read.
 fn one_column(rt: &impl Abort, alloc: Global, dtype: DataType, places: &[usize]) -> CsvReadOptions {
@@ -27,15 +29,15 @@ fn one_column(rt: &impl Abort, alloc: Global, dtype: DataType, places: &[usize])
 }
 
 // The frame of a text under options, whose text the sink receives.
-fn convert(
-    rt: &impl Abort,
+fn convert<W: Abort + Threads + Wait + Sync>(
+    rt: &W,
     alloc: Global,
     text: &[u8],
     read: &CsvReadOptions,
     sink: &mut MemSink,
 ) -> PolarsResult<DataFrame> {
     let write = CsvWriterOptions::new(alloc).expect(rt, "options");
-    transcode(alloc, text, read, &write, sink)
+    transcode(rt, alloc, text, read, &write, sink)
 }
 
 // The code of a row's category, where it has one.

@@ -48,7 +48,7 @@ no-place text d none = by (position (bytes_eq text) d) refl
     by (Some k) e = let there = known d text k e in absurd (cc)
 
 -- a text keeps its place, whatever comes
-place-stays : (text : List ℕ) (k : ℕ) (d : List (List ℕ)) (others : List (Option (List ℕ))) → position (bytes_eq text) d ≡ Some k → position (bytes_eq text) (fold with_text d others) ≡ Some k
+pub place-stays : (text : List ℕ) (k : ℕ) (d : List (List ℕ)) (others : List (Option (List ℕ))) → position (bytes_eq text) d ≡ Some k → position (bytes_eq text) (fold with_text d others) ≡ Some k
 place-stays text k d [] there = there
 place-stays text k d (None ∷ others) there = place-stays text k d others there
 place-stays text k d (Some other ∷ others) there = place-stays text k (with_text d (Some other)) others (by (list_any (bytes_eq other) d))

@@ -1,3 +1,4 @@
+pub mod ByteCount
 pub mod Came
 pub mod Casts
 pub mod Categories
@@ -20,4 +21,5 @@ pub mod Printed
 pub mod RowIndex
 pub mod Schema
 pub mod Text
+pub mod Translated
 pub mod Types

@@ -3,6 +3,7 @@ ghost use Rattle.std.specs.Prelude.{◌≡◌, ◌+◌, ◌<◌, [], ◌∷◌, 
 ghost use Rattle.std.specs.Str.{bytes_eq};
 ghost use Rattle.pl_frame.specs.Categories.{code_of, dictionary_of};
 ghost use Rattle.pl_frame.specs.Optional.{AreAllUtf8};
+ghost use Rattle.pl_frame.specs.Translated.{AreTranslated};
 
 use crate::data_type::copy_texts;
 use crate::name::PlSmallStr;
@@ -98,6 +99,13 @@ impl Codes {
         ensures { result ≡ count_by is_none self.now }
     {
         self.codes.null_count()
+    }
+
+    // Makes room for so many more. Refuses only want of memory; the texts stay as they are.
+    fn reserve(&mut self, additional: usize) -> Result<(), AllocError>
+        ensures { self.new ≡ self.old }
+    {
+        self.codes.reserve(additional)
     }
 
     /// Keeps so many texts, or all if there are fewer, without taking memory. The dictionary loses the texts that only the
@@ -256,6 +264,99 @@ impl CodesBuilder {
         ensures err { OnErr result (self.new ≡ self.old) }
     {
         self.kept.push_null()
+    }
+
+    /// Makes room for so many more. Refuses only want of memory; the texts stay as they are.
+    pub fn reserve(&mut self, additional: usize) -> Result<(), AllocError>
+        ensures { self.new ≡ self.old }
+    {
+        self.kept.reserve(additional)
+    }
+
+    /// Puts other texts behind these. Each text of their dictionary is looked up once, by its hash. Refuses only want of
+    /// memory, and is then as it was.
+    pub fn append(&mut self, other: &CodesBuilder) -> Result<(), AllocError>
+        ensures ok { OnOk result (self.new ≡ self.old ++ other.now) }
+        ensures err { OnErr result (self.new ≡ self.old) }
+    {
+        let len = self.kept.len();
+        let appended = self.append_codes(&other.kept);
+        if appended.is_err() {
+            self.truncate(len);
+        }
+        appended
+    }
+
+    // Puts other texts behind these. After want of memory the first of them may stand there.
+    fn append_codes(&mut self, other: &Codes) -> Result<(), AllocError>
+        ensures ok { OnOk result (self.new ≡ self.old ++ other.now) }
+        ensures err { OnErr result (take (length self.old) self.new ≡ self.old) }
+    {
+        self.kept.reserve(other.len())?;
+        let mut translated = Vec::new(*self.places.allocator());
+        translated.resize(other.dictionary().len(), None)?;
+        for i in 0..other.len() {
+            self.append_at(other, i, &mut translated)?;
+        }
+        Ok(())
+    }
+
+    // Puts the text of a place of others at the end. For each text of their dictionary that was put there before, the table
+    // has its code here.
+    #[inline]
+    fn append_at(
+        &mut self,
+        other: &Codes,
+        i: usize,
+        translated: &mut [Option<usize>],
+    ) -> Result<(), AllocError>
+        requires place { i < length other.now }
+        requires table { AreTranslated (dictionary_of self.old) (dictionary_of other.now) translated.old }
+        ensures ok { OnOk result (self.new ≡ self.old ++ unwrap_or (slice_get other.now i) None ∷ []) }
+        ensures err { OnErr result (self.new ≡ self.old) }
+        ensures table { AreTranslated (dictionary_of self.new) (dictionary_of other.now) translated.new }
+    {
+        let Some(code) = other.code(i) else {
+            return self.push_null();
+        };
+        let code = code as usize;
+        let text = other.dictionary()[code].as_str();
+        match translated[code] {
+            Some(own) => self.push_known(own, text),
+            None => {
+                translated[code] = Some(self.push_coded(text)?);
+                Ok(())
+            }
+        }
+    }
+
+    // Puts the text of a code at the end.
+    #[inline]
+    fn push_known(&mut self, code: usize, text: &str) -> Result<(), AllocError>
+        requires { position (bytes_eq text.now) (dictionary_of self.old) ≡ Some code }
+        ensures ok { OnOk result (self.new ≡ self.old ++ Some text.now ∷ []) }
+        ensures err { OnErr result (self.new ≡ self.old) }
+    {
+        self.kept.push_code(code, text)
+    }
+
+    // Puts a text at the end, and answers its code.
+    fn push_coded(&mut self, text: &str) -> Result<usize, AllocError>
+        ensures ok { OnOk result (self.new ≡ self.old ++ Some text.now ∷ []) }
+        ensures err { OnErr result (self.new ≡ self.old) }
+        ensures code { IfOk result (λ code. position (bytes_eq text.now) (dictionary_of self.new) ≡ Some code) }
+    {
+        match self.places.get_index_of(text) {
+            Some(code) => {
+                self.push_known(code, text)?;
+                Ok(code)
+            }
+            None => {
+                let code = self.places.len();
+                self.push_new(text)?;
+                Ok(code)
+            }
+        }
     }
 
     /// Keeps so many texts, or all if there are fewer, without taking memory.

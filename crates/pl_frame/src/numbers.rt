@@ -1,5 +1,5 @@
 //! Numbers, some of which are missing.
-ghost use Rattle.std.specs.Prelude.{◌≡◌, ◌<◌, [], ◌∷◌, ◌++◌, take, length, ◌==◌, OnOk, OnErr, IfOk, slice_get, count_by, is_none};
+ghost use Rattle.std.specs.Prelude.{◌≡◌, ◌+◌, ◌<◌, ◌≤◌, [], ◌∷◌, ◌++◌, take, length, ◌==◌, OnOk, OnErr, IfOk, slice_get, count_by, is_none, vec_len, vec_capacity};
 
 use std::alloc::{AllocError, Global};
 use std::marker::Model;
@@ -90,6 +90,20 @@ impl<T: Copy + Default> Numbers<T> {
         Ok(())
     }
 
+    /// Puts other numbers behind these. Refuses only want of memory, and is then as it was.
+    #[tactic(auto, using(crate::proofs::JoinLaws::joined_flags))]
+    pub fn append(&mut self, other: &Numbers<T>) -> Result<(), AllocError>
+        ensures ok { OnOk result (self.new ≡ self.old ++ other.now) }
+        ensures err { OnErr result (self.new ≡ self.old) }
+    {
+        self.values.reserve(other.values.len())?;
+        self.present.reserve(other.present.len())?;
+        extend_reserved(&mut self.values, &other.values);
+        extend_reserved(&mut self.present, &other.present);
+        self.has_null = self.has_null || other.has_null;
+        Ok(())
+    }
+
     /// Keeps so many numbers, or all if there are fewer, without taking memory.
     #[inline]
     pub fn truncate(&mut self, len: usize)
@@ -129,6 +143,18 @@ impl<T: Copy + Default> Numbers<T> {
         ensures { result ≡ count_by is_none self.now }
     {
         self.present.iter().filter(|flag| !**flag).count()
+    }
+}
+
+/// Puts items behind others, for which there is room.
+#[inline]
+pub(crate) fn extend_reserved<T: Copy>(items: &mut Vec<T>, more: &[T])
+    requires { vec_len items.old + length more.now ≤ vec_capacity items.old }
+    ensures { items.new.items ≡ items.old.items ++ more.now }
+{
+    match items.extend_from_slice(more) {
+        Ok(()) => {}
+        Err(_) => unreachable!(),
     }
 }
 

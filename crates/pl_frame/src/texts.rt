@@ -1,8 +1,9 @@
 //! Texts, some of which are missing.
-ghost use Rattle.std.specs.Prelude.{◌≡◌, ◌<◌, [], ◌∷◌, ◌++◌, take, length, ◌==◌, OnOk, OnErr, IfOk, IfSome, IfNone, ◌≤◌, IsUtf8, slice_range, slice_index, slice_get, count_by, is_none};
-ghost use Rattle.pl_frame.specs.Optional.{AreAllUtf8};
+ghost use Rattle.std.specs.Prelude.{◌≡◌, ◌+◌, ◌<◌, [], ◌∷◌, ◌++◌, take, length, map, ◌==◌, OnOk, OnErr, IfOk, IfSome, IfNone, ◌≤◌, IsUtf8, slice_range, slice_index, slice_get, count_by, is_none, vec_len, vec_capacity};
+ghost use Rattle.pl_frame.specs.ByteCount.{byte_count};
+ghost use Rattle.pl_frame.specs.Optional.{AreAllUtf8, RiseTo};
 
-use crate::numbers::copy_of;
+use crate::numbers::{copy_of, extend_reserved};
 use std::alloc::{AllocError, Global};
 use std::marker::Model;
 
@@ -73,6 +74,14 @@ impl Texts {
         self.present.reserve(texts)
     }
 
+    /// At least as many bytes as the texts have, which is room enough for them, without taking memory.
+    #[inline]
+    pub fn byte_len(&self) -> usize
+        ensures { byte_count self.now ≤ result }
+    {
+        self.bytes.len()
+    }
+
     /// Puts a text at the end. Refuses only want of memory, and is then as it was.
     #[inline]
     pub fn push(&mut self, text: &str) -> Result<(), AllocError>
@@ -97,6 +106,22 @@ impl Texts {
         self.present.reserve(1)?;
         self.ends.push_reserved(self.bytes.len());
         self.present.push_reserved(false);
+        Ok(())
+    }
+
+    /// Puts other texts behind these. Refuses only want of memory, and is then as it was.
+    #[tactic(auto, using(crate::proofs::JoinLaws::joined_texts))]
+    pub fn append(&mut self, other: &Texts) -> Result<(), AllocError>
+        ensures ok { OnOk result (self.new ≡ self.old ++ other.now) }
+        ensures err { OnErr result (self.new ≡ self.old) }
+    {
+        self.bytes.reserve(other.bytes.len())?;
+        self.ends.reserve(other.ends.len())?;
+        self.present.reserve(other.present.len())?;
+        let base = self.bytes.len();
+        extend_reserved(&mut self.bytes, &other.bytes);
+        extend_ends(&mut self.ends, &other.ends, base, self.bytes.len());
+        extend_reserved(&mut self.present, &other.present);
         Ok(())
     }
 
@@ -175,6 +200,17 @@ fn begin_of(ends: &[usize], i: usize) -> usize
     ensures { result ≡ slice_index (0 ∷ ends.now) i }
 {
     if i == 0 { 0 } else { ends[i - 1] }
+}
+
+// Puts ends behind others, for which there is room, each so much further on. They rise, and the last of them is so far on.
+fn extend_ends(ends: &mut Vec<usize>, more: &[usize], base: usize, last: usize)
+    requires room { vec_len ends.old + length more.now ≤ vec_capacity ends.old }
+    requires rising { RiseTo base (map (λ end. base + end) more.now) last }
+    ensures { ends.new.items ≡ ends.old.items ++ map (λ end. base + end) more.now }
+{
+    for end in more {
+        ends.push_reserved(base + *end);
+    }
 }
 
 // A part of a buffer that is known to be a text: no test is run.

@@ -28,3 +28,17 @@ fn assert_all(rt: &impl Abort, numbers: &Numbers<i64>) {
 fn keeps_numbers_and_nulls(rt: HostRuntime) {
     assert_all(&rt, &made(&rt, rt.alloc()));
 }
+
+#[test]
+fn appends_numbers_and_nulls(rt: HostRuntime) {
+    let mut numbers = Numbers::<i64>::new(rt.alloc());
+    numbers.push(1).expect(&rt, "a number");
+    let others = made(&rt, rt.alloc());
+    numbers.append(&others).expect(&rt, "room");
+    assert!(rt; numbers.len() == 4);
+    assert!(rt; numbers.get(0) == Some(1));
+    assert!(rt; numbers.get(1) == Some(-7));
+    assert!(rt; numbers.get(2) == None);
+    assert!(rt; numbers.get(3) == Some(i64::MAX));
+    assert_all(&rt, &others);
+}

@@ -40,3 +40,15 @@ fn keeps_texts_and_nulls(rt: HostRuntime) {
     texts.truncate(7);
     assert_first(&rt, &texts);
 }
+
+#[test]
+fn appends_texts_and_nulls(rt: HostRuntime) {
+    let mut texts = made(&rt, rt.alloc());
+    texts.append(&made(&rt, rt.alloc())).expect(&rt, "room");
+    assert!(rt; texts.len() == 8);
+    assert!(rt; texts.byte_len() == 14);
+    assert!(rt; texts.get(3) == Some("last"));
+    assert!(rt; texts.get(4) == Some("é1"));
+    assert!(rt; texts.get(5) == None);
+    assert!(rt; texts.get(7) == Some("last"));
+}

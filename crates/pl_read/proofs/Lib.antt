@@ -11,3 +11,4 @@ pub mod SelectionLaws
 pub mod PrefixLaws
 pub mod EmptyLaws
 pub mod ChunkLaws
+pub mod WorkerLaws

@@ -1,5 +1,6 @@
 //! The reader of frames.
 ghost use Rattle.std.specs.Prelude.{◌≡◌, ◌≤◌, ℕ, List, Result, Some, IsSome, IfOk, IfErr};
+ghost use Rattle.std.specs.Thread.{IsSync};
 ghost use Rattle.pl_frame.specs.Frame.{ColumnValue};
 ghost use Rattle.pl_frame.specs.declared.error.PolarsError.{PolarsError};
 ghost use Rattle.pl_infer.specs.Options.{default_read_options};
@@ -10,11 +11,14 @@ ghost use Rattle.pl_read.specs.Reading.{IsRead};
 
 use crate::bytes_reader::{MmapBytesReader, lent_or_read, read_unlent};
 use crate::reading::read_frame;
+pub use pl_board::gate::{Gate, OpenGate};
 use pl_frame::error::PolarsResult;
 use pl_frame::frame::DataFrame;
 use pl_infer::read_options::CsvReadOptions;
 use std::alloc::Global;
 use std::marker::Model;
+use std::sync::Wait;
+use std::thread::Threads;
 
 /// What reads the input of a source into a frame.
 pub trait SerReader<R: MmapBytesReader> {
@@ -34,7 +38,9 @@ pub trait SerReader<R: MmapBytesReader> {
     ///
     /// Refuses `IO` only where the source lends nothing and its count of faults rose, then the first cause against the input,
     /// and want of memory, in which a source without end ends.
-    fn finish(&mut self) -> PolarsResult<DataFrame>
+    fn finish<W: Threads + Wait + Sync>(&mut self, rt: &W) -> PolarsResult<DataFrame>
+        requires { IsSync W.row }
+
         // Each answer comes only by its cause.
         ensures frame { IfOk result (λ frame. OfInput R.lent R.left (state self.old).source (state self.new).source (λ input.
             IsRead (state self.old).options (settled_schema (state self.old).options input) input frame)) }
@@ -88,6 +94,27 @@ impl<R: MmapBytesReader> CsvReader<R> {
         &self.options
     }
 
+    /// The frame that the input means, as `finish` gives it, with a gate round each piece that is read: `before` is called
+    /// with its number before it is read, and `after` once it was posted, by the worker that reads it. Refuses what
+    /// `finish` refuses.
+    pub fn finish_gated<W: Threads + Wait + Sync, G: Gate + Sync>(
+        &mut self,
+        rt: &W,
+        gate: &G,
+    ) -> PolarsResult<DataFrame>
+        ensures frame { IfOk result (λ frame. OfInput R.lent R.left self.old.source self.new.source (λ input. IsRead self.old.options (settled_schema self.old.options input) input frame)) }
+        ensures refused { IfErr result (IsFinishFault R.lent R.left R.faults self.old.source self.new.source self.old.options) }
+        ensures complete { (input : List ℕ) (meaning : Result (List ColumnValue) PolarsError)
+            → input_of (R.lent self.old.source) (R.left self.old.source) ≡ Some input
+            → IsMeaning self.old.options input meaning
+            → AnswersUnlessFailed result meaning (R.faults self.old.source) (R.faults self.new.source) }
+        ensures lent { IsSome (R.lent self.old.source) → self.new.source ≡ self.old.source }
+        ensures later { R.faults self.old.source ≤ R.faults self.new.source }
+        ensures options { self.new.options ≡ self.old.options }
+    {
+        read_source(rt, self.alloc, gate, &mut self.reader, &self.options)
+    }
+
     /// The source again, where the reads left it, without taking memory.
     pub fn into_inner(self) -> R
         ensures { result ≡ self.source }
@@ -97,8 +124,10 @@ impl<R: MmapBytesReader> CsvReader<R> {
 }
 
 // The frame that the input of a source means under options and its settled schema.
-fn read_source<R: MmapBytesReader>(
+fn read_source<R: MmapBytesReader, W: Threads + Wait + Sync, G: Gate + Sync>(
+    rt: &W,
     alloc: Global,
+    gate: &G,
     reader: &mut R,
     options: &CsvReadOptions,
 ) -> PolarsResult<DataFrame>
@@ -116,7 +145,7 @@ fn read_source<R: MmapBytesReader>(
         Err(fault) => return Err(fault),
     };
     let input = lent_or_read(reader, read);
-    read_frame(alloc, input.bytes(), options)
+    read_frame(rt, alloc, gate, input.bytes(), options)
 }
 
 impl<R: MmapBytesReader> SerReader<R> for CsvReader<R> {
@@ -130,7 +159,7 @@ impl<R: MmapBytesReader> SerReader<R> for CsvReader<R> {
         self
     }
 
-    fn finish(&mut self) -> PolarsResult<DataFrame> {
-        read_source(self.alloc, &mut self.reader, &self.options)
+    fn finish<W: Threads + Wait + Sync>(&mut self, rt: &W) -> PolarsResult<DataFrame> {
+        self.finish_gated(rt, &OpenGate)
     }
 }

@@ -16,33 +16,44 @@ use crate::indexing::with_index;
 use crate::nulls::null_values_of;
 use crate::projecting::{asked_places, projected_places};
 use crate::settling::settled_schema;
+use crate::workers::{read_by_workers, worker_count};
+use pl_board::gate::Gate;
 use pl_cells::null_values::NullValuesCompiled;
 use pl_frame::compression::is_compressed;
 use pl_frame::error::{ComputeFault, NoDataFault, PolarsError, PolarsResult};
 use pl_frame::frame::DataFrame;
 use pl_frame::schema::Schema;
 use pl_infer::read_options::CsvReadOptions;
-use pl_rows::columns::read_columns_in_pieces;
 use pl_rows::plan::{Projection, RangePlan, RowOptions};
 use pl_rows::range::RangeEnd;
 use pl_scan::start::data_of;
 use std::alloc::Global;
+use std::sync::Wait;
+use std::thread::Threads;
 
 /// The frame that an input means under its settled schema. Refuses the first cause against it (docs/refusals.md), and want of
 /// memory.
-pub fn read_frame(alloc: Global, input: &[u8], options: &CsvReadOptions) -> PolarsResult<DataFrame>
+pub fn read_frame<W: Threads + Wait + Sync, G: Gate + Sync>(
+    rt: &W,
+    alloc: Global,
+    gate: &G,
+    input: &[u8],
+    options: &CsvReadOptions,
+) -> PolarsResult<DataFrame>
     ensures { MatchResult result (IsRead options.now (settled_schema options.now input.now) input.now) (IsReadFault options.now (settled_schema options.now input.now) input.now) }
 {
     match check_options(options) {
-        Ok(()) => read_checked(alloc, input, options),
+        Ok(()) => read_checked(rt, alloc, gate, input, options),
         Err(fault) => Err(fault),
     }
 }
 
 /// The frame that an input means under its settled schema, where the options may stand: `check_options` tells. Refuses the
 /// first cause against it, and want of memory.
-pub fn read_checked(
+pub fn read_checked<W: Threads + Wait + Sync, G: Gate + Sync>(
+    rt: &W,
     alloc: Global,
+    gate: &G,
     input: &[u8],
     options: &CsvReadOptions,
 ) -> PolarsResult<DataFrame>
@@ -54,8 +65,9 @@ pub fn read_checked(
     if is_compressed(input) {
         return Err(PolarsError::ComputeError(ComputeFault::Compressed));
     }
-    match settled_schema(alloc, input, options) {
-        Ok(schema) => read_settled(alloc, input, options, &schema),
+    let mut n_threads = options.n_threads;
+    match settled_schema(alloc, input, options, &mut n_threads) {
+        Ok(schema) => { read_settled(rt, alloc, gate, n_threads, input, options, &schema) }
         Err(fault) => Err(fault),
     }
 }
@@ -90,8 +102,11 @@ fn keeps_ends(options: &CsvReadOptions) -> bool
 }
 
 // The frame of an input under its settled schema.
-fn read_settled(
+fn read_settled<W: Threads + Wait + Sync, G: Gate + Sync>(
+    rt: &W,
     alloc: Global,
+    gate: &G,
+    n_threads: Option<usize>,
     input: &[u8],
     options: &CsvReadOptions,
     schema: &Schema,
@@ -108,7 +123,10 @@ fn read_settled(
         return Err(PolarsError::NoData(NoDataFault::Skip));
     };
     read_asked(
+        rt,
         alloc,
+        gate,
+        n_threads,
         records,
         options,
         schema,
@@ -118,8 +136,11 @@ fn read_settled(
 }
 
 // The frame of the data, of which these columns are asked.
-fn read_asked(
+fn read_asked<W: Threads + Wait + Sync, G: Gate + Sync>(
+    rt: &W,
     alloc: Global,
+    gate: &G,
+    n_threads: Option<usize>,
     records: &[u8],
     options: &CsvReadOptions,
     schema: &Schema,
@@ -135,14 +156,27 @@ fn read_asked(
     ensures refused { IfErr result (IsFault (asked_cause options.now schema.now records.now)) }
 {
     match projected_places(alloc, options, schema, places) {
-        Ok(places) => read_projected(alloc, records, options, schema, null_values, &places),
+        Ok(places) => read_projected(
+            rt,
+            alloc,
+            gate,
+            n_threads,
+            records,
+            options,
+            schema,
+            null_values,
+            &places,
+        ),
         Err(fault) => Err(fault),
     }
 }
 
 // The frame of the data, of which these columns are read.
-fn read_projected(
+fn read_projected<W: Threads + Wait + Sync, G: Gate + Sync>(
+    rt: &W,
     alloc: Global,
+    gate: &G,
+    n_threads: Option<usize>,
     records: &[u8],
     options: &CsvReadOptions,
     schema: &Schema,
@@ -162,7 +196,7 @@ fn read_projected(
         return Err(PolarsError::EmptyProjection);
     }
     let plan = plan_of(options, schema, places, null_values);
-    read_data(alloc, records, options, schema, &plan)
+    read_data(rt, alloc, gate, n_threads, records, options, schema, &plan)
 }
 
 // Whether no column is read, and there is data.
@@ -205,8 +239,11 @@ fn plan_of<'a>(
 }
 
 // The frame of the data.
-fn read_data(
+fn read_data<W: Threads + Wait + Sync, G: Gate + Sync>(
+    rt: &W,
     alloc: Global,
+    gate: &G,
+    n_threads: Option<usize>,
     records: &[u8],
     options: &CsvReadOptions,
     schema: &Schema,
@@ -217,8 +254,9 @@ fn read_data(
     ensures sound { OnOk result (data_cause options.now schema.now records.now ≡ None) }
     ensures refused { IfErr result (IsFault (data_cause options.now schema.now records.now)) }
 {
-    let piece_size = options.chunk_size;
-    let Ok(read) = read_columns_in_pieces(alloc, schema, records, plan, piece_size) else {
+    let workers = worker_count(n_threads);
+    let size = options.chunk_size;
+    let Ok(read) = read_by_workers(rt, alloc, gate, workers, schema, records, plan, size) else {
         return Err(PolarsError::OutOfMemory);
     };
     match read.end {

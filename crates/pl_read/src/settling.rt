@@ -20,23 +20,37 @@ use pl_schema::schemas::find_unreadable;
 use std::alloc::Global;
 
 // The schema of an input for which none is given. Refuses an input without a record, where that is asked (`Empty`), then the
-// first name that an earlier column has (`Duplicate`), and want of memory.
-fn inferred_schema(alloc: Global, input: &[u8], options: &CsvReadOptions) -> PolarsResult<Schema>
+// first name that an earlier column has (`Duplicate`), and want of memory. How many workers read becomes one where the sample
+// has a long text (docs/types.md, "Inference").
+fn inferred_schema(
+    alloc: Global,
+    input: &[u8],
+    options: &CsvReadOptions,
+    n_threads: &mut Option<usize>,
+) -> PolarsResult<Schema>
     requires { AreDistinct (marks_of options.now.parse_options) }
     ensures inferred { IfOk result (λ schema. schema ≡ inferred (inference_of options.now) input.now) }
     ensures sound { OnOk result (first_some (inference_causes (inference_of options.now) input.now) ≡ None) }
     ensures refused { IfErr result (IsFault (first_some (inference_causes (inference_of options.now) input.now))) }
 {
     let inference = InferenceOptions::of(options);
-    match infer_schema(alloc, input, &inference, options.n_threads) {
-        Ok(found) => Ok(found.inferred_schema),
+    match infer_schema(alloc, input, &inference, *n_threads) {
+        Ok(found) => {
+            *n_threads = found.n_threads;
+            Ok(found.inferred_schema)
+        }
         Err(fault) => Err(fault),
     }
 }
 
 // The schema that is given, or else that of the input. Refuses the first cause against it where it is not given, and want of
 // memory.
-fn schema_of(alloc: Global, input: &[u8], options: &CsvReadOptions) -> PolarsResult<Schema>
+fn schema_of(
+    alloc: Global,
+    input: &[u8],
+    options: &CsvReadOptions,
+    n_threads: &mut Option<usize>,
+) -> PolarsResult<Schema>
     requires { MayRead options.now }
     ensures schema { IfOk result (λ schema. schema ≡ schema_of options.now input.now) }
     ensures sound { OnOk result (schema_cause options.now input.now ≡ None) }
@@ -44,7 +58,7 @@ fn schema_of(alloc: Global, input: &[u8], options: &CsvReadOptions) -> PolarsRes
 {
     match &options.schema {
         Some(schema) => schema.try_clone(),
-        None => inferred_schema(alloc, input, options),
+        None => inferred_schema(alloc, input, options, n_threads),
     }
 }
 
@@ -94,14 +108,20 @@ fn with_given_types(options: &CsvReadOptions, given: Schema) -> PolarsResult<Sch
 
 /// The settled schema of an input, where the options may stand. Refuses the first cause against it, in this order: where no
 /// schema is given, an input without a record (`Empty`) and a name that an earlier column has (`Duplicate`); more types than
-/// there are columns (`Overrides`), the least column whose type can't be read (`Dtype`); and want of memory.
-pub fn settled_schema(alloc: Global, input: &[u8], options: &CsvReadOptions) -> PolarsResult<Schema>
+/// there are columns (`Overrides`), the least column whose type can't be read (`Dtype`); and want of memory. How many workers
+/// read becomes what the inference leaves of it.
+pub fn settled_schema(
+    alloc: Global,
+    input: &[u8],
+    options: &CsvReadOptions,
+    n_threads: &mut Option<usize>,
+) -> PolarsResult<Schema>
     requires { MayRead options.now }
     ensures settled { IfOk result (λ schema. schema ≡ settled_schema options.now input.now) }
     ensures sound { OnOk result (settling_cause options.now input.now ≡ None) }
     ensures refused { IfErr result (IsFault (settling_cause options.now input.now)) }
 {
-    match schema_of(alloc, input, options) {
+    match schema_of(alloc, input, options, n_threads) {
         Ok(schema) => with_given_types(options, schema),
         Err(fault) => Err(fault),
     }

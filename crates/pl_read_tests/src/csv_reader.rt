@@ -12,6 +12,8 @@ use pl_read::bytes_reader::MmapBytesReader;
 use pl_read::csv_reader::{CsvReader, SerReader};
 use std::alloc::Global;
 use std::process::Abort;
+use std::sync::Wait;
+use std::thread::Threads;
 
 // Through the bound: a reader with default options.
 fn fresh<R: MmapBytesReader, T: SerReader<R>>(alloc: Global, reader: R) -> T {
@@ -19,10 +21,13 @@ fn fresh<R: MmapBytesReader, T: SerReader<R>>(alloc: Global, reader: R) -> T {
 }
 
 // Through the bound: what a reader reads.
-fn finish<R: MmapBytesReader, T: SerReader<R>>(reader: &mut T) -> PolarsResult<DataFrame>
+fn finish<W: Threads + Wait + Sync, R: MmapBytesReader, T: SerReader<R>>(
+    rt: &W,
+    reader: &mut T,
+) -> PolarsResult<DataFrame>
     ensures { (T.state reader.new).options ≡ (T.state reader.old).options }
 {
-    reader.finish()
+    reader.finish(rt)
 }
 
 // Whether options are those of a new value.
@@ -54,9 +59,13 @@ fn is_one(rt: &impl Abort, alloc: Global, read: &PolarsResult<DataFrame>) -> boo
 }
 
 // What is read of a pipe that fails at these calls.
-fn read_pipe(rt: &impl Abort, alloc: Global, fails: &[usize]) -> PolarsResult<DataFrame> {
+fn read_pipe<W: Abort + Threads + Wait + Sync>(
+    rt: &W,
+    alloc: Global,
+    fails: &[usize],
+) -> PolarsResult<DataFrame> {
     let mut reader = CsvReader::with_options(alloc, pipe(fails), one_column(rt, alloc));
-    finish(&mut reader)
+    finish(rt, &mut reader)
 }
 
 #[test]
@@ -72,10 +81,15 @@ fn a_pipe_that_fails_is_a_fault(rt: HostRuntime) {
 }
 
 // What a text means where no schema is given.
-fn read(alloc: Global, text: &[u8], raise_if_empty: bool) -> PolarsResult<DataFrame> {
+fn read<W: Threads + Wait + Sync>(
+    rt: &W,
+    alloc: Global,
+    text: &[u8],
+    raise_if_empty: bool,
+) -> PolarsResult<DataFrame> {
     let options = CsvReadOptions::new(alloc).with_raise_if_empty(raise_if_empty);
     let mut reader = CsvReader::with_options(alloc, MemSource::new(text), options);
-    reader.finish()
+    reader.finish(rt)
 }
 
 // Whether these are a column `a` of whole numbers, in which 1 is first, and a column `b` of strings, in which x is.
@@ -93,19 +107,19 @@ fn are_one_and_x(columns: &[Column]) -> bool {
 
 #[test]
 fn names_and_types_come_of_the_text(rt: HostRuntime) {
-    let frame = read(rt.alloc(), b"a,b\n1,x\n", true).expect(&rt, "a frame");
+    let frame = read(&rt, rt.alloc(), b"a,b\n1,x\n", true).expect(&rt, "a frame");
     assert!(rt; are_one_and_x(frame.columns()));
 }
 
 #[test]
 fn no_record_is_refused(rt: HostRuntime) {
-    let refused = read(rt.alloc(), b"", true);
+    let refused = read(&rt, rt.alloc(), b"", true);
     assert!(rt; matches!(refused, Err(PolarsError::NoData(NoDataFault::Empty))));
 }
 
 #[test]
 fn no_record_is_no_column(rt: HostRuntime) {
-    let frame = read(rt.alloc(), b"", false).expect(&rt, "a frame");
+    let frame = read(&rt, rt.alloc(), b"", false).expect(&rt, "a frame");
     assert!(rt; frame.width() == 0);
 }
 
@@ -114,6 +128,6 @@ fn memory_is_read_again(rt: HostRuntime) {
     let alloc = rt.alloc();
     let source = MemSource::new(b"a\n1\n");
     let mut reader = CsvReader::with_options(alloc, source, one_column(&rt, alloc));
-    assert!(rt; is_one(&rt, alloc, &finish(&mut reader)));
-    assert!(rt; is_one(&rt, alloc, &finish(&mut reader)));
+    assert!(rt; is_one(&rt, alloc, &finish(&rt, &mut reader)));
+    assert!(rt; is_one(&rt, alloc, &finish(&rt, &mut reader)));
 }

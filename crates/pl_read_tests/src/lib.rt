@@ -17,3 +17,5 @@ mod reader_makers;
 mod reading;
 #[cfg(test)]
 mod slices;
+#[cfg(test)]
+mod workers;

@@ -11,14 +11,16 @@ use pl_read::csv_reader::{CsvReader, SerReader};
 use pl_read::reader_makers::ReaderMakers;
 use std::alloc::Global;
 use std::process::Abort;
+use std::sync::Wait;
+use std::thread::Threads;
 
 // Whether a reader reads the column `a` of 1.
-fn reads_one<R: MmapBytesReader>(
-    rt: &impl Abort,
+fn reads_one<W: Abort + Threads + Wait + Sync, R: MmapBytesReader>(
+    rt: &W,
     alloc: Global,
     reader: &mut CsvReader<R>,
 ) -> bool {
-    let frame = reader.finish().expect(rt, "a frame");
+    let frame = reader.finish(rt).expect(rt, "a frame");
     frame.height() == 1 && frame == one(rt, alloc)
 }
 
@@ -61,7 +63,11 @@ fn a_path_that_is_missing_is_a_fault(rt: HostRuntime) {
 }
 
 // Through the bound: whether the column `a` of 1 is read of a handle.
-fn has_one<R: MmapBytesReader + Drop>(rt: &impl Abort, alloc: Global, handle: R) -> bool {
+fn has_one<W: Abort + Threads + Wait + Sync, R: MmapBytesReader + Drop>(
+    rt: &W,
+    alloc: Global,
+    handle: R,
+) -> bool {
     let mut reader = one_column(rt, alloc).into_reader_with_file_handle(alloc, handle);
     reads_one(rt, alloc, &mut reader)
 }

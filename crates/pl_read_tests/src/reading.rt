@@ -7,6 +7,7 @@ use pl_frame::schema::Schema;
 use pl_infer::column_lists::ColumnPlaces;
 use pl_infer::read_options::CsvReadOptions;
 use pl_infer::row_index::RowIndex;
+use pl_read::csv_reader::OpenGate;
 use pl_read::reading::read_frame;
 use std::alloc::Global;
 use std::process::Abort;
@@ -47,7 +48,7 @@ fn two_columns_of_two_rows_behind_their_numbers(rt: HostRuntime) {
     let mut options = CsvReadOptions::new(alloc);
     ask(&rt, alloc, &mut options, [2, 0]);
     let options = options.with_schema(Some(three_columns(&rt, alloc)));
-    let frame = read_frame(alloc, b"1,x\"y,2\n3,z,4\nx,,\n", &options);
+    let frame = read_frame(&rt, alloc, &OpenGate, b"1,x\"y,2\n3,z,4\nx,,\n", &options);
     let frame = frame.expect(&rt, "a frame");
     assert!(rt; last_row(frame.columns()) == Some((Value::Whole(8), Value::Whole(3))));
 }
@@ -74,7 +75,7 @@ fn codes_follow_first_appearance_over_all_pieces(rt: HostRuntime) {
     options.has_header = false;
     options.chunk_size = 1;
     let options = options.with_schema(Some(schema));
-    let frame = read_frame(alloc, b"q\np\nq\nr\n", &options);
+    let frame = read_frame(&rt, alloc, &OpenGate, b"q\np\nq\nr\n", &options);
     let frame = frame.expect(&rt, "a frame");
     assert!(rt;
         frame

@@ -10,3 +10,4 @@ pub mod PlanLaws
 pub mod WholeLaws
 pub mod BlockLaws
 pub mod PieceLaws
+pub mod JoinLaws

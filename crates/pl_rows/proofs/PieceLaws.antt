@@ -1,7 +1,8 @@
 -- A range read piece by piece.
-use Rattle.std.proofs.Common.{◌≡◌, ℕ, ◌+◌, ◌-◌, ◌<◌, ◌≤◌, ◌^◌, Bool, true, false, cond, not, ◌||◌, ltb, List, [], ◌∷◌, ◌++◌, length, take, drop, refl, sym, ◌∙◌, ap, subst, inl, inr, arith}
+use Rattle.std.proofs.Common.{◌≡◌, ℕ, ◌+◌, ◌-◌, ◌<◌, ◌≤◌, ◌^◌, Bool, true, false, cond, not, ◌||◌, ◌&&◌, ◌==◌, ltb, List, [], ◌∷◌, ◌++◌, length, take, drop, refl, sym, ◌∙◌, ap, subst, inl, inr, eqb-true, arith}
 use Rattle.std.specs.Prelude.{Option, None, Some, filter, MatchBool, slice_range}
-use Rattle.std.specs.List.{list_any, AllByRecursion}
+use Rattle.std.specs.List.{list_any, last_or, AllByRecursion}
+use Rattle.std.specs.Option.{option_map_or}
 use Rattle.std.proofs.lemmas.Bool.{cases_lt}
 use Rattle.std.proofs.lemmas.Bool.Decides.{nat_tests}
 use Rattle.std.proofs.lemmas.List.{length-take-le, take_all, drop-drop, take-append-drop}
@@ -9,6 +10,8 @@ use Rattle.pl_frame.specs.declared.error.FaultKind.{FaultKind}
 use Rattle.pl_frame.specs.Dialect.{IsDialect, AreDistinct}
 use Rattle.pl_scan.specs.Closing.{have_open_end, ends_open}
 use Rattle.pl_scan.specs.Dialect.{marks_of, comment_of}
+use Rattle.pl_scan.specs.declared.dialect.Dialect.{Dialect}
+use Rattle.pl_scan.specs.Laws.{IsEnded}
 use Rattle.pl_board.specs.declared.event.Event.{Event}
 use Rattle.pl_board.specs.declared.event.Mark.{Mark}
 use Rattle.pl_board.specs.Log.{Setup, hand_outs, reached}
@@ -22,7 +25,7 @@ use Rattle.pl_rows.specs.declared.range.RangeEnd.TheVariants as end
 use Rattle.pl_rows.specs.Blocks.{left_below, within_limit, rows_left, HasReadRows, HasReadRange, HaveAllRows}
 use Rattle.pl_rows.specs.Cells.{RowRules}
 use Rattle.pl_rows.specs.Columns.{with_columns}
-use Rattle.pl_rows.specs.Pieces.{left_limit, plan_behind, end_behind, IsRowFit, IsWhole, HasReadPiece}
+use Rattle.pl_rows.specs.Pieces.{EndsItem, is_ended, ends_item, is_closed, left_limit, plan_behind, end_behind, IsRowFit, IsWhole, HasReadPiece}
 use Rattle.pl_rows.specs.Plan.{Columns, CanRead, rules_of, plan_columns}
 use Rattle.pl_rows.specs.Ranges.{limited, rows_of, is_judged, judged_rows, has_unjudged, end_of, range_end, sound_rows, rows_read, with_range}
 use Rattle.pl_rows.specs.Rows.{first_fault, first_faulty}
@@ -132,6 +135,46 @@ pub HasReadRange-back : (plan : RangePlan) (range : List ℕ) (before now : List
 HasReadRange-back plan range before now given n k can read all =
     rows-back plan (rows_read plan (plan_columns plan before) range) k n before now (sym read.count) all can.count read.added
 
+-- ---- what the test of a piece's end says
+
+pub all-three : (a b c : Bool) → a ≡ true → b ≡ true → c ≡ false → (a && (b && not c)) ≡ true
+all-three true true false x y z = refl
+all-three true true true x y z = absurd (cc)
+all-three true false c x y z = absurd (cc)
+all-three false b c x y z = absurd (cc)
+
+both-true : (a b : Bool) → (a && b) ≡ true → (a ≡ true) × (b ≡ true)
+both-true true true e = (refl, refl)
+both-true true false e = absurd (cc)
+both-true false b e = absurd (cc)
+
+not-true : (a : Bool) → not a ≡ true → a ≡ false
+not-true true e = absurd (cc)
+not-true false e = refl
+
+some-last : (xs : List ℕ) (x : ℕ) → (k : ℕ) × (last_or (Some x) xs ≡ Some k)
+some-last [] x = (x, refl)
+some-last (y ∷ ys) x = some-last ys y
+
+IsEnded-told : (e : ℕ) (text : List ℕ) → is_ended e text ≡ true → IsEnded e text
+IsEnded-told e [] told = refl
+IsEnded-told e (x ∷ xs) told =
+    let last = some-last xs x in
+    let same : (last.0 == e) ≡ true = sym (ap (λ o. option_map_or (λ (k : ℕ). k == e) o true) last.1) ∙ told in
+    last.1 ∙ ap (λ k. Some k) (eqb-true _ _ same)
+
+-- a piece that passes it was read to its end, and ends where an item does
+pub ends-told : (e : RangeEnd) (dialect : Dialect) (text : List ℕ) → (is_closed e && ends_item dialect text) ≡ true → (e ≡ end.Closed) × EndsItem dialect text
+ends-told e dialect text told =
+    let parts = both-true (is_closed e) (ends_item dialect text) told in
+    let inner = both-true (is_ended dialect.eol_char text) (not (ends_open (marks_of dialect) (comment_of dialect) text)) parts.1 in
+    (closed e parts.0, record { ended = IsEnded-told dialect.eol_char text inner.0; closed = not-true (ends_open (marks_of dialect) (comment_of dialect) text) inner.1 })
+  where
+    closed : (r : RangeEnd) → is_closed r ≡ true → r ≡ end.Closed
+    closed end.Closed h = refl
+    closed end.Open h = absurd (cc)
+    closed (end.Fault row column kind) h = absurd (cc)
+
 -- ---- a piece that ends where an item does
 
 -- a range whose rows are below the limit and all judged does not end within a quoted field
@@ -171,7 +214,7 @@ CanRead-behind plan n last buffers can = record { apart = can.apart; rising = ca
 -- how far a range was read, where a board handed out all pieces up to there
 pub record IsFrontRead (plan : RangePlan) (range : List ℕ) (before now : List BufferValue) (setup : Setup) (log : List Event) (rows end bytes : ℕ) : Type 0 where
   pub read : HasReadRows plan range before now (drop end range) rows
-  pub end_within : end ≤ length range
+  pub end_within : end ≤ bytes
   pub bytes_within : bytes ≤ length range
   pub bytes_are : setup.bytes ≡ range
   pub reached_is : reached log ≡ end

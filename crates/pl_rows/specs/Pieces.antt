@@ -1,5 +1,7 @@
 -- A range read piece by piece (docs/pieces.md, "How a read uses pieces").
-use Rattle.std.specs.Prelude.{◌≡◌, ℕ, ◌+◌, ◌-◌, ◌<◌, ◌^◌, Bool, true, false, List, length, Option, None, Some}
+use Rattle.std.specs.Prelude.{◌≡◌, ℕ, ◌+◌, ◌-◌, ◌<◌, ◌^◌, Bool, true, false, not, ◌&&◌, ◌==◌, List, length, Option, None, Some}
+use Rattle.std.specs.List.{last_or}
+use Rattle.std.specs.Option.{option_map_or}
 use Rattle.pl_scan.specs.Closing.{ends_open}
 use Rattle.pl_scan.specs.Dialect.{marks_of, comment_of}
 use Rattle.pl_scan.specs.declared.dialect.Dialect.{Dialect}
@@ -12,10 +14,23 @@ use Rattle.pl_rows.specs.declared.range.RangeEnd.TheVariants as end
 use Rattle.pl_rows.specs.Blocks.{HaveAllRows}
 use Rattle.pl_rows.specs.Ranges.{rows_of, has_unjudged}
 
--- a text that ends where an item does: its last byte, if it has one, is a line end, and it does not end within a quoted field
+-- the text is empty, or this is its last byte
+abbrev pub is_ended : ℕ → List ℕ → Bool
+is_ended e b = option_map_or (λ (x : ℕ). x == e) (last_or None b) true
+
+-- whether a text ends where an item does: it is empty or its last byte is a line end, and it does not end within a quoted field
+abbrev pub ends_item : Dialect → List ℕ → Bool
+ends_item dialect text = is_ended dialect.eol_char text && not (ends_open (marks_of dialect) (comment_of dialect) text)
+
+-- a text that does
 pub record EndsItem (dialect : Dialect) (text : List ℕ) : Type 0 where
   pub ended : IsEnded dialect.eol_char text
   pub closed : ends_open (marks_of dialect) (comment_of dialect) text ≡ false
+
+abbrev pub is_closed : RangeEnd → Bool
+is_closed end.Closed = true
+is_closed end.Open = false
+is_closed (end.Fault row column kind) = false
 
 -- a limit of rows, less so many
 abbrev pub left_limit : Option ℕ → ℕ → Option ℕ

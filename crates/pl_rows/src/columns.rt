@@ -12,6 +12,7 @@ ghost use Rattle.pl_rows.specs.Ranges.{IsRangeRead};
 use crate::pieces::read_pieces;
 use crate::plan::RangePlan;
 use crate::range::{RangeEnd, read_range};
+use pl_board::gate::Gate;
 use pl_cells::buffer::Buffer;
 use pl_cells::init_buffers::init_buffers;
 use pl_cells::utf8::CsvEncoding;
@@ -105,12 +106,13 @@ pub fn read_columns(
 
 /// Reads the records of a range piece by piece, as `read_pieces` does, into columns of a schema: the same columns and the same
 /// end as `read_columns` gives, whatever the piece size. Refuses only want of memory.
-pub fn read_columns_in_pieces(
+pub fn read_columns_in_pieces<G: Gate>(
     alloc: Global,
     schema: &Schema,
     range: &[u8],
     plan: &RangePlan<'_>,
     piece_size: usize,
+    gate: &G,
 ) -> Result<RangeColumns, AllocError>
     requires dialect { IsDialect (marks_of plan.now.dialect) (comment_of plan.now.dialect) }
     requires width { plan.now.projection.width ≡ length schema.now }
@@ -123,7 +125,7 @@ pub fn read_columns_in_pieces(
     let places = plan.projection.places;
     let quote_char = plan.dialect.quote_char;
     let mut buffers = empty_buffers(alloc, schema, places, quote_char, plan.options.encoding)?;
-    let read = read_pieces(alloc, &mut buffers, range, plan, piece_size)?;
+    let read = read_pieces(alloc, &mut buffers, range, plan, piece_size, gate)?;
     let columns = into_columns(alloc, buffers)?;
     Ok(RangeColumns {
         columns,

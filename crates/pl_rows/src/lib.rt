@@ -1,10 +1,12 @@
 //! A range of records into buffers: rows, their cells and faults, and the columns that they make.
 #![tactic(auto)]
 
+pub mod apart;
 mod blocks;
 pub mod columns;
 mod cut_back;
 mod field;
+pub mod joining;
 pub mod laws;
 pub mod pieces;
 pub mod plan;

@@ -1,17 +1,17 @@
 //! A range read piece by piece: pieces of guessed size, as far as each ends where an item does, and the rest as one range.
-ghost use Rattle.std.specs.Prelude.{◌≡◌, ◌*◌, ◌<◌, ◌≤◌, true, false, Some, None, IfOk, OnOk, OnErr, length, drop};
+ghost use Rattle.std.specs.Prelude.{◌≡◌, ◌*◌, ◌<◌, ◌≤◌, ◌&&◌, true, false, Some, None, IfOk, OnOk, OnErr, length, drop};
 ghost use Rattle.pl_frame.specs.Dialect.{IsDialect, AreDistinct};
 ghost use Rattle.pl_scan.specs.Dialect.{marks_of, comment_of};
-ghost use Rattle.pl_scan.specs.Laws.{IsEnded};
 ghost use Rattle.pl_rows.specs.declared.range.RangeEnd.TheVariants as end;
 ghost use Rattle.pl_rows.specs.Blocks.{HasReadRows};
-ghost use Rattle.pl_rows.specs.Pieces.{EndsItem, IsWhole, IsRowFit, plan_behind, end_behind, IsPieceRead};
+ghost use Rattle.pl_rows.specs.Pieces.{is_ended, ends_item, is_closed, IsWhole, IsRowFit, plan_behind, end_behind, IsPieceRead};
 ghost use Rattle.pl_rows.specs.Plan.{states, plan_columns, CanRead};
 ghost use Rattle.pl_rows.specs.Ranges.{range_end, with_range};
 
 use crate::cut_back::cut_back;
 use crate::plan::RangePlan;
 use crate::range::{RangeEnd, RangeRead, is_below, read_counted, read_range};
+use pl_board::gate::Gate;
 use pl_board::piece::{Done, Posted};
 use pl_board::state::BoardState;
 use pl_cells::buffer::Buffer;
@@ -22,10 +22,10 @@ use std::alloc::{AllocError, Global};
 /// What was read of a piece.
 #[derive(Drop)]
 pub(crate) struct PieceDone<'a> {
-    dialect: Dialect<'a>,
-    rows: usize,
-    closed: bool,
-    stops: bool,
+    pub(crate) dialect: Dialect<'a>,
+    pub(crate) rows: usize,
+    pub(crate) closed: bool,
+    pub(crate) stops: bool,
 }
 
 impl<'a> Done for PieceDone<'a> {
@@ -50,13 +50,13 @@ impl<'a> Done for PieceDone<'a> {
     }
 }
 
-// Whether a text has a last byte, and it is this one.
+// Whether a text is empty, or this is its last byte.
 fn ends_with(bytes: &[u8], byte: u8) -> bool
-    ensures { result ≡ true → IsEnded byte bytes.now }
+    ensures { result ≡ is_ended byte bytes.now }
 {
     match bytes {
         [.., last] => *last == byte,
-        [] => false,
+        [] => true,
     }
 }
 
@@ -66,8 +66,7 @@ fn ends_item(piece: &[u8], read: RangeRead, plan: &RangePlan<'_>) -> bool
     requires apart { AreDistinct (marks_of plan.now.dialect) }
     requires before { plan.now.last ≡ false }
     requires whole { read.end ≡ end.Closed → IsWhole plan.now piece.now read.rows }
-    ensures ends { result ≡ true → EndsItem plan.now.dialect piece.now }
-    ensures closed { result ≡ true → read.end ≡ end.Closed }
+    ensures { result ≡ (is_closed read.end && ends_item plan.now.dialect piece.now) }
 {
     let dialect = plan.dialect;
     match read.end {
@@ -88,7 +87,7 @@ fn ends_item(piece: &[u8], read: RangeRead, plan: &RangePlan<'_>) -> bool
 
 // Reads a piece into the buffers. Where it does not end where an item does, or a row of it has a fault, the buffers are as they
 // were.
-fn read_piece<'a>(
+pub(crate) fn read_piece<'a>(
     alloc: Global,
     buffers: &mut [Buffer],
     piece: &[u8],
@@ -116,7 +115,7 @@ fn read_piece<'a>(
 }
 
 // How what is left is read behind so many rows.
-fn plan_behind<'a>(plan: &RangePlan<'a>, rows: usize, last: bool) -> RangePlan<'a>
+pub(crate) fn plan_behind<'a>(plan: &RangePlan<'a>, rows: usize, last: bool) -> RangePlan<'a>
     ensures { result ≡ plan_behind plan.now rows last }
 {
     let limit = match plan.limit {
@@ -132,7 +131,7 @@ fn plan_behind<'a>(plan: &RangePlan<'a>, rows: usize, last: bool) -> RangePlan<'
     }
 }
 
-// How far a range was read in pieces: so many rows, up to a place, of so many bytes that were handed out.
+// How far a range was read in pieces: so many rows, up to a place; and of how many bytes pieces were read for it.
 #[derive(Clone, Copy)]
 struct Front {
     rows: usize,
@@ -140,20 +139,21 @@ struct Front {
     bytes: usize,
 }
 
-// Reads a range into the buffers in pieces that a board hands out, as long as each ends where an item does, and leaves the last
-// of them. Where memory is wanting, no further piece is read.
-fn read_front(
+// Reads a range into the buffers in pieces that a board hands out, as long as each ends where an item does. A last piece
+// without a line end is left. Where memory is wanting, no further piece is read.
+fn read_front<G: Gate>(
     alloc: Global,
     buffers: &mut [Buffer],
     range: &[u8],
     plan: &RangePlan<'_>,
     piece_size: usize,
+    gate: &G,
 ) -> Front
     requires can { CanRead plan.now (states buffers.old) }
     requires dialect { IsDialect (marks_of plan.now.dialect) (comment_of plan.now.dialect) }
     requires size { 0 < piece_size }
     ensures read { HasReadRows plan.now range.now (states buffers.old) (states buffers.new) (drop result.end range.now) result.rows }
-    ensures end { result.end ≤ length range.now }
+    ensures end { result.end ≤ result.bytes }
     ensures bytes { result.bytes ≤ length range.now }
 {
     let dialect = plan.dialect;
@@ -175,9 +175,11 @@ fn read_front(
             break;
         };
         let end = piece.to();
-        if end == range.len() {
+        if !ends_with(piece.bytes(), dialect.eol_char) {
             break;
         }
+        let number = piece.number();
+        gate.before(number);
         front.bytes = end;
         let plan = plan_behind(plan, front.rows, false);
         let Ok(done) = read_piece(alloc, buffers, piece.bytes(), &plan) else {
@@ -186,6 +188,7 @@ fn read_front(
         let rows = done.rows;
         let closed = done.closed;
         board.post(Posted::new(piece, done));
+        gate.after(number);
         if !closed {
             break;
         }
@@ -203,7 +206,7 @@ pub struct PiecesRead {
 }
 
 // Where a range ended whose rows stand behind so many others.
-fn end_behind(rows: usize, end: RangeEnd) -> RangeEnd
+pub(crate) fn end_behind(rows: usize, end: RangeEnd) -> RangeEnd
     requires { IsRowFit rows end }
     ensures { result ≡ end_behind rows end }
 {
@@ -221,22 +224,24 @@ fn end_behind(rows: usize, end: RangeEnd) -> RangeEnd
 /// Reads the records of a range into the buffers, as `read_range` does, but piece by piece: each piece is of about so many bytes
 /// and ends by a guess, and where a guess was wrong, all from that piece's start on is read as one range. So no byte is read
 /// more than twice, whatever the size (docs/pieces.md). Refuses only want of memory; the buffers are then as they were.
-pub fn read_pieces(
+pub fn read_pieces<G: Gate>(
     alloc: Global,
     buffers: &mut [Buffer],
     range: &[u8],
     plan: &RangePlan<'_>,
     piece_size: usize,
+    gate: &G,
 ) -> Result<PiecesRead, AllocError>
     requires can { CanRead plan.now (states buffers.old) }
     requires dialect { IsDialect (marks_of plan.now.dialect) (comment_of plan.now.dialect) }
     requires size { 0 < piece_size }
     ensures end { IfOk result (λ read. read.end ≡ range_end plan.now (plan_columns plan.now (states buffers.old)) range.now) }
     ensures added { OnOk result (states buffers.new ≡ with_range plan.now range.now (states buffers.old)) }
+    ensures once { IfOk result (λ read. length range.now ≤ read.bytes) }
     ensures twice { IfOk result (λ read. read.bytes ≤ 2 * length range.now) }
     ensures kept { OnErr result (states buffers.new ≡ states buffers.old) }
 {
-    let front = read_front(alloc, buffers, range, plan, piece_size);
+    let front = read_front(alloc, buffers, range, plan, piece_size, gate);
     let rest = &range[front.end..];
     let last = plan_behind(plan, front.rows, plan.last);
     match read_range(alloc, buffers, rest, &last) {

@@ -2,6 +2,7 @@
 ghost use Rattle.std.specs.Prelude.{◌≡◌, ◌<◌, length};
 
 use crate::given::{schema_of, texts};
+use pl_board::gate::OpenGate;
 use pl_cells::init_buffers::init_buffers;
 use pl_cells::utf8::CsvEncoding;
 use pl_frame::column::Column;
@@ -51,7 +52,9 @@ fn read(
     assert!(rt; plan.dialect.is_valid() && plan.projection.is_valid());
     let buffers = init_buffers(alloc, &[0], 0, schema, Some(b'"'), CsvEncoding::Utf8);
     let mut buffers = buffers.expect(rt, "buffers");
-    let read = read_pieces(alloc, &mut buffers, range, &plan, piece_size).expect(rt, "memory");
+    let read = read_pieces(alloc, &mut buffers, range, &plan, piece_size, &OpenGate).expect(
+        rt, "memory",
+    );
     let columns = into_columns(alloc, buffers).expect(rt, "columns");
     (columns, read)
 }

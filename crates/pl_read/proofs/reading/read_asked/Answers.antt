@@ -5,7 +5,7 @@ use Rattle.pl_read.proofs.CauseLaws.{fault-early}
 use Rattle.pl_read.proofs.reading.read_asked.Goals as goal
 
 pub returns-in-Err-clause-refused : goal.returns-in-Err-clause-refused
-returns-in-Err-clause-refused c =
+returns-in-Err-clause-refused g c =
     let o = c.args.options.now in
     let schema = c.args.schema.now in
     let records = c.args.records.now in

@@ -7,7 +7,7 @@ use Rattle.pl_read.proofs.SettlingLaws.{late-early, late-settled}
 use Rattle.pl_read.proofs.reading.read_checked.Goals as goal
 
 pub returns-in-Ok : goal.returns-in-Ok
-returns-in-Ok c =
+returns-in-Ok g c =
     let o = c.args.options.now in
     let input = c.args.input.now in
     let result = c.read_settled.result in
@@ -20,5 +20,5 @@ returns-in-Ok c =
     }
 
 pub returns-in-Err-clause-refused : goal.returns-in-Err-clause-refused
-returns-in-Err-clause-refused c =
+returns-in-Err-clause-refused g c =
     late-early c.args.options.now c.args.input.now c.in-Err.fault (sym c.is_compressed.ensures ∙ c.if-is_compressed.false) c.in-Err.ensures.refused

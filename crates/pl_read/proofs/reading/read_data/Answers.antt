@@ -14,24 +14,24 @@ use Rattle.pl_read.proofs.ProjectionLaws.{projected-rises, projected-below}
 use Rattle.pl_read.proofs.DataLaws.{faulty-cause, columns-are, IsFrame-indexed, data_cause-index, data_frame-is, readable-places}
 use Rattle.pl_read.proofs.reading.read_data.Goals as goal
 
-pub read_columns_in_pieces-requires-clause-dialect : goal.read_columns_in_pieces-requires-clause-dialect
-read_columns_in_pieces-requires-clause-dialect c =
+pub read_by_workers-requires-clause-dialect : goal.read_by_workers-requires-clause-dialect
+read_by_workers-requires-clause-dialect g c κs within =
     let o = c.args.options.now in
     subst (λ m. IsDialect m (scan_comment_of c.args.plan.now.dialect)) (sym c.requires.plan_is.marks_are) (subst (IsDialect (marks_of o.parse_options)) (sym c.requires.plan_is.comment_is) c.requires.dialect)
 
-pub read_columns_in_pieces-requires-clause-rising : goal.read_columns_in_pieces-requires-clause-rising
-read_columns_in_pieces-requires-clause-rising c = subst (AreRising 0 (length c.args.schema.now)) (sym c.requires.plan_is.places_are) (projected-rises c.args.options.now c.args.schema.now)
+pub read_by_workers-requires-clause-rising : goal.read_by_workers-requires-clause-rising
+read_by_workers-requires-clause-rising g c κs within = subst (AreRising 0 (length c.args.schema.now)) (sym c.requires.plan_is.places_are) (projected-rises c.args.options.now c.args.schema.now)
 
-pub read_columns_in_pieces-requires-clause-readable : goal.read_columns_in_pieces-requires-clause-readable
-read_columns_in_pieces-requires-clause-readable c =
+pub read_by_workers-requires-clause-readable : goal.read_by_workers-requires-clause-readable
+read_by_workers-requires-clause-readable g c κs within =
     readable-places c.args.schema.now c.args.plan.now.projection.places.now c.requires.readable (projected-below c.args.options.now c.args.schema.now c.args.plan.now.projection.places.now c.requires.plan_is.places_are)
 
 pub returns-in-Fault-clause-refused : goal.returns-in-Fault-clause-refused
-returns-in-Fault-clause-refused c =
+returns-in-Fault-clause-refused g c =
     inl (faulty-cause c.args.plan.now c.args.options.now c.args.schema.now c.args.records.now c.in-Ok.read c.in-Fault.row c.in-Fault.column c.in-Fault.kind c.requires.plan_is c.in-Ok.ensures c.in-Fault.is)
 
 pub with_index-requires : goal.with_index-requires
-with_index-requires c =
+with_index-requires g c =
     let o = c.args.options.now in
     let schema = c.args.schema.now in
     let items = c.in-Ok.read.columns.items in
@@ -40,7 +40,7 @@ with_index-requires c =
     (subst (λ given. IsFrame (with_index o.row_index (height_of given) given)) (sym columns) (IsFrame-indexed o schema c.args.records.now c.requires.distinct c.requires.free))
 
 pub returns-in-Closed : goal.returns-in-Closed
-returns-in-Closed c =
+returns-in-Closed g c =
     let o = c.args.options.now in
     let schema = c.args.schema.now in
     let records = c.args.records.now in

@@ -4,13 +4,13 @@ use Rattle.pl_read.proofs.CauseLaws.{refused-early, read-answer}
 use Rattle.pl_read.proofs.reading.read_frame.Goals as goal
 
 pub returns-in-Ok : goal.returns-in-Ok
-returns-in-Ok c =
+returns-in-Ok g c =
     let o = c.args.options.now in
     let input = c.args.input.now in
     read-answer o (settled_schema o input) input c.read_checked.result c.in-Ok.ensures.passed c.read_checked.ensures.frame c.read_checked.ensures.sound c.read_checked.ensures.refused
 
 pub returns-in-Err : goal.returns-in-Err
-returns-in-Err c =
+returns-in-Err g c =
     let o = c.args.options.now in
     let input = c.args.input.now in
     inl (refused-early o (settled_schema o input) input c.in-Err.fault c.in-Err.ensures.refused)

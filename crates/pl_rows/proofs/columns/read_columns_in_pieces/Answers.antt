@@ -8,14 +8,14 @@ use Rattle.pl_rows.proofs.PlanLaws.{rising-below}
 use Rattle.pl_rows.proofs.columns.read_columns_in_pieces.Goals as goal
 
 pub empty_buffers-requires-clause-places : goal.empty_buffers-requires-clause-places
-empty_buffers-requires-clause-places c = rising-below 0 (length c.args.schema.now) c.args.plan.now.projection.places.now c.requires.rising
+empty_buffers-requires-clause-places g c = rising-below 0 (length c.args.schema.now) c.args.plan.now.projection.places.now c.requires.rising
 
 pub read_pieces-requires-clause-can : goal.read_pieces-requires-clause-can
-read_pieces-requires-clause-can c =
+read_pieces-requires-clause-can g c =
     CanRead-empty c.args.plan.now c.args.schema.now (states c.deref_mut.result.now) (ap states c.deref_mut.ensures.value ∙ c.in_ok-buffers.ensures) c.requires.dialect.distinct c.requires.width c.requires.rising c.requires.texts
 
 pub returns : goal.returns
-returns c =
+returns g c =
     let plan = c.args.plan.now in
     let schema = c.args.schema.now in
     let range = c.args.range.now in

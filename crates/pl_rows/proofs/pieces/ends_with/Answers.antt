@@ -1,6 +1,7 @@
-use Rattle.std.proofs.Common.{◌≡◌, ℕ, suc, ◌-◌, ◌<◌, List, [], ◌∷◌, length, get_or, ◌∙◌, ap, refl, eqb-true, arith}
-use Rattle.std.specs.Prelude.{Option, Some}
+use Rattle.std.proofs.Common.{◌≡◌, ℕ, suc, ◌-◌, ◌<◌, true, List, [], ◌∷◌, length, get_or, ◌∙◌, sym, ap, refl, ◌==◌, arith}
+use Rattle.std.specs.Prelude.{Option, None, Some}
 use Rattle.std.specs.List.{last_or}
+use Rattle.std.specs.Option.{option_map_or}
 use Rattle.pl_rows.proofs.pieces.ends_with.Goals as goal
 
 -- the last of a list that is not empty
@@ -12,4 +13,4 @@ last_is (x ∷ y ∷ ys) before some =
     last_is (y ∷ ys) (Some x) (omega arith) ∙ ap (λ k. Some (get_or (x ∷ y ∷ ys) k 0)) same
 
 pub returns-in-len1-up : goal.returns-in-len1-up
-returns-in-len1-up c = λ same. last_is c.args.bytes.now (Some c.args.byte) (omega arith) ∙ ap (λ x. Some x) (eqb-true _ _ same)
+returns-in-len1-up c = sym (ap (λ o. option_map_or (λ (x : ℕ). x == c.args.byte) o true) (last_is c.args.bytes.now None (omega arith)))

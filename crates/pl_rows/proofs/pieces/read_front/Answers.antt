@@ -10,10 +10,11 @@ use Rattle.pl_rows.specs.Plan.{states, CanRead}
 use Rattle.pl_rows.proofs.PieceLaws.{HasReadRows-piece, CanRead-behind, reached-none, reached-taken, reached-posted, piece-front}
 use Rattle.pl_rows.proofs.PlanLaws.{CanRead-more}
 use Rattle.pl_rows.proofs.RangeLaws.{HasReadRows-start}
+use Rattle.pl_rows.proofs.pieces.read_front.Given.{Over}
 use Rattle.pl_rows.proofs.pieces.read_front.Goals as goal
 
 pub loop-init : goal.loop-init
-loop-init c = record {
+loop-init g c = record {
   read = HasReadRows-start c.args.plan.now c.args.range.now (states c.args.buffers.now) c.requires.can;
   end_within = omega arith;
   bytes_within = omega arith;
@@ -22,7 +23,7 @@ loop-init c = record {
 }
 
 pub read_piece-requires-clause-can : goal.read_piece-requires-clause-can
-read_piece-requires-clause-can c =
+read_piece-requires-clause-can g c =
     let plan = c.args.plan.now in
     let now = states c.loop.buffers in
     let read = c.loop.invariant.read in
@@ -30,8 +31,8 @@ read_piece-requires-clause-can c =
     (CanRead-behind plan c.loop.front.rows false now (CanRead-more plan read.done (states c.args.buffers.now) now read.filled c.requires.can))
 
 -- the piece that was handed out, with what stands behind it
-taken : (c : goal.After-struct_known-1) → (drop c.loop.front.end c.args.range.now ≡ c.in-Ok-Some.piece.text ++ drop c.to-end.result c.args.range.now)
-taken c =
+taken : (g : Over) (c : goal.After-struct_known-1 g) → (drop c.loop.front.end c.args.range.now ≡ c.in-Ok-Some.piece.text ++ drop c.to-end.result c.args.range.now)
+taken g c =
     let piece = c.in-Ok-Some.piece in
     let some : piece.from < piece.to = rw c.in-Ok-Some.field-0-is at c.in-Ok-Some.ensures.some in
     let is : piece ≡ next_piece c.loop.board.setup c.loop.board.log = rw c.in-Ok-Some.field-0-is at c.in-Ok-Some.ensures.piece in
@@ -39,23 +40,23 @@ taken c =
     ∙ ap (λ k. piece.text ++ drop k c.args.range.now) (sym c.to-end.ensures)
 
 -- it was read behind the others
-more : (c : goal.After-struct_known-1) → HasReadRows c.args.plan.now c.args.range.now (states c.args.buffers.now) (states c.read_piece.new.buffers) (drop c.to-end.result c.args.range.now) (c.loop.front.rows + c.in-Ok.done.rows)
-more c =
+more : (g : Over) (c : goal.After-struct_known-1 g) → HasReadRows c.args.plan.now c.args.range.now (states c.args.buffers.now) (states c.read_piece.new.buffers) (drop c.to-end.result c.args.range.now) (c.loop.front.rows + c.in-Ok.done.rows)
+more g c =
     let plan = c.args.plan.now in
     let range = c.args.range.now in
     let now = states c.loop.buffers in
     let after = states c.read_piece.new.buffers in
     let one : HasReadPiece (plan_behind plan c.loop.front.rows false) c.in-Ok-Some.piece.text now after c.in-Ok.done.rows =
     subst (λ p. HasReadPiece p c.in-Ok-Some.piece.text now after c.in-Ok.done.rows) c.plan_behind-plan.ensures
-    (subst (λ t. HasReadPiece c.plan_behind-plan.result t now after c.in-Ok.done.rows) c.bytes.ensures (c.in-Ok.ensures.done.read c.if-not-closed.false)) in
+    (subst (λ t. HasReadPiece c.plan_behind-plan.result t now after c.in-Ok.done.rows) c.bytes-in-loop.ensures (c.in-Ok.ensures.done.read c.if-not-closed.false)) in
     HasReadRows-piece plan range (states c.args.buffers.now) now after (drop c.loop.front.end range) c.in-Ok-Some.piece.text (drop c.to-end.result range) c.loop.front.rows c.in-Ok.done.rows c.requires.can
-    c.requires.dialect c.loop.invariant.read (taken c) one
+    c.requires.dialect c.loop.invariant.read (taken g c) one
 
 pub overflow_add-front : goal.overflow_add-front
-overflow_add-front c = record { fits = let few = (more c).few in omega arith }
+overflow_add-front g c = record { fits = let few = (more g c).few in omega arith }
 
 pub loop-preserved : goal.loop-preserved
-loop-preserved c =
+loop-preserved g c =
     let piece = c.in-Ok-Some.piece in
     let within : piece.to ≤ length c.loop.board.setup.bytes = rw c.in-Ok-Some.field-0-is at c.in-Ok-Some.ensures.within in
     let is : piece ≡ next_piece c.loop.board.setup c.loop.board.log = rw c.in-Ok-Some.field-0-is at c.in-Ok-Some.ensures.piece in
@@ -63,8 +64,8 @@ loop-preserved c =
     let posted = reached-posted ghosts.mark c.take.new.self c.post.new.self c.new.result c.post.result c.post.ensures.stored in
     let inside : c.to-end.result ≤ length c.args.range.now = omega (arith, within, ap length c.loop.invariant.bytes_are, c.to-end.ensures) in
     record {
-      read = more c;
-      end_within = inside;
+      read = more g c;
+      end_within = omega arith;
       bytes_within = inside;
       bytes_are = ap (λ (s : Setup). s.bytes) (posted.0 ∙ handed_out.0) ∙ c.loop.invariant.bytes_are;
       reached_is = posted.1 ∙ handed_out.1 ∙ ap (λ (p : Cut). p.to) (sym is) ∙ sym c.to-end.ensures;

@@ -3,7 +3,7 @@ use Rattle.std.proofs.lemmas.List.{length-map}
 use Rattle.pl_rows.specs.Blocks.{HaveAllRows}
 use Rattle.pl_rows.specs.Plan.{states}
 use Rattle.pl_rows.specs.Ranges.{rows_of}
-use Rattle.pl_rows.proofs.PieceLaws.{closed-whole, HasReadRange-back}
+use Rattle.pl_rows.proofs.PieceLaws.{closed-whole, ends-told, HasReadRange-back}
 use Rattle.pl_rows.proofs.pieces.read_piece.Goals as goal
 use Rattle.pl_rows.proofs.pieces.read_piece.Goals.{then-not-closed, else-not-closed}
 
@@ -29,11 +29,12 @@ returns-clause-done c =
           }
       | else-not-closed w ↦
           let shut : c.ends_item-closed.result ≡ true = w.if-not-closed.false in
-          let whole = closed-whole plan piece before mid c.in-Ok.read.end c.in-Ok.read.rows read (c.ends_item-closed.ensures.closed shut) in
+          let told = ends-told c.in-Ok.read.end plan.dialect piece (sym c.ends_item-closed.ensures ∙ shut) in
+          let whole = closed-whole plan piece before mid c.in-Ok.read.end c.in-Ok.read.rows read told.0 in
           record {
-            ends = λ _. c.ends_item-closed.ensures.ends shut;
+            ends = λ _. told.1;
             read = λ _. record {
-              ends = c.ends_item-closed.ensures.ends shut;
+              ends = told.1;
               read = subst (λ b. HaveAllRows plan (rows_of plan piece) before (states b)) (sym w.buffers-is) whole.1;
               count = whole.0.count;
             };

@@ -7,7 +7,7 @@ use Rattle.pl_rows.proofs.RangeLaws.{HasReadRows-back}
 use Rattle.pl_rows.proofs.pieces.read_pieces.Goals as goal
 
 pub read_range-requires : goal.read_range-requires
-read_range-requires c =
+read_range-requires g c =
     let plan = c.args.plan.now in
     let now = states c.read_front-front.new.buffers in
     let read = c.read_front-front.ensures.read in
@@ -19,23 +19,23 @@ rest_is : (range : List ℕ) (end : ℕ) → take (length range - end) (drop end
 rest_is range end = take_all _ _ (omega (arith, length-drop end range))
 
 pub end_behind-requires : goal.end_behind-requires
-end_behind-requires c =
+end_behind-requires g c =
     row-fits c.args.plan.now c.plan_behind-last.result c.args.range.now (states c.args.buffers.now) (states c.read_front-front.new.buffers) _ _ c.read_front-front.result.rows c.in-Ok.end c.read_front-front.ensures.read
     (omega arith) c.plan_behind-last.ensures (rest_is c.args.range.now c.read_front-front.result.end) c.in-Ok.ensures.end
 
 pub returns-in-Ok-clause-end : goal.returns-in-Ok-clause-end
-returns-in-Ok-clause-end c =
+returns-in-Ok-clause-end g c =
     c.end_behind.ensures
     ∙ (HasReadRows-rest c.args.plan.now c.plan_behind-last.result c.args.range.now (states c.args.buffers.now) (states c.read_front-front.new.buffers) (states c.read_range.new.buffers) _ _ c.read_front-front.result.rows
     c.in-Ok.end c.requires.can c.read_front-front.ensures.read c.plan_behind-last.ensures (rest_is c.args.range.now c.read_front-front.result.end) c.in-Ok.ensures.end c.in-Ok.ensures.added).0
 
 pub returns-in-Ok-clause-added : goal.returns-in-Ok-clause-added
-returns-in-Ok-clause-added c =
+returns-in-Ok-clause-added g c =
     (HasReadRows-rest c.args.plan.now c.plan_behind-last.result c.args.range.now (states c.args.buffers.now) (states c.read_front-front.new.buffers) (states c.read_range.new.buffers) _ _ c.read_front-front.result.rows
     c.in-Ok.end c.requires.can c.read_front-front.ensures.read c.plan_behind-last.ensures (rest_is c.args.range.now c.read_front-front.result.end) c.in-Ok.ensures.end c.in-Ok.ensures.added).1
 
 pub returns-in-Err-clause-kept : goal.returns-in-Err-clause-kept
-returns-in-Err-clause-kept c =
+returns-in-Err-clause-kept g c =
     let after = states c.read_range.new.buffers in
     let all : length after ≤ length c.read_range.new.buffers = simp length-map (omega arith) in
     c.cut_back.ensures

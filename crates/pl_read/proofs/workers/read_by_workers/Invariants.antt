@@ -1,0 +1,29 @@
+use Rattle.pl_cells.specs.InitBuffers.{empty_buffers}
+use Rattle.pl_rows.specs.Apart.{ReadsApart}
+use Rattle.pl_read.proofs.workers.read_by_workers.Given as goal
+
+abbrev pub ghosts-read_on_board-K-Reading : goal.ghosts-read_on_board-K-Reading
+ghosts-read_on_board-K-Reading g a = record {
+  range = a.range.now;
+  reads = λ text now rows. ReadsApart a.plan.now (empty_buffers a.plan.now.dialect.quote_char a.plan.now.options.encoding a.schema.now a.plan.now.projection.places.now) text now rows;
+}
+
+abbrev pub ghosts-read_on_board-T-Task : goal.ghosts-read_on_board-T-Task
+ghosts-read_on_board-T-Task g a = record {
+  setup = record { bytes = a.range.now; piece_size = a.piece_size; quote = a.plan.now.dialect.quote_char; line_end = a.plan.now.dialect.eol_char; limit = a.plan.now.limit };
+}
+
+abbrev pub ghosts-read_on_board-T-Ledger : goal.ghosts-read_on_board-T-Ledger
+ghosts-read_on_board-T-Ledger g a = record { name = a.blanks.handed_out.name; parts = a.blanks.handed_out.parts }
+
+abbrev pub ghosts-read_on_board-P-Ledger : goal.ghosts-read_on_board-P-Ledger
+ghosts-read_on_board-P-Ledger g a = record { name = a.blanks.posts.name; parts = a.blanks.posts.parts }
+
+abbrev pub ghosts-read_on_board-S-Ledger : goal.ghosts-read_on_board-S-Ledger
+ghosts-read_on_board-S-Ledger g a = record { name = a.blanks.seats.name; parts = a.blanks.seats.parts }
+
+abbrev pub ghosts-read_on_board-R-Ledger : goal.ghosts-read_on_board-R-Ledger
+ghosts-read_on_board-R-Ledger g a = record { name = a.blanks.running.name; parts = a.blanks.running.parts }
+
+abbrev pub ghosts-read_on_board-C-Ledger : goal.ghosts-read_on_board-C-Ledger
+ghosts-read_on_board-C-Ledger g a = record { name = a.blanks.clean.name; parts = a.blanks.clean.parts }

@@ -1,0 +1,41 @@
+-- Pieces that are read apart from one another, and joined (docs/workers.md, "Reading and joining").
+use Rattle.std.specs.Prelude.{◌≡◌, ℕ, zero, suc, Bool, true, false, List, [], ◌∷◌, Option, slice_range}
+use Rattle.std.specs.List.{AllByRecursion}
+use Rattle.pl_frame.specs.Frame.{Scalar}
+use Rattle.pl_cells.specs.BufferValue.{BufferValue, with_values}
+use Rattle.pl_rows.specs.declared.plan.RangePlan.{RangePlan}
+use Rattle.pl_rows.specs.Pieces.{plan_behind, HasReadPiece}
+
+-- buffers with no cells
+abbrev pub AreEmpty : List BufferValue → Type 0
+AreEmpty given = AllByRecursion (λ buffer. buffer.values ≡ []) given
+
+-- each buffer with the cells of another behind its own
+abbrev pub joined : List BufferValue → List BufferValue → List BufferValue
+joined (buffer ∷ others) (part ∷ parts) = with_values buffer part.values ∷ joined others parts
+joined buffers parts = []
+
+-- each buffer with the cells of several behind its own, in order
+abbrev pub all_joined : List BufferValue → List (List BufferValue) → List BufferValue
+all_joined buffers [] = buffers
+all_joined buffers (part ∷ parts) = all_joined (joined buffers part) parts
+
+-- the cells of the buffer at a place, where there is one
+abbrev pub values_at : ℕ → List BufferValue → List (Option Scalar)
+values_at place [] = []
+values_at zero (buffer ∷ others) = buffer.values
+values_at (suc place) (buffer ∷ others) = values_at place others
+
+-- a buffer with the cells behind its own that several lists have at a place, in order
+abbrev pub column_joined : ℕ → BufferValue → List (List BufferValue) → BufferValue
+column_joined place buffer [] = buffer
+column_joined place buffer (part ∷ parts) = column_joined place (with_values buffer (values_at place part)) parts
+
+-- what it means of a plan that a piece was read apart: into empty buffers, of these bytes, so many rows
+abbrev pub ReadsApart : RangePlan → List BufferValue → List ℕ → List BufferValue → ℕ → Type 0
+ReadsApart plan before text now rows = HasReadPiece (plan_behind plan 0 false) text before now rows
+
+-- what was read of a piece apart: it is this part of the range, and where it closed, these buffers are what reading it gives
+pub record IsReadApart (range : List ℕ) (reads : List ℕ → List BufferValue → ℕ → Type 0) (text : List ℕ) (from to : ℕ) (closed : Bool) (buffers : List BufferValue) (rows : ℕ) : Type 0 where
+  pub text_is : text ≡ slice_range range from to
+  pub read : closed ≡ true → reads text buffers rows

@@ -1,7 +1,8 @@
 -- What a legal log hands out.
-use Rattle.std.proofs.Common.{◌≡◌, ℕ, zero, suc, ◌+◌, ◌-◌, ◌<◌, ◌≤◌, Bool, true, false, not, ◌&&◌, ◌==◌, ◌≢◌, List, [], ◌∷◌, ◌++◌, length, take, drop, refl, sym, ◌∙◌, ap, subst, inl, inr, arith, eqb-true, length-drop}
-use Rattle.std.specs.Prelude.{Option, None, Some, slice_get}
+use Rattle.std.proofs.Common.{◌≡◌, ℕ, zero, suc, ◌+◌, ◌-◌, ◌<◌, ◌≤◌, Bool, true, false, cond, not, ◌&&◌, ◌==◌, ◌≢◌, List, [], ◌∷◌, ◌++◌, length, take, drop, refl, sym, ◌∙◌, ap, subst, inl, inr, arith, eqb-true, length-drop}
+use Rattle.std.specs.Prelude.{Option, Some, count_by, nat_le, slice_get}
 use Rattle.std.proofs.lemmas.List.{take_all}
+use Rattle.std.proofs.lemmas.List.Sums.{sum_by-cons}
 use Rattle.std.proofs.lemmas.Bool.{cases_lt}
 use Rattle.std.proofs.lemmas.Bool.Decides.{nat_tests}
 use Rattle.std.proofs.lemmas.Option.{slice_get_cases}
@@ -10,6 +11,7 @@ use Rattle.pl_board.specs.declared.event.Event.{Event}
 use Rattle.pl_board.specs.declared.event.Event.TheVariants.{Take, Post}
 use Rattle.pl_board.specs.Cutting.{cut}
 use Rattle.pl_board.specs.Log.{Setup, hand_outs, reached, is_finished, may_follow, IsChain, IsLegal}
+use Rattle.pl_board.specs.Laws.{has_byte, times_read}
 use Rattle.pl_board.proofs.CutLaws.{cut-none, cut-some}
 use Rattle.pl_board.proofs.LogLaws.{hand_outs-take, hand_outs-post, reached-take, reached-post, chain_push, reached_is_end}
 
@@ -111,3 +113,28 @@ chain-rises start (range ∷ others) (suc i) (suc j) first second chain less at_
 pub handed-out-once : (s : Setup) (log : List Event) (i j : ℕ) (first second : ℕ × ℕ) → IsLegal s log → i < j → slice_get (hand_outs log) i ≡ Some first → slice_get (hand_outs log) j ≡ Some second
     → first.1 ≤ second.0
 handed-out-once s log i j first second legal less at_i at_j = chain-rises 0 (hand_outs log) i j first second (pieces-follow s log legal).0 less at_i at_j
+
+-- the ranges of a chain that have the byte at a place: one at most, and none before its start
+chain-count : (start : ℕ) (ranges : List (ℕ × ℕ)) (place : ℕ) → IsChain start ranges
+    → (count_by (has_byte place) ranges ≤ 1) × (place < start → count_by (has_byte place) ranges ≡ 0)
+chain-count start [] place chain = (omega arith, λ _. refl)
+chain-count start (first ∷ others) place chain =
+    let deeper = chain-count first.1 others place chain.2 in
+    let count : count_by (has_byte place) (first ∷ others) ≡ cond {A = ℕ} (has_byte place first) 1 0 + count_by (has_byte place) others = sum_by-cons (λ (range : ℕ × ℕ). cond {A = ℕ} (has_byte place range) 1 0) first others in
+    let here : cond {A = ℕ} (has_byte place first) 1 0 ≤ 1 = grind (arith, nat_tests) in
+    let behind : first.1 ≤ place → cond {A = ℕ} (has_byte place first) 1 0 ≡ 0 = λ le. grind (arith, nat_tests, le) in
+    let before : place < first.0 → cond {A = ℕ} (has_byte place first) 1 0 ≡ 0 = λ lt. grind (arith, nat_tests, lt) in (
+      elim (cases_lt place first.1) [
+        | inl lt ↦ let none = deeper.1 lt in omega (arith, count, here, none)
+        | inr ge ↦ let none = behind (omega (arith, ge)) in let few = deeper.0 in omega (arith, count, none, few)
+      ],
+      λ less. let none = before (omega (arith, less, chain.0)) in let others_none = deeper.1 (omega (arith, less, chain.0, chain.1)) in omega (arith, count, none, others_none),
+    )
+
+pub read-twice : (s : Setup) (log : List Event) (rest place : ℕ) → IsLegal s log → times_read log rest place ≤ 2
+read-twice s log rest place legal =
+    let once = (chain-count 0 (hand_outs log) place (pieces-follow s log legal).0).0 in
+    elim (cases_lt place rest) [
+      | inl lt ↦ let none : cond {A = ℕ} (nat_le rest place) 1 0 ≡ 0 = grind (arith, nat_tests, lt) in omega (arith, once, none)
+      | inr ge ↦ let one : cond {A = ℕ} (nat_le rest place) 1 0 ≤ 1 = grind (arith, nat_tests) in omega (arith, once, one)
+    ]

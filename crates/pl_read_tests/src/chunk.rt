@@ -2,6 +2,8 @@
 ghost use Rattle.std.specs.Prelude.{◌≡◌, ◌≤◌, length};
 
 use crate::given::add;
+use pl_board::piece::{Done, Posted};
+use pl_board::state::BoardState;
 use pl_cells::init_buffers::first_unreadable;
 use pl_frame::column::Value;
 use pl_frame::data_type::DataType;
@@ -13,16 +15,18 @@ use pl_read::chunk::{ChunkDone, ChunkEnd, read_chunk};
 use std::alloc::Global;
 use std::process::Abort;
 
-// What is read of the first bytes of an input, of one column.
-fn read(
+// What is read of a range of an input of one column.
+fn read_between(
     rt: &impl Abort,
     alloc: Global,
     dtype: DataType,
     bytes: &[u8],
+    begin: usize,
     stop: usize,
     last: bool,
 ) -> ChunkDone
-    requires { stop ≤ length bytes.now }
+    requires begin { begin ≤ stop }
+    requires stop { stop ≤ length bytes.now }
 {
     let mut schema = Schema::new(alloc);
     add(rt, alloc, &mut schema, "a", dtype);
@@ -36,12 +40,26 @@ fn read(
         &schema,
         false,
         &[0],
-        0,
+        begin,
         None,
         stop,
         last,
     );
     done.expect(rt, "a chunk")
+}
+
+// What is read of the first bytes of an input of one column.
+fn read(
+    rt: &impl Abort,
+    alloc: Global,
+    dtype: DataType,
+    bytes: &[u8],
+    stop: usize,
+    last: bool,
+) -> ChunkDone
+    requires { stop ≤ length bytes.now }
+{
+    read_between(rt, alloc, dtype, bytes, 0, stop, last)
 }
 
 // Whether the frame has one column of so many rows, the last of which has this value.
@@ -72,4 +90,106 @@ fn a_fault_comes_before_an_open_record(rt: HostRuntime) {
         kind: FaultKind::Value,
     };
     assert!(rt; done.end == fault && ends_with(&done.frame, 1, Value::Whole(1)));
+}
+
+// Two records, the second of which has a line end that a count of quotes takes for its end.
+const MISLEADING: &[u8; 10] = b"x\"y\n\"c\nd\"\n";
+
+// What the board is told of a chunk.
+#[derive(Drop)]
+struct Told {
+    rows: usize,
+    closed: bool,
+}
+
+impl Done for Told {
+    ghost use Rattle.pl_board.specs.declared.event.Mark.{Mark};
+    ghost use Rattle.std.specs.Prelude.{false};
+
+    ghost holds_for = { λ _ _. Unit {0} };
+
+    ghost mark = { λ told. record { rows = told.rows; closed = told.closed; stops = false } };
+
+    fn rows(&self) -> usize {
+        self.rows
+    }
+
+    fn closed(&self) -> bool {
+        self.closed
+    }
+
+    fn stops(&self) -> bool {
+        false
+    }
+}
+
+// The rows that were read of the text and the bytes of the ranges that were read for them.
+#[derive(Clone, Copy)]
+struct Tally {
+    rows: usize,
+    bytes: usize,
+}
+
+impl Tally {
+    // Counts a range. Its rows are to be the next ones of the text.
+    fn count(&mut self, rt: &impl Abort, frame: &DataFrame, bytes: usize) {
+        let wanted = ["x\"y", "c\nd"];
+        let [column] = frame.columns() else {
+            abort!(rt; "one column is read");
+        };
+        for row in 0..column.len() {
+            let at = self.rows.saturating_add(row);
+            assert!(rt; at < 2 && column.get(row) == Value::Text(wanted[at]));
+        }
+        self.rows = self.rows.saturating_add(column.len());
+        self.bytes = self.bytes.saturating_add(bytes);
+    }
+}
+
+// The text, read by chunks: the pieces that a board hands out, up to the first that does not close, and the rest as one range.
+fn read_in_chunks(rt: &impl Abort, alloc: Global, piece_size: usize) -> Tally
+    requires { 0 < piece_size }
+{
+    let mut board: BoardState<'_, Told> = BoardState::new(
+        alloc, MISLEADING, piece_size, Some(b'"'), b'\n', None,
+    );
+    let mut tally = Tally { rows: 0, bytes: 0 };
+    let mut end = 0;
+    for _ in 0..MISLEADING.len() {
+        let Some(piece) = board.take().expect(rt, "memory") else {
+            break;
+        };
+        let (from, to) = (piece.from(), piece.to());
+        assert!(rt; from == end && from <= to && to <= MISLEADING.len());
+        let chunk = read_between(rt, alloc, DataType::String, MISLEADING, from, to, false);
+        let closed = chunk.end == ChunkEnd::Closed;
+        let rows = chunk.frame.height();
+        assert!(rt; board.post(Posted::new(piece, Told { rows, closed })));
+        if !closed {
+            tally.bytes = tally.bytes.saturating_add(to - from);
+            break;
+        }
+        tally.count(rt, &chunk.frame, to - from);
+        end = to;
+    }
+    let rest = read_between(
+        rt,
+        alloc,
+        DataType::String,
+        MISLEADING,
+        end,
+        MISLEADING.len(),
+        true,
+    );
+    assert!(rt; rest.end == ChunkEnd::Closed);
+    tally.count(rt, &rest.frame, MISLEADING.len() - end);
+    tally
+}
+
+#[test]
+fn no_byte_is_read_more_than_twice(rt: HostRuntime) {
+    for piece_size in [1, 4, 7, 64] {
+        let tally = read_in_chunks(&rt, rt.alloc(), piece_size);
+        assert!(rt; tally.rows == 2 && tally.bytes <= 20);
+    }
 }

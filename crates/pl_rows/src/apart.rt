@@ -1,5 +1,5 @@
 //! Pieces that are read apart from one another, each into columns of its own.
-ghost use Rattle.std.specs.Prelude.{◌≡◌, ℕ, List, None, IfOk, length, slice_range};
+ghost use Rattle.std.specs.Prelude.{◌≡◌, ◌≤◌, ℕ, List, None, IfOk, OnOk, length, slice_range};
 ghost use Rattle.pl_frame.specs.Dialect.{AreDistinct};
 ghost use Rattle.pl_scan.specs.Dialect.{marks_of};
 ghost use Rattle.pl_cells.specs.BufferValue.{BufferValue};
@@ -11,6 +11,7 @@ ghost use Rattle.pl_rows.specs.Plan.{states, AreRising};
 use crate::columns::empty_buffers;
 use crate::pieces::{plan_behind, read_piece};
 use crate::plan::RangePlan;
+use memchr::memchr_iter;
 use pl_board::piece::{Done, Piece};
 use pl_cells::buffer::Buffer;
 use pl_frame::schema::Schema;
@@ -72,6 +73,49 @@ impl<K: Reading> Done for PieceColumns<K> {
     }
 }
 
+// So many bytes of a piece tell how long its records are.
+const SAMPLE: usize = 1 << 14;
+
+// About how many records a piece has, going by the lines of its first bytes: no more than it has places for so many fields each.
+fn expected_rows(piece: &[u8], eol_char: u8, width: usize) -> usize
+    ensures { result ≤ length piece.now }
+{
+    let sample = &piece[..piece.len().min(SAMPLE)];
+    let lines = memchr_iter(eol_char, sample).count() + 1;
+    let samples = piece.len() / sample.len().max(1) + 1;
+    lines.saturating_mul(samples).min(piece.len() / width.max(1))
+}
+
+// Makes room in each buffer for so many cells, and for so many bytes of texts. Refuses only want of memory.
+fn make_room(buffers: &mut [Buffer], cells: usize, bytes: usize) -> Result<(), AllocError>
+    ensures { OnOk result (states buffers.new ≡ states buffers.old) }
+{
+    for place in 0..buffers.len() {
+        buffers[place].reserve_for(cells, bytes)?;
+    }
+    Ok(())
+}
+
+// Empty buffers with room for what a piece is expected to have. Refuses only want of memory.
+fn roomy_buffers(
+    alloc: Global,
+    schema: &Schema,
+    piece: &[u8],
+    plan: &RangePlan<'_>,
+) -> Result<Vec<Buffer>, AllocError>
+    requires rising { AreRising 0 (length schema.now) plan.now.projection.places.now }
+    requires readable { first_unreadable schema.now plan.now.projection.places.now ≡ None }
+    ensures { IfOk result (λ buffers. states buffers.items ≡ empty_buffers plan.now.dialect.quote_char plan.now.options.encoding schema.now plan.now.projection.places.now) }
+{
+    let places = plan.projection.places;
+    let width = plan.projection.width;
+    let quote_char = plan.dialect.quote_char;
+    let mut buffers = empty_buffers(alloc, schema, places, quote_char, plan.options.encoding)?;
+    let rows = expected_rows(piece, plan.dialect.eol_char, width);
+    make_room(&mut buffers, rows, piece.len() / width.max(1))?;
+    Ok(buffers)
+}
+
 /// Reads a piece into columns of its own, as a range that is not the last one. Refuses only want of memory.
 pub fn read_apart<K: Reading>(
     alloc: Global,
@@ -90,9 +134,7 @@ pub fn read_apart<K: Reading>(
         → K.reads piece.now.text now rows }
     ensures { IfOk result (λ done. IsReadApart K.range K.reads piece.now.text done.from done.to done.closed (states done.buffers.items) done.rows) }
 {
-    let places = plan.projection.places;
-    let quote_char = plan.dialect.quote_char;
-    let mut buffers = empty_buffers(alloc, schema, places, quote_char, plan.options.encoding)?;
+    let mut buffers = roomy_buffers(alloc, schema, piece.bytes(), plan)?;
     let plan = plan_behind(plan, 0, false);
     let done = read_piece(alloc, &mut buffers, piece.bytes(), &plan)?;
     Ok(PieceColumns {

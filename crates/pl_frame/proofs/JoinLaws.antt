@@ -6,7 +6,6 @@ use Rattle.std.proofs.lemmas.List.{length-append, length-map, length-take, lengt
 use Rattle.std.proofs.lemmas.List.Sums.{sum_by-cons}
 use Rattle.std.proofs.Math.Seq.{drop-append-add}
 use Rattle.pl_frame.specs.ByteCount.{byte_count}
-use Rattle.pl_frame.specs.Flags.{AreSet, AreFlagged}
 use Rattle.pl_frame.specs.Optional.{flagged, parts_between, RiseTo, AreTexts}
 use Rattle.pl_frame.proofs.OptionalLaws.{length-parts_between, RiseTo-le}
 
@@ -17,23 +16,6 @@ flagged-append [] ys [] gs h = refl
 flagged-append [] ys (f ∷ fs) gs h = absurd (omega arith)
 flagged-append (x ∷ xs) ys [] gs h = absurd (omega arith)
 flagged-append (x ∷ xs) ys (f ∷ fs) gs h = ap (λ rest. (if f then Some x else None) ∷ rest) (flagged-append xs ys fs gs (omega arith))
-
-AreSet-append : (fs gs : List Bool) → AreSet fs → AreSet gs → AreSet (fs ++ gs)
-AreSet-append [] gs a b i = b i
-AreSet-append (f ∷ fs) gs a b zero = a 0
-AreSet-append (f ∷ fs) gs a b (suc i) = AreSet-append fs gs (λ j. a (suc j)) b i
-
-neither : (a b : Bool) → (a || b) ≡ false → (a ≡ false) × (b ≡ false)
-neither true b e = cc
-neither false b e = (refl, e)
-
-pub flagged-joined : {X : Type 0} (xs ys : List X) (fs gs : List Bool) (a b : Bool) → AreFlagged xs fs a → AreFlagged ys gs b → AreFlagged (xs ++ ys) (fs ++ gs) (a || b)
-flagged-joined xs ys fs gs a b h k = record {
-  one_length = omega (arith, h.one_length, k.one_length, length-append xs ys, length-append fs gs);
-  set = λ e. AreSet-append fs gs (h.set (neither a b e).0) (k.set (neither a b e).1);
-}
-
-pub ruleset joined_flags = (flagged-append, flagged-joined)
 
 -- ---- texts
 

@@ -5,7 +5,6 @@ use Rattle.std.proofs.lemmas.List.{length-append, length-drop, append-nil, take-
 use Rattle.std.proofs.lemmas.List.Sums.{sum_by-cons}
 use Rattle.std.proofs.lemmas.Option.{get_or_from_slice_get}
 use Rattle.std.proofs.lemmas.Str.{IsUtf8-nil}
-use Rattle.pl_frame.specs.Flags.{AreSet, AreFlagged}
 use Rattle.pl_frame.specs.Optional.{flagged, parts_between, RiseTo, AreTexts}
 
 pub length-flagged : {X : Type 0} (xs : List X) (flags : List Bool) → length xs ≡ length flags → length (flagged xs flags) ≡ length flags
@@ -141,48 +140,3 @@ slice_get-text bytes ends flags i begin end f h l b e g t =
     (sym (get_or_from_slice_get (parts_between 0 ends bytes) i _ _ (part_at bytes ends i begin end l b e))) g t
 
 pub ruleset parts = (flags, length-parts_between, parts_between-push, slice_get-parts_between, RiseTo-push, RiseTo-at, AllUtf8-push, AllUtf8-at, parts_between-push_nothing, AllUtf8-push_nothing)
-
--- ---- flags that are all set
-
-no_flags : AreSet []
-no_flags zero = refl
-no_flags (suc i) = refl
-
-AreSet-push : (flags : List Bool) → AreSet flags → AreSet (flags ++ true ∷ [])
-AreSet-push [] set zero = refl
-AreSet-push [] set (suc i) = set i
-AreSet-push (f ∷ fs) set zero = set 0
-AreSet-push (f ∷ fs) set (suc i) = AreSet-push fs (λ j. set (suc j)) i
-
-AreSet-take : (n : ℕ) (flags : List Bool) → AreSet flags → AreSet (take n flags)
-AreSet-take zero flags set i = no_flags i
-AreSet-take (suc n) [] set i = no_flags i
-AreSet-take (suc n) (f ∷ fs) set zero = set 0
-AreSet-take (suc n) (f ∷ fs) set (suc i) = AreSet-take n fs (λ j. set (suc j)) i
-
-pub flagged-none : {X : Type 0} → AreFlagged {X = X} [] [] false
-flagged-none = record { one_length = refl; set = λ e i. no_flags i }
-
-pub flagged-value : {X : Type 0} (xs : List X) (flags : List Bool) (has_null : Bool) (x : X) → AreFlagged xs flags has_null → AreFlagged (xs ++ x ∷ []) (flags ++ true ∷ []) has_null
-flagged-value xs flags has_null x h = record {
-  one_length = omega (arith, h.one_length, length-append xs (x ∷ []), length-append flags (true ∷ []));
-  set = λ e. AreSet-push flags (h.set e);
-}
-
-pub flagged-null : {X : Type 0} (xs : List X) (flags : List Bool) (has_null : Bool) (x : X) → AreFlagged xs flags has_null → AreFlagged (xs ++ x ∷ []) (flags ++ false ∷ []) true
-flagged-null xs flags has_null x h = record {
-  one_length = omega (arith, h.one_length, length-append xs (x ∷ []), length-append flags (false ∷ []));
-  set = λ e. absurd (true≢false e);
-}
-
-pub flagged-cut : {X : Type 0} (n : ℕ) (xs : List X) (flags : List Bool) (has_null : Bool) → AreFlagged xs flags has_null → AreFlagged (take n xs) (take n flags) has_null
-flagged-cut n xs flags has_null h = record {
-  one_length = length-take-same n xs flags h.one_length;
-  set = λ e. AreSet-take n flags (h.set e);
-}
-
-pub slice_get-flagged_all : {X : Type 0} (xs : List X) (flags : List Bool) (has_null : Bool) (i : ℕ) (x : X) → AreFlagged xs flags has_null → i < length flags
-    → has_null ≡ false → x ≡ get_or xs i x → slice_get (flagged xs flags) i ≡ Some (Some x)
-slice_get-flagged_all xs flags has_null i x h l e is = slice_get-flagged_set xs flags i x true h.one_length l is (sym (h.set e i)) refl
-
-pub ruleset all_flags = (flags, flagged-none, flagged-value, flagged-null, flagged-cut, slice_get-flagged_all)

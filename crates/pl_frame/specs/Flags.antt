@@ -1,11 +1,12 @@
--- Flags beside values.
-use Rattle.std.specs.Prelude.{◌≡◌, ℕ, Bool, true, false, List, length, get_or}
+-- Values with flags beside them, as far as flags are kept.
+use Rattle.std.specs.Prelude.{ℕ, ◌≤◌, Bool, if◌then◌else◌, List, [], ◌∷◌, length, Option, None, Some}
 
--- every flag is set
-abbrev pub AreSet : List Bool → Type 0
-AreSet flags = (i : ℕ) → get_or flags i true ≡ true
+-- each value, but none where a flag is not set: behind the last flag every value is there
+abbrev pub marked : {X : Type 0} → List X → List Bool → List (Option X)
+marked [] flags = []
+marked (x ∷ xs) [] = Some x ∷ marked xs []
+marked (x ∷ xs) (flag ∷ flags) = (if flag then Some x else None) ∷ marked xs flags
 
--- as many flags as values, all of them set where there is no null
-pub record AreFlagged {X : Type 0} (values : List X) (flags : List Bool) (has_null : Bool) : Type 0 where
-  pub one_length : length values ≡ length flags
-  pub set : has_null ≡ false → AreSet flags
+-- no more flags than values
+abbrev pub AreMarked : {X : Type 0} → List X → List Bool → Type 0
+AreMarked values flags = length flags ≤ length values

@@ -4,29 +4,26 @@ ghost use Rattle.std.specs.Prelude.{◌≡◌, ◌+◌, ◌<◌, ◌≤◌, [], 
 use std::alloc::{AllocError, Global};
 use std::marker::Model;
 
-/// A list of numbers with nulls: the numbers in one vector, a flag for each in another, and the type's default where
-/// there is no number.
+/// A list of numbers with nulls: the numbers in one vector, with the type's default where there is none, and flags in
+/// another. Flags are kept up to the last null: behind them every number is there.
 #[derive(Debug, Drop)]
 pub struct Numbers<T> {
     values: Vec<T>,
     present: Vec<bool>,
-    /// Whether a null was put in. Where none was, every flag is set, and none is read.
-    has_null: bool,
 }
 
 impl<T> Model for Numbers<T> {
     ghost use Rattle.std.specs.Prelude.{List, Option};
-    ghost use Rattle.pl_frame.specs.Flags.{AreFlagged};
-    ghost use Rattle.pl_frame.specs.Optional.{flagged};
+    ghost use Rattle.pl_frame.specs.Flags.{marked, AreMarked};
 
     ghost Value = { List (Option T) };
 
-    ghost view = { λ n. flagged n.values.items n.present.items };
+    ghost view = { λ n. marked n.values.items n.present.items };
 
-    ghost invariant = { λ n. AreFlagged n.values.items n.present.items n.has_null };
+    ghost invariant = { λ n. AreMarked n.values.items n.present.items };
 }
 
-#[tactic(auto, using(crate::proofs::OptionalLaws::all_flags))]
+#[tactic(auto, using(crate::proofs::FlagLaws::marks))]
 impl<T: Copy + Default> Numbers<T> {
     /// No numbers, without taking memory.
     pub fn new(alloc: Global) -> Self
@@ -35,7 +32,6 @@ impl<T: Copy + Default> Numbers<T> {
         Numbers {
             values: Vec::new(alloc),
             present: Vec::new(alloc),
-            has_null: false,
         }
     }
 
@@ -44,7 +40,7 @@ impl<T: Copy + Default> Numbers<T> {
     pub fn len(&self) -> usize
         ensures { result ≡ length self.now }
     {
-        self.present.len()
+        self.values.len()
     }
 
     /// Whether there are none, without taking memory.
@@ -52,15 +48,14 @@ impl<T: Copy + Default> Numbers<T> {
     pub fn is_empty(&self) -> bool
         ensures { result ≡ (length self.now == 0) }
     {
-        self.present.is_empty()
+        self.values.is_empty()
     }
 
     /// Makes room for so many more. Refuses only want of memory; the numbers stay as they are.
     pub fn reserve(&mut self, additional: usize) -> Result<(), AllocError>
         ensures { self.new ≡ self.old }
     {
-        self.values.reserve(additional)?;
-        self.present.reserve(additional)
+        self.values.reserve(additional)
     }
 
     /// Puts a number at the end. Refuses only want of memory, and is then as it was.
@@ -69,10 +64,7 @@ impl<T: Copy + Default> Numbers<T> {
         ensures ok { OnOk result (self.new ≡ self.old ++ Some value ∷ []) }
         ensures err { OnErr result (self.new ≡ self.old) }
     {
-        self.values.reserve(1)?;
-        self.present.reserve(1)?;
-        self.values.push_reserved(value);
-        self.present.push_reserved(true);
+        self.values.push(value)?;
         Ok(())
     }
 
@@ -83,24 +75,24 @@ impl<T: Copy + Default> Numbers<T> {
         ensures err { OnErr result (self.new ≡ self.old) }
     {
         self.values.reserve(1)?;
-        self.present.reserve(1)?;
+        self.present.resize(self.values.len(), true)?;
+        self.present.push(false)?;
         self.values.push_reserved(T::default());
-        self.present.push_reserved(false);
-        self.has_null = true;
         Ok(())
     }
 
     /// Puts other numbers behind these. Refuses only want of memory, and is then as it was.
-    #[tactic(auto, using(crate::proofs::JoinLaws::joined_flags))]
     pub fn append(&mut self, other: &Numbers<T>) -> Result<(), AllocError>
         ensures ok { OnOk result (self.new ≡ self.old ++ other.now) }
         ensures err { OnErr result (self.new ≡ self.old) }
     {
+        if other.present.is_empty() {
+            return self.values.extend_from_slice(&other.values);
+        }
         self.values.reserve(other.values.len())?;
-        self.present.reserve(other.present.len())?;
+        self.present.resize(self.values.len(), true)?;
+        self.present.extend_from_slice(&other.present)?;
         extend_reserved(&mut self.values, &other.values);
-        extend_reserved(&mut self.present, &other.present);
-        self.has_null = self.has_null || other.has_null;
         Ok(())
     }
 
@@ -121,7 +113,6 @@ impl<T: Copy + Default> Numbers<T> {
         Ok(Numbers {
             values: copy_of(alloc, &self.values)?,
             present: copy_of(alloc, &self.present)?,
-            has_null: self.has_null,
         })
     }
 
@@ -131,10 +122,10 @@ impl<T: Copy + Default> Numbers<T> {
         requires { i < length self.now }
         ensures { slice_get self.now i ≡ Some result }
     {
-        if !self.has_null || self.present[i] {
-            Some(self.values[i])
-        } else {
+        if i < self.present.len() && !self.present[i] {
             None
+        } else {
+            Some(self.values[i])
         }
     }
 

@@ -5,11 +5,7 @@ use Rattle.pl_rows.specs.Pieces.{plan_behind, HasReadPiece}
 use Rattle.pl_rows.specs.Plan.{states, CanRead}
 use Rattle.pl_rows.proofs.FrameLaws.{written_back, CanRead-empty}
 use Rattle.pl_rows.proofs.PieceLaws.{CanRead-behind}
-use Rattle.pl_rows.proofs.PlanLaws.{rising-below}
 use Rattle.pl_rows.proofs.apart.read_apart.Goals as goal
-
-pub empty_buffers-requires-clause-places : goal.empty_buffers-requires-clause-places
-empty_buffers-requires-clause-places g c = rising-below 0 (length c.args.schema.now) c.args.plan.now.projection.places.now c.requires.rising
 
 pub read_piece-requires-clause-can : goal.read_piece-requires-clause-can
 read_piece-requires-clause-can g c =
@@ -35,6 +31,6 @@ returns g c =
           c.requires.meant _ rows
           (subst (λ b. HasReadPiece (plan_behind plan 0 false) piece.text given (states b) rows) (sym back)
           (subst (λ e. HasReadPiece (plan_behind plan 0 false) piece.text e (states after) rows) fresh
-          (subst (λ t. HasReadPiece (plan_behind plan 0 false) t first (states after) rows) c.bytes.ensures
-          (subst (λ p. HasReadPiece p c.bytes.result.now first (states after) rows) c.plan_behind-plan.ensures (c.in_ok-done.ensures.done.read shut)))));
+          (subst (λ t. HasReadPiece (plan_behind plan 0 false) t first (states after) rows) c.bytes-2.ensures
+          (subst (λ p. HasReadPiece p c.bytes-2.result.now first (states after) rows) c.plan_behind-plan.ensures (c.in_ok-done.ensures.done.read shut)))));
     }

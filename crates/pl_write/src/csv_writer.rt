@@ -87,7 +87,7 @@ impl<S: Sink> CsvWriter<S> {
         self
     }
 
-    /// Sets how many rows are a batch, 0 counting as 1. Each thread prints up to four batches at a time, and a frame of no
+    /// Sets how many rows are a batch, 0 counting as 1. Each thread prints up to eight batches at a time, and a frame of no
     /// more than one is printed by the caller. The text is the same whatever the size.
     pub fn with_batch_size(mut self, batch_size: usize) -> Self
         ensures { result ≡ with_change (with_batch_size batch_size) self }

@@ -21,7 +21,7 @@ use std::thread;
 use std::thread::Threads;
 
 // So many batches are a share, or fewer.
-const BATCHES: usize = 4;
+const BATCHES: usize = 8;
 
 // So many cells are a share, or fewer, where a row has no more.
 const CELLS: usize = 1 << 17;

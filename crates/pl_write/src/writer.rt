@@ -325,7 +325,7 @@ fn write_side_by_side<W: Threads + Sync, Si: Sink>(
 /// Appends the text of a frame to a sink, printed by so many workers, and by 64 at most.
 ///
 /// The rows are printed in batches of the options' size, of which 0 counts as 1. A frame of no more than one batch, and each
-/// frame where one worker is asked for, is printed by the caller, a block at a time. Else each worker prints up to four batches
+/// frame where one worker is asked for, is printed by the caller, a block at a time. Else each worker prints up to eight batches
 /// at a time, and fewer of wide rows, which the caller then writes in order. Where a thread can't be started, the caller prints
 /// in its place.
 ///

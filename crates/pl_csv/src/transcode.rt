@@ -11,6 +11,7 @@ use pl_infer::read_options::CsvReadOptions;
 use pl_read::checks::check_options;
 use pl_read::csv_reader::OpenGate;
 use pl_read::reading::read_checked;
+use pl_read::workers::worker_count;
 use pl_write::options::CsvWriterOptions;
 use pl_write::writer::write_frame;
 use std::alloc::Global;
@@ -62,7 +63,8 @@ pub fn transcode<W: Threads + Wait + Sync, S: Sink>(
     ensures later_wants { S.wants sink.old ≤ S.wants sink.new }
 {
     let frame = read_valid(rt, alloc, input, read, write)?;
-    match write_frame(alloc, frame.columns(), write, sink) {
+    let workers = worker_count(read.n_threads);
+    match write_frame(rt, alloc, workers, frame.columns(), write, sink) {
         Ok(()) => Ok(frame),
         Err(SinkFault::Device) => Err(PolarsError::IO),
         Err(SinkFault::OutOfMemory) => Err(PolarsError::OutOfMemory),

@@ -112,10 +112,15 @@ fn two_columns_are_read(rt: HostRuntime) {
 }
 
 // Writes a frame with semicolons.
-fn write_a_frame(alloc: Global, frame: &DataFrame, sink: &mut MemSink) -> PolarsResult<()> {
+fn write_a_frame<W: Threads + Sync>(
+    rt: &W,
+    alloc: Global,
+    frame: &DataFrame,
+    sink: &mut MemSink,
+) -> PolarsResult<()> {
     CsvWriter::new(alloc, sink)?
         .with_separator(b';')
-        .finish(frame)
+        .finish(rt, frame)
 }
 
 // The frame of orders in a text.
@@ -132,7 +137,7 @@ fn a_frame_is_written(rt: HostRuntime) {
     let text = b"id,name,amount\n1,\"Berg, Anna\",2.5\n";
     let frame = orders_of(&rt, alloc, text);
     let mut sink = MemSink::new(alloc);
-    let written = write_a_frame(alloc, &frame, &mut sink);
+    let written = write_a_frame(&rt, alloc, &frame, &mut sink);
     written.expect(&rt, "a text");
     let text = b"id;name;amount\n1;Berg, Anna;2.50\n";
     assert!(rt; sink.received() == text.as_slice());

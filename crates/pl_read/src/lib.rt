@@ -14,4 +14,4 @@ pub mod reader_makers;
 pub mod reading;
 mod settling;
 pub mod slices;
-mod workers;
+pub mod workers;

@@ -10,6 +10,7 @@ mod LeftLaws
 mod LineLaws
 mod PaddedLaws
 mod PointLaws
+pub mod PrintLaws
 pub mod PutLaws
 pub mod SourceLaws
 mod SpecialLaws

@@ -3,6 +3,7 @@ pub mod CellSources
 pub mod CellsLeft
 pub mod Lines
 pub mod Options
+pub mod Printing
 pub mod Serializing
 pub mod Special
 pub mod Writing

@@ -1,6 +1,7 @@
 //! The writer of frames.
 ghost use Rattle.std.specs.Prelude.{◌≡◌, ◌≤◌, true, IfOk, IfErr, OnOk, IsOkUnless};
 ghost use Rattle.std.specs.Io.KnownBytes.{Appends};
+ghost use Rattle.std.specs.Thread.{IsSync};
 ghost use Rattle.pl_frame.specs.declared.error.PolarsError.TheVariants as error;
 ghost use Rattle.pl_frame.specs.Columns.{is_number};
 ghost use Rattle.pl_frame.specs.Text.{text_of_frame};
@@ -16,6 +17,7 @@ use pl_frame::name::PlSmallStr;
 use pl_frame::sink::{Sink, SinkFault};
 use std::alloc::Global;
 use std::marker::Model;
+use std::thread::Threads;
 
 /// What writes frames to a sink.
 pub trait SerWriter<S: Sink> {
@@ -27,11 +29,12 @@ pub trait SerWriter<S: Sink> {
         ensures made { IfOk result (λ made. writer made ≡ record { sink = sink; options = default_options; n_threads = 4 }) }
         ensures refused { IsOkUnless result error.OutOfMemory };
 
-    /// Appends the text of a frame to the sink.
+    /// Appends the text of a frame to the sink, printed by the writer's number of threads.
     ///
     /// Refuses `Option` where no thread is to write, and then a quote that is not ASCII, and the writer is then as it was; a
     /// fault of the sink; and want of memory. A prefix of the text was then appended.
-    fn finish(&mut self, df: &DataFrame) -> PolarsResult<()>
+    fn finish<W: Threads + Sync>(&mut self, rt: &W, df: &DataFrame) -> PolarsResult<()>
+        requires { IsSync W.row }
         ensures written { OnOk result (Appends (S.received (writer self.old).sink) (S.received (writer self.new).sink) (text_of_frame (frame_options (writer self.old).options) df.now)) }
         ensures can { OnOk result (CanWrite (writer self.old).n_threads (writer self.old).options.serialize_options.quote_char) }
         ensures prefix { AppendsPrefix (S.received (writer self.old).sink) (S.received (writer self.new).sink) (text_of_frame (frame_options (writer self.old).options) df.now) }
@@ -84,7 +87,8 @@ impl<S: Sink> CsvWriter<S> {
         self
     }
 
-    /// Sets the batch size, which has no effect: a frame is written in blocks of bytes.
+    /// Sets how many rows are a batch, 0 counting as 1. Each thread prints up to eight batches at a time, and a frame of no
+    /// more than one is printed by the caller. The text is the same whatever the size.
     pub fn with_batch_size(mut self, batch_size: usize) -> Self
         ensures { result ≡ with_change (with_batch_size batch_size) self }
     {
@@ -124,7 +128,7 @@ impl<S: Sink> CsvWriter<S> {
         self
     }
 
-    /// Sets the number of threads, which must not be 0 where a frame is written. It is written on the caller's thread,
+    /// Sets how many threads print a frame, which must not be 0 where one is written; 64 at most do. The text is the same
     /// whatever the number.
     pub fn n_threads(mut self, n_threads: usize) -> Self
         ensures { result ≡ with_threads n_threads self }
@@ -171,9 +175,16 @@ impl<S: Sink + Drop> SerWriter<S> for CsvWriter<S> {
         })
     }
 
-    fn finish(&mut self, df: &DataFrame) -> PolarsResult<()> {
+    fn finish<W: Threads + Sync>(&mut self, rt: &W, df: &DataFrame) -> PolarsResult<()> {
         can_write(self.n_threads, self.options.serialize_options.quote_char)?;
-        match write_frame(self.alloc, df.columns(), &self.options, &mut self.sink) {
+        match write_frame(
+            rt,
+            self.alloc,
+            self.n_threads,
+            df.columns(),
+            &self.options,
+            &mut self.sink,
+        ) {
             Ok(()) => Ok(()),
             Err(SinkFault::Device) => Err(PolarsError::IO),
             Err(SinkFault::OutOfMemory) => Err(PolarsError::OutOfMemory),

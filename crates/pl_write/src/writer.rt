@@ -7,17 +7,19 @@ ghost use Rattle.pl_frame.specs.Columns.{is_number_of};
 ghost use Rattle.pl_frame.specs.Types.{is_numeric};
 ghost use Rattle.pl_frame.specs.Frame.{cell_at, HaveHeight, height_of, names_of};
 ghost use Rattle.pl_frame.specs.Printed.{number_text};
-ghost use Rattle.pl_frame.specs.Text.{written_cell, written_value, written_text, header_line, head_text, byte_order_mark, text_of_frame};
+ghost use Rattle.pl_frame.specs.Text.{written_cell, written_value, written_text, header_line, head_text, byte_order_mark, row_lines, text_of_frame};
 ghost use Rattle.pl_write.specs.Options.{cell_options, frame_options};
 ghost use Rattle.pl_write.specs.CellForms.{FitsForm, number_or_null};
+ghost use Rattle.pl_write.specs.CellSources.{HaveSources};
 ghost use Rattle.pl_write.specs.declared.cell_form.CellForm.TheVariants as CellForm;
 ghost use Rattle.pl_write.specs.Writing.{separator_before, AppendsPrefix, StaysInFront};
 
 use crate::block::Block;
 use crate::cell_form::CellForm;
-use crate::cell_source::sources_of;
+use crate::cell_source::{CellSource, sources_of};
 use crate::lines::{append_rows, line_count, new_lines};
 use crate::options::{CsvWriterOptions, SerializeOptions};
+use crate::printing::write_by_workers;
 use crate::spare::Spare;
 use crate::texts::{push_as_needed, push_null, push_text};
 use crate::values::{push_number_cell, push_truth_cell};
@@ -27,9 +29,13 @@ use pl_frame::data_type::DataType;
 use pl_frame::numbers::Numbers;
 use pl_frame::sink::{Sink, SinkFault, write_all};
 use std::alloc::{AllocError, Global};
+use std::thread::Threads;
 
 // So many bytes are written at a time, or some rows more.
 const BLOCK: usize = 1 << 17;
+
+// So many workers print at most.
+const WORKERS: usize = 64;
 
 // Appends a text, quoted as the style asks.
 #[inline]
@@ -237,34 +243,31 @@ fn row_count(columns: &[Column]) -> usize
     }
 }
 
-/// Appends the text of a frame to a sink, a block at a time.
-///
-/// Refuses a fault of the device, and want of memory, here or in the sink. A prefix of the text was then appended.
-pub fn write_frame<Si: Sink>(
+// Appends what stands before the rows to a sink, which is in a block, and then the lines of the rows, a block at a time.
+//
+// Refuses a fault of the device, and want of memory, here or in the sink. A prefix of these was then appended.
+fn write_in_blocks<Si: Sink>(
     alloc: Global,
+    mut block: Block,
     columns: &[Column],
-    options: &CsvWriterOptions,
+    sources: &[CellSource<'_>],
+    height: usize,
+    options: &SerializeOptions,
     sink: &mut Si,
 ) -> Result<(), SinkFault>
-    requires { HaveHeight (height_of columns.now) columns.now }
-    ensures text { OnOk result (Appends (Si.received sink.old) (Si.received sink.new) (text_of_frame (frame_options options.now) columns.now)) }
-    ensures prefix { AppendsPrefix (Si.received sink.old) (Si.received sink.new) (text_of_frame (frame_options options.now) columns.now) }
+    requires columns { HaveHeight height columns.now }
+    requires sources { HaveSources (cell_options options.now) columns.now sources.now }
+    ensures text { OnOk result (Appends (Si.received sink.old) (Si.received sink.new) (block ++ row_lines (cell_options options.now) columns.now 0 height)) }
+    ensures prefix { AppendsPrefix (Si.received sink.old) (Si.received sink.new) (block ++ row_lines (cell_options options.now) columns.now 0 height) }
     ensures later { Si.faults sink.old ≤ Si.faults sink.new }
     ensures later_wants { Si.wants sink.old ≤ Si.wants sink.new }
     ensures device { IsErrOf result SinkFault.Device → Rose (Si.faults sink.old) (Si.faults sink.new) }
 {
-    let Ok(sources) = sources_of(alloc, columns, &options.serialize_options) else {
-        return Err(SinkFault::OutOfMemory);
-    };
-    let Ok(mut block) = head_block(alloc, columns, options) else {
-        return Err(SinkFault::OutOfMemory);
-    };
     let Ok(mut lines) = new_lines(alloc) else {
         return Err(SinkFault::OutOfMemory);
     };
     let lines = lines.as_mut_slice();
     let mut spare = Spare::new(alloc);
-    let height = row_count(columns);
     let mut row = 0;
     while row < height {
         let count = line_count(lines, height - row);
@@ -273,9 +276,9 @@ pub fn write_frame<Si: Sink>(
             &mut lines[..count],
             &mut spare,
             columns,
-            &sources,
+            sources,
             row,
-            &options.serialize_options,
+            options,
         ) {
             Ok(()) => row += count,
             Err(_) => return Err(SinkFault::OutOfMemory),
@@ -288,4 +291,81 @@ pub fn write_frame<Si: Sink>(
         }
     }
     write_all(sink, block.as_slice())
+}
+
+// Appends what stands before the rows to a sink, and then the lines of the rows, printed by so many workers.
+//
+// Refuses a fault of the device, and want of memory, here, of a worker or in the sink. A prefix of these was then appended.
+fn write_side_by_side<W: Threads + Sync, Si: Sink>(
+    rt: &W,
+    alloc: Global,
+    workers: usize,
+    head: &[u8],
+    columns: &[Column],
+    sources: &[CellSource<'_>],
+    height: usize,
+    options: &CsvWriterOptions,
+    sink: &mut Si,
+) -> Result<(), SinkFault>
+    requires workers { 0 < workers }
+    requires columns { HaveHeight height columns.now }
+    requires sources { HaveSources (cell_options options.now.serialize_options) columns.now sources.now }
+    ensures text { OnOk result (Appends (Si.received sink.old) (Si.received sink.new) (head.now ++ row_lines (cell_options options.now.serialize_options) columns.now 0 height)) }
+    ensures prefix { AppendsPrefix (Si.received sink.old) (Si.received sink.new) (head.now ++ row_lines (cell_options options.now.serialize_options) columns.now 0 height) }
+    ensures later { Si.faults sink.old ≤ Si.faults sink.new }
+    ensures later_wants { Si.wants sink.old ≤ Si.wants sink.new }
+    ensures device { IsErrOf result SinkFault.Device → Rose (Si.faults sink.old) (Si.faults sink.new) }
+{
+    match write_all(sink, head) {
+        Ok(()) => { write_by_workers(rt, alloc, workers, columns, sources, height, options, sink) }
+        Err(fault) => Err(fault),
+    }
+}
+
+/// Appends the text of a frame to a sink, printed by so many workers, and by 64 at most.
+///
+/// The rows are printed in batches of the options' size, of which 0 counts as 1. A frame of no more than one batch, and each
+/// frame where one worker is asked for, is printed by the caller, a block at a time. Else each worker prints up to eight batches
+/// at a time, and fewer of wide rows, which the caller then writes in order. Where a thread can't be started, the caller prints
+/// in its place.
+///
+/// Refuses a fault of the device, and want of memory, here, of a worker or in the sink. A prefix of the text was then appended.
+pub fn write_frame<W: Threads + Sync, Si: Sink>(
+    rt: &W,
+    alloc: Global,
+    workers: usize,
+    columns: &[Column],
+    options: &CsvWriterOptions,
+    sink: &mut Si,
+) -> Result<(), SinkFault>
+    requires workers { 0 < workers }
+    requires columns { HaveHeight (height_of columns.now) columns.now }
+    ensures text { OnOk result (Appends (Si.received sink.old) (Si.received sink.new) (text_of_frame (frame_options options.now) columns.now)) }
+    ensures prefix { AppendsPrefix (Si.received sink.old) (Si.received sink.new) (text_of_frame (frame_options options.now) columns.now) }
+    ensures later { Si.faults sink.old ≤ Si.faults sink.new }
+    ensures later_wants { Si.wants sink.old ≤ Si.wants sink.new }
+    ensures device { IsErrOf result SinkFault.Device → Rose (Si.faults sink.old) (Si.faults sink.new) }
+{
+    let cells = &options.serialize_options;
+    let Ok(sources) = sources_of(alloc, columns, cells) else {
+        return Err(SinkFault::OutOfMemory);
+    };
+    let Ok(head) = head_block(alloc, columns, options) else {
+        return Err(SinkFault::OutOfMemory);
+    };
+    let height = row_count(columns);
+    if workers == 1 || height <= options.batch_size.max(1) {
+        return write_in_blocks(alloc, head, columns, &sources, height, cells, sink);
+    }
+    write_side_by_side(
+        rt,
+        alloc,
+        workers.min(WORKERS),
+        head.as_slice(),
+        columns,
+        &sources,
+        height,
+        options,
+        sink,
+    )
 }

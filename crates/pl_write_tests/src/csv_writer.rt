@@ -13,10 +13,11 @@ use pl_write::csv_writer::{CsvWriter, SerWriter};
 use pl_write::options::{CsvWriterOptions, QuoteStyle};
 use std::alloc::Global;
 use std::process::Abort;
+use std::thread::Threads;
 
 // Writes a frame in a style, with `NA` for a null.
-fn write_styled(
-    rt: &impl Abort,
+fn write_styled<W: Abort + Threads + Sync>(
+    rt: &W,
     alloc: Global,
     sink: &mut MemSink,
     frame: &DataFrame,
@@ -25,12 +26,12 @@ fn write_styled(
     let writer = CsvWriter::new(alloc, sink).expect(rt, "a writer");
     let null = name(rt, alloc, "NA");
     let mut writer = writer.with_null_value(null).with_quote_style(style);
-    writer.finish(frame).expect(rt, "a text");
+    writer.finish(rt, frame).expect(rt, "a text");
 }
 
 // Whether a frame is written as this text in a style.
-fn is_written(
-    rt: &impl Abort,
+fn is_written<W: Abort + Threads + Sync>(
+    rt: &W,
     alloc: Global,
     frame: &DataFrame,
     style: QuoteStyle,
@@ -59,15 +60,20 @@ fn nulls_and_texts_in_four_styles(rt: HostRuntime) {
 }
 
 // Writes a frame without a header.
-fn write_rows(rt: &impl Abort, alloc: Global, sink: &mut MemSink, frame: &DataFrame) {
+fn write_rows<W: Abort + Threads + Sync>(
+    rt: &W,
+    alloc: Global,
+    sink: &mut MemSink,
+    frame: &DataFrame,
+) {
     let writer = CsvWriter::new(alloc, sink).expect(rt, "a writer");
     let mut writer = writer.include_header(false);
-    writer.finish(frame).expect(rt, "a text");
+    writer.finish(rt, frame).expect(rt, "a text");
 }
 
 // Whether two numbers are written as these lines.
-fn are_written(
-    rt: &impl Abort,
+fn are_written<W: Abort + Threads + Sync>(
+    rt: &W,
     alloc: Global,
     dtype: DataType,
     first: i128,
@@ -129,7 +135,12 @@ fn truths(rt: &impl Abort, alloc: Global) -> DataFrame {
 }
 
 // Writes a frame with settings of its own.
-fn write_set(rt: &impl Abort, alloc: Global, sink: &mut MemSink, frame: &DataFrame) {
+fn write_set<W: Abort + Threads + Sync>(
+    rt: &W,
+    alloc: Global,
+    sink: &mut MemSink,
+    frame: &DataFrame,
+) {
     let writer = CsvWriter::new(alloc, sink).expect(rt, "a writer");
     let end = name(rt, alloc, "\r\n");
     let mut writer = writer
@@ -139,7 +150,7 @@ fn write_set(rt: &impl Abort, alloc: Global, sink: &mut MemSink, frame: &DataFra
         .with_quote_style(QuoteStyle::Always)
         .with_line_terminator(end)
         .with_batch_size(0);
-    writer.finish(frame).expect(rt, "a text");
+    writer.finish(rt, frame).expect(rt, "a text");
 }
 
 #[test]
@@ -151,8 +162,8 @@ fn settings_take_effect(rt: HostRuntime) {
 }
 
 // Writes a frame by options that are set at once behind others.
-fn write_by(
-    rt: &impl Abort,
+fn write_by<W: Abort + Threads + Sync>(
+    rt: &W,
     alloc: Global,
     sink: &mut MemSink,
     frame: &DataFrame,
@@ -161,7 +172,7 @@ fn write_by(
     let writer = CsvWriter::new(alloc, sink).expect(rt, "a writer");
     let writer = writer.with_quote_style(QuoteStyle::Always);
     let mut writer = writer.with_options(options).expect(rt, "a writer");
-    writer.finish(frame).expect(rt, "a text");
+    writer.finish(rt, frame).expect(rt, "a text");
 }
 
 #[test]
@@ -176,13 +187,18 @@ fn all_options_are_set_at_once(rt: HostRuntime) {
 }
 
 // Refuses no threads, and then a quote that is not ASCII.
-fn refuse_both(rt: &impl Abort, alloc: Global, sink: &mut MemSink, frame: &DataFrame) {
+fn refuse_both<W: Abort + Threads + Sync>(
+    rt: &W,
+    alloc: Global,
+    sink: &mut MemSink,
+    frame: &DataFrame,
+) {
     let writer = CsvWriter::new(alloc, sink).expect(rt, "a writer");
     let mut writer = writer.n_threads(0).with_quote_char(0xFF);
-    let refused = writer.finish(frame);
+    let refused = writer.finish(rt, frame);
     assert!(rt; matches!(refused, Err(PolarsError::InvalidOperation(OpFault::Option))));
     let mut writer = writer.n_threads(1);
-    let refused = writer.finish(frame);
+    let refused = writer.finish(rt, frame);
     assert!(rt; matches!(refused, Err(PolarsError::ComputeError(ComputeFault::Quote))));
 }
 
@@ -194,9 +210,14 @@ fn refusals_come_before_any_byte(rt: HostRuntime) {
 }
 
 // Whether a frame can't be written to a sink for its fault.
-fn fails(rt: &impl Abort, alloc: Global, sink: &mut PipeSink, frame: &DataFrame) -> bool {
+fn fails<W: Abort + Threads + Sync>(
+    rt: &W,
+    alloc: Global,
+    sink: &mut PipeSink,
+    frame: &DataFrame,
+) -> bool {
     let mut writer = CsvWriter::new(alloc, sink).expect(rt, "a writer");
-    matches!(writer.finish(frame), Err(PolarsError::IO))
+    matches!(writer.finish(rt, frame), Err(PolarsError::IO))
 }
 
 #[test]

@@ -9,3 +9,5 @@ mod given;
 mod options;
 #[cfg(test)]
 mod serializer;
+#[cfg(test)]
+mod workers;

@@ -1,0 +1,227 @@
+//! The rows of a frame, printed by several workers side by side and written in order.
+ghost use Rattle.std.specs.Prelude.{◌≡◌, ◌⊎◌, ℕ, ◌-◌, ◌<◌, ◌≤◌, false, All, length, slice_index_or, IfOk, OnOk, IsErrOf};
+ghost use Rattle.std.specs.Bool.{OnTrue};
+ghost use Rattle.std.specs.Io.KnownBytes.{Appends};
+ghost use Rattle.pl_frame.specs.Causes.{Rose};
+ghost use Rattle.pl_frame.specs.Frame.{HaveHeight};
+ghost use Rattle.pl_frame.specs.Text.{row_lines};
+ghost use Rattle.pl_write.specs.CellSources.{HaveSources};
+ghost use Rattle.pl_write.specs.Lines.{HaveRows};
+ghost use Rattle.pl_write.specs.Options.{cell_options};
+ghost use Rattle.pl_write.specs.Printing.{ShareValue, FollowOn, texts_of};
+ghost use Rattle.pl_write.specs.Writing.{AppendsPrefix};
+
+use crate::cell_source::CellSource;
+use crate::options::{CsvWriterOptions, SerializeOptions};
+use crate::share::Share;
+use pl_frame::column::Column;
+use pl_frame::sink::{Sink, SinkFault, write_all};
+use std::alloc::{AllocError, Global};
+use std::thread;
+use std::thread::Threads;
+
+// So many batches are a share, or fewer.
+const BATCHES: usize = 8;
+
+// So many cells are a share, or fewer, where a row has no more.
+const CELLS: usize = 1 << 17;
+
+// So many shares of no rows. Refuses only want of memory.
+fn new_shares(alloc: Global, workers: usize) -> Result<Vec<Share>, AllocError>
+    requires { 0 < workers }
+    ensures { IfOk result (λ shares. 0 < length shares.items) }
+{
+    let mut shares = Vec::new(alloc);
+    shares.push(Share::new(alloc)?)?;
+    for _ in 1..workers {
+        shares.push(Share::new(alloc)?)?;
+    }
+    Ok(shares)
+}
+
+// How many rows are a share, where so many are left.
+fn share_size(batch_size: usize, width: usize, left: usize, workers: usize) -> usize
+    requires { 0 < workers }
+    ensures { 0 < result }
+{
+    let most = batch_size.max(1).saturating_mul(BATCHES);
+    let narrow = CELLS / width.max(1);
+    most.min(narrow).min(left.div_ceil(workers)).max(1)
+}
+
+// The row behind a share that begins at a row: so many rows behind, or behind the last.
+fn end_of(row: usize, height: usize, count: usize) -> usize
+    requires row { row ≤ height }
+    requires count { 0 < count }
+    ensures further { (row < result) ⊎ (height ≡ row) }
+    ensures up { row ≤ result }
+    ensures inside { result ≤ height }
+{
+    if count < height - row {
+        row + count
+    } else {
+        height
+    }
+}
+
+// Gives the shares the rows from one on, so many each while there are as many, and answers the row behind the last.
+fn set_rows(shares: &mut [Share], first: usize, height: usize, count: usize) -> usize
+    requires first { first < height }
+    requires count { 0 < count }
+    requires shares { 0 < length shares.old }
+    ensures rows { FollowOn first result shares.new }
+    ensures further { first < result }
+    ensures inside { result ≤ height }
+{
+    let mut row = first;
+    for share in shares.iter_mut() {
+        let end = end_of(row, height, count);
+        share.set_rows(row, end);
+        row = end;
+    }
+    row
+}
+
+// Prints the rows of each share, the shares side by side.
+fn print_each<W: Threads + Sync>(
+    rt: &W,
+    workers: usize,
+    shares: &mut [Share],
+    columns: &[Column],
+    sources: &[CellSource<'_>],
+    options: &SerializeOptions,
+)
+    requires workers { 0 < workers }
+    requires rows { All (λ share. HaveRows share.end columns.now) shares.old }
+    requires sources { HaveSources (cell_options options.now) columns.now sources.now }
+    ensures { (i : ℕ) (d : ShareValue) → i < length shares.old
+        → (slice_index_or shares.new i d).wanting ≡ false
+        → (slice_index_or shares.new i d).text ≡ row_lines (cell_options options.now) columns.now (slice_index_or shares.old i d).first ((slice_index_or shares.old i d).end - (slice_index_or shares.old i d).first) }
+{
+    let print = |_: usize, share: &mut Share|
+        requires rows { HaveRows share.old.end columns.now }
+        requires sources { HaveSources (cell_options options.now) columns.now sources.now }
+        ensures { share.new.wanting ≡ false → share.new.text ≡ row_lines (cell_options options.entry.now) columns.entry.now share.old.first (share.old.end - share.old.first) }
+    { share.print(columns, sources, options) };
+    thread::for_each_mut(rt, shares, workers, &print);
+}
+
+// Whether memory sufficed for all shares.
+fn are_printed(shares: &[Share]) -> bool
+    ensures { OnTrue result (All (λ share. share.wanting ≡ false) shares.now) }
+{
+    for share in shares {
+        if share.is_wanting() {
+            return false;
+        }
+    }
+    true
+}
+
+// Appends the texts of the shares to a sink, one behind the other. Refuses a fault of the device, and want of memory in the
+// sink. A prefix of the texts was then appended.
+fn write_each<Si: Sink>(shares: &[Share], sink: &mut Si) -> Result<(), SinkFault>
+    ensures text { OnOk result (Appends (Si.received sink.old) (Si.received sink.new) (texts_of shares.now)) }
+    ensures prefix { AppendsPrefix (Si.received sink.old) (Si.received sink.new) (texts_of shares.now) }
+    ensures later { Si.faults sink.old ≤ Si.faults sink.new }
+    ensures later_wants { Si.wants sink.old ≤ Si.wants sink.new }
+    ensures device { IsErrOf result SinkFault.Device → Rose (Si.faults sink.old) (Si.faults sink.new) }
+{
+    for share in shares {
+        match write_all(sink, share.as_slice()) {
+            Ok(()) => {}
+            Err(fault) => return Err(fault),
+        }
+    }
+    Ok(())
+}
+
+// Prints a share of the rows from one on with each worker, so many rows each or fewer, and appends their lines to a sink in
+// order. Answers the row behind the last.
+//
+// Refuses a fault of the device, and want of memory, of a worker or in the sink. A prefix of the lines was then appended.
+fn write_round<W: Threads + Sync, Si: Sink>(
+    rt: &W,
+    workers: usize,
+    shares: &mut [Share],
+    columns: &[Column],
+    sources: &[CellSource<'_>],
+    options: &SerializeOptions,
+    first: usize,
+    height: usize,
+    count: usize,
+    sink: &mut Si,
+) -> Result<usize, SinkFault>
+    requires workers { 0 < workers }
+    requires shares { 0 < length shares.old }
+    requires columns { HaveHeight height columns.now }
+    requires sources { HaveSources (cell_options options.now) columns.now sources.now }
+    requires first { first < height }
+    requires count { 0 < count }
+    ensures further { IfOk result (λ end. first < end) }
+    ensures inside { IfOk result (λ end. end ≤ height) }
+    ensures text { IfOk result (λ end. Appends (Si.received sink.old) (Si.received sink.new) (row_lines (cell_options options.now) columns.now first (end - first))) }
+    ensures prefix { AppendsPrefix (Si.received sink.old) (Si.received sink.new) (row_lines (cell_options options.now) columns.now first (height - first)) }
+    ensures later { Si.faults sink.old ≤ Si.faults sink.new }
+    ensures later_wants { Si.wants sink.old ≤ Si.wants sink.new }
+    ensures device { IsErrOf result SinkFault.Device → Rose (Si.faults sink.old) (Si.faults sink.new) }
+{
+    let end = set_rows(shares, first, height, count);
+    print_each(rt, workers, shares, columns, sources, options);
+    if !are_printed(shares) {
+        return Err(SinkFault::OutOfMemory);
+    }
+    match write_each(shares, sink) {
+        Ok(()) => Ok(end),
+        Err(fault) => Err(fault),
+    }
+}
+
+/// Appends the lines of the rows to a sink, printed by so many workers.
+///
+/// Refuses a fault of the device, and want of memory, here, of a worker or in the sink. A prefix of the lines was then
+/// appended.
+pub(crate) fn write_by_workers<W: Threads + Sync, Si: Sink>(
+    rt: &W,
+    alloc: Global,
+    workers: usize,
+    columns: &[Column],
+    sources: &[CellSource<'_>],
+    height: usize,
+    options: &CsvWriterOptions,
+    sink: &mut Si,
+) -> Result<(), SinkFault>
+    requires workers { 0 < workers }
+    requires columns { HaveHeight height columns.now }
+    requires sources { HaveSources (cell_options options.now.serialize_options) columns.now sources.now }
+    ensures text { OnOk result (Appends (Si.received sink.old) (Si.received sink.new) (row_lines (cell_options options.now.serialize_options) columns.now 0 height)) }
+    ensures prefix { AppendsPrefix (Si.received sink.old) (Si.received sink.new) (row_lines (cell_options options.now.serialize_options) columns.now 0 height) }
+    ensures later { Si.faults sink.old ≤ Si.faults sink.new }
+    ensures later_wants { Si.wants sink.old ≤ Si.wants sink.new }
+    ensures device { IsErrOf result SinkFault.Device → Rose (Si.faults sink.old) (Si.faults sink.new) }
+{
+    let Ok(mut shares) = new_shares(alloc, workers) else {
+        return Err(SinkFault::OutOfMemory);
+    };
+    let shares = shares.as_mut_slice();
+    let mut row = 0;
+    while row < height {
+        let count = share_size(options.batch_size, columns.len(), height - row, workers);
+        match write_round(
+            rt,
+            workers,
+            shares,
+            columns,
+            sources,
+            &options.serialize_options,
+            row,
+            height,
+            count,
+            sink,
+        ) {
+            Ok(end) => row = end,
+            Err(fault) => return Err(fault),
+        }
+    }
+    Ok(())
+}

@@ -4,6 +4,7 @@ ghost use Rattle.std.specs.Option.{option_copied, unwrap_or, option_map};
 ghost use Rattle.pl_table.specs.Tables.{AreWithin, fields_of, placed_text};
 ghost use Rattle.pl_cells.specs.BufferValue.{Answers, with_values, cut_to, reading_of};
 ghost use Rattle.pl_cells.specs.Cells.{cell, value_of};
+ghost use Rattle.pl_cells.specs.Columns as spec;
 ghost use Rattle.pl_cells.specs.Columns.{field_in, column_cells, AreSound, AddsCells};
 ghost use Rattle.pl_cells.specs.InitBuffers.{state_of};
 ghost use Rattle.pl_cells.specs.NullValues.{HaveTexts, means_null};
@@ -41,9 +42,21 @@ fn bytes_of(field: Placed<'_>) -> &[u8]
     &field.upto[field.start..]
 }
 
-// Puts the cell of a field of a column at the end. Refuses the cell's fault, and want of memory; the buffer is then as it was.
+// Whether no number begins with the quote.
 #[inline(always)]
-fn put_placed<B: CellBuffer>(
+fn is_apart_from_numbers(quote_char: Option<u8>) -> bool
+    ensures { result ≡ spec.is_apart_from_numbers quote_char }
+{
+    match quote_char {
+        None => true,
+        Some(quote) => !(quote.is_ascii_digit() || quote == b'-'),
+    }
+}
+
+// Puts the cell of a field of a column at the end, whatever it is. Refuses the cell's fault, and want of memory; the buffer is
+// then as it was. It is not put where it is called, so that the loop that calls it stays short.
+#[inline(never)]
+fn put_other<B: CellBuffer>(
     buffer: &mut B,
     field: Placed<'_>,
     quote_char: Option<u8>,
@@ -58,7 +71,7 @@ fn put_placed<B: CellBuffer>(
 {
     let bytes = bytes_of(field);
     if !is_null_field(null_values, bytes, column, quote_char) {
-        let seen = buffer.put_seen(field, quote_char)?;
+        let seen = buffer.put_between(field, quote_char)?;
         if seen {
             return Ok(());
         }
@@ -66,6 +79,41 @@ fn put_placed<B: CellBuffer>(
     put_field(
         buffer,
         bytes,
+        quote_char,
+        null_values,
+        column,
+        ignore_errors,
+        missing_is_null,
+    )
+}
+
+// Puts the cell of a field of a column at the end. Refuses the cell's fault, and want of memory; the buffer is then as it was.
+// `apart` says whether no number begins with the quote.
+#[inline(always)]
+fn put_placed<B: CellBuffer>(
+    buffer: &mut B,
+    field: Placed<'_>,
+    apart: bool,
+    quote_char: Option<u8>,
+    null_values: Option<&NullValuesCompiled>,
+    column: usize,
+    ignore_errors: bool,
+    missing_is_null: bool,
+) -> Result<(), CellFault>
+    requires inside { field.start ≤ length field.upto.now }
+    requires apart { apart ≡ spec.is_apart_from_numbers quote_char }
+    requires texts { HaveTexts null_values (suc column) }
+    ensures { Answers (B.state buffer.old) (B.state buffer.new) (cell (reading_of (B.state buffer.old) missing_is_null ignore_errors) (means_null (option_copied null_values.entry) column) quote_char (B.state buffer.old).dtype (placed_text field.entry)) result }
+{
+    if apart && !is_null_field(null_values, bytes_of(field), column, quote_char) {
+        let seen = buffer.put_seen(field, quote_char)?;
+        if seen {
+            return Ok(());
+        }
+    }
+    put_other(
+        buffer,
+        field,
         quote_char,
         null_values,
         column,
@@ -95,11 +143,13 @@ fn put_column<B: CellBuffer>(
     ensures kept { OnErr result (cut_to (length (B.state buffer.old).values) (B.state buffer.new) ≡ B.state buffer.old) }
 {
     buffer.make_room(rows)?;
+    let apart = is_apart_from_numbers(quote_char);
     for row in 0..rows {
         let field = placed_in(table, text, row, column);
         let put = put_placed(
             buffer,
             field,
+            apart,
             quote_char,
             null_values,
             column,

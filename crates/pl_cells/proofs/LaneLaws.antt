@@ -91,11 +91,11 @@ digits_from_lanes lanes long =
 
 -- ---- lanes that are kept
 
-lower : (t : Bool) (y z : ℕ) → (t ≡ true → y ≡ z) → cond (top 7 (cond t 255 0)) y z ≡ z
+pub lower : (t : Bool) (y z : ℕ) → (t ≡ true → y ≡ z) → cond (top 7 (cond t 255 0)) y z ≡ z
 lower true y z h = h refl
 lower false y z h = refl
 
-upper : (t : Bool) (y z : ℕ) → (t ≡ false → y ≡ z) → cond (top 7 (cond t 255 0)) y z ≡ y
+pub upper : (t : Bool) (y z : ℕ) → (t ≡ false → y ≡ z) → cond (top 7 (cond t 255 0)) y z ≡ y
 upper true y z h = refl
 upper false y z h = sym (h refl)
 

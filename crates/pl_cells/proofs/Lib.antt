@@ -1,3 +1,4 @@
+pub mod AroundLaws
 mod AsciiLaws
 pub mod BufferLaws
 pub mod CastLaws

@@ -1,6 +1,7 @@
 //! The text of a field and the value that it has: whole numbers, booleans, dates, times, decimals and texts.
 #![tactic(auto)]
 
+mod around_point;
 mod ascii;
 pub mod booleans;
 pub mod buffer;

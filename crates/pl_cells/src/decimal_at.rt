@@ -47,6 +47,9 @@ pub(crate) fn decimal_at(
     ensures front { IfSome result (λ _. begins_number (drop start upto.now) ≡ true) }
     ensures back { IfSome result (λ _. strip (drop start upto.now) ≡ drop start upto.now) }
 {
+    if start >= upto.len() {
+        return None;
+    }
     let (negative, from) = digits_from(upto, start);
     let number = scaled_at(upto, from, scale as usize)?;
     with_sign(negative, u128::from(number), limit_of(precision, scale))

@@ -57,11 +57,13 @@ pub(crate) fn number_of_lanes(lanes: u8x16) -> u64
 /// more, or where the text is shorter than sixteen bytes.
 #[inline(always)]
 pub(crate) fn number_at(upto: &[u8], start: usize) -> Option<u64>
+    requires { start ≤ length upto.now }
     ensures digits { IfSome result (λ n. is_digits (drop start upto.now) ≡ true) }
     ensures value { IfSome result (λ n. n ≡ number_of (drop start upto.now)) }
     ensures small { IfSome result (λ n. n < 10 ^ 16) }
 {
-    if upto.len() < WIDTH || start >= upto.len() || upto.len() - start > WIDTH {
+    let count = upto.len() - start;
+    if upto.len() < WIDTH || count == 0 || count > WIDTH {
         return None;
     }
     let lanes = last_digits(upto, start);

@@ -4,6 +4,7 @@ pub mod BufferLaws
 pub mod CastLaws
 pub mod ColumnLaws
 pub mod CutLaws
+pub mod DateAtLaws
 pub mod DateLaws
 pub mod DecimalAtLaws
 pub mod DecimalLaws

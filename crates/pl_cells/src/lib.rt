@@ -10,6 +10,7 @@ mod cell_buffer;
 pub mod cell_fault;
 pub mod column_settings;
 mod columns;
+mod date_at;
 pub mod dates;
 mod decimal_at;
 pub mod decimal_type;

@@ -4,6 +4,7 @@ ghost use Rattle.pl_frame.specs.declared.data_type.DataType.TheVariants as dtype
 ghost use Rattle.pl_frame.specs.Columns.{HoldsType, number_cells};
 ghost use Rattle.pl_frame.specs.Frame.{Number};
 
+use crate::date_at::date_at;
 use crate::dates::parse_date;
 use crate::plain_at::number_text;
 use crate::times::{parse_datetime, parse_seconds, parse_time};
@@ -43,10 +44,7 @@ impl ValueType for Date {
 
     #[inline(always)]
     fn parse_at(&self, upto: &[u8], start: usize) -> Option<i64> {
-        match number_text(upto, start) {
-            Some(text) => parse_date(text),
-            None => None,
-        }
+        date_at(upto, start)
     }
 
     fn column(self, name: PlSmallStr, values: Numbers<i64>) -> Column

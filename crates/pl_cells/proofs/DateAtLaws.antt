@@ -22,7 +22,7 @@ taken = 0 ∷ 0 ∷ 0 ∷ 0 ∷ 0 ∷ 0 ∷ 48 ∷ 48 ∷ 48 ∷ 48 ∷ 45 ∷ 4
 abbrev pub most : List ℕ
 most = 255 ∷ 255 ∷ 255 ∷ 255 ∷ 255 ∷ 255 ∷ 9 ∷ 9 ∷ 9 ∷ 9 ∷ 0 ∷ 9 ∷ 9 ∷ 0 ∷ 9 ∷ 9 ∷ []
 
-few_from_mask : (xs ys : List ℕ) → mask_l (map (top 7) (zip2 lane_lt xs ys)) ≡ 0 → Each2 (λ x y. y ≤ x) xs ys
+pub few_from_mask : (xs ys : List ℕ) → mask_l (map (top 7) (zip2 lane_lt xs ys)) ≡ 0 → Each2 (λ x y. y ≤ x) xs ys
 few_from_mask [] ys e = tt
 few_from_mask (x ∷ xs) [] e = tt
 few_from_mask (x ∷ xs) (y ∷ ys) e =
@@ -32,7 +32,7 @@ few_from_mask (x ∷ xs) (y ∷ ys) e =
     small : (v w : ℕ) → nat_lt v w ≡ false → w ≤ v
     small v w h = grind (arith, nat_tests)
 
-digit_at : (x : ℕ) → Fits w8 x → lane_less x 48 ≤ 9 → is_ascii_digit x ≡ true
+pub digit_at : (x : ℕ) → Fits w8 x → lane_less x 48 ≤ 9 → is_ascii_digit x ≡ true
 digit_at x fits h = (digit_byte x fits.fits h).0
 
 hyphen_at : (x : ℕ) → Fits w8 x → lane_less x 45 ≤ 0 → nat_eq x 45 ≡ true
@@ -72,7 +72,7 @@ date_from_lanes _ long fits = absurd (omega arith)
 abbrev pub pair_of : ℕ → ℕ → ℕ
 pair_of tens ones = (tens - 48) * 10 + (ones - 48)
 
-two : (a b : ℕ) → is_ascii_digit a ≡ true → is_ascii_digit b ≡ true → digits_value (a ∷ b ∷ []) ≡ Some (pair_of a b)
+pub two : (a b : ℕ) → is_ascii_digit a ≡ true → is_ascii_digit b ≡ true → digits_value (a ∷ b ∷ []) ≡ Some (pair_of a b)
 two a b da db = (λ s. if da s && (db s && true) then Some (number_of (a ∷ b ∷ [])) else None) ∙ ap Some (omega arith)
 
 four : (a b c d : ℕ) → is_ascii_digit a ≡ true → is_ascii_digit b ≡ true → is_ascii_digit c ≡ true → is_ascii_digit d ≡ true

@@ -18,6 +18,7 @@ pub mod PlaceLaws
 pub mod PlacedLaws
 pub mod QuotingLaws
 mod Rows
+pub mod SecondsAtLaws
 pub mod SeenLaws
 pub mod TextSeenLaws
 pub mod TimeLaws

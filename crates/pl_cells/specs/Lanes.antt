@@ -29,3 +29,14 @@ pub record IsDateText (text : List ℕ) : Type 0 where
   pub later_hyphen : has_at 7 45 text ≡ true
   pub seventh : is_ascii_digit (get_or text 8 0) ≡ true
   pub eighth : is_ascii_digit (get_or text 9 0) ≡ true
+
+-- digits and colons stand as in `HH:MM:SS`
+pub record IsClockText (text : List ℕ) : Type 0 where
+  pub first : is_ascii_digit (get_or text 0 0) ≡ true
+  pub second : is_ascii_digit (get_or text 1 0) ≡ true
+  pub colon : has_at 2 58 text ≡ true
+  pub third : is_ascii_digit (get_or text 3 0) ≡ true
+  pub fourth : is_ascii_digit (get_or text 4 0) ≡ true
+  pub later_colon : has_at 5 58 text ≡ true
+  pub fifth : is_ascii_digit (get_or text 6 0) ≡ true
+  pub sixth : is_ascii_digit (get_or text 7 0) ≡ true

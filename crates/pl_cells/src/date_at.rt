@@ -11,9 +11,9 @@ ghost use Rattle.pl_cells.specs.Quoting.{strip};
 use crate::dates::day_of;
 use std::simd::prelude::*;
 
-// True only where the last ten of these bytes are digits and hyphens as a date has them.
+/// True only where the last ten of these bytes are digits and hyphens as a date has them.
 #[inline(always)]
-fn end_in_date(bytes: u8x16) -> bool
+pub(crate) fn end_in_date(bytes: u8x16) -> bool
     ensures { OnTrue result (IsDateText (drop 6 bytes)) }
 {
     let zeros = [
@@ -24,9 +24,9 @@ fn end_in_date(bytes: u8x16) -> bool
     above.simd_gt(u8x16::from_array(most)).to_bitmask() == 0
 }
 
-// The number of two digits.
+/// The number of two digits.
 #[inline(always)]
-fn pair(tens: u8, ones: u8) -> u8
+pub(crate) fn pair(tens: u8, ones: u8) -> u8
     requires tens { is_ascii_digit tens ≡ true }
     requires ones { is_ascii_digit ones ≡ true }
     ensures value { result ≡ (tens - 48) * 10 + (ones - 48) }
@@ -35,9 +35,9 @@ fn pair(tens: u8, ones: u8) -> u8
     (tens - b'0') * 10 + (ones - b'0')
 }
 
-// The day of the text of a date, where the calendar has it.
+/// The day of the text of a date, where the calendar has it.
 #[inline(always)]
-fn day_of_text(text: &[u8]) -> Option<i64>
+pub(crate) fn day_of_text(text: &[u8]) -> Option<i64>
     requires ten { length text.now ≡ 10 }
     requires date { IsDateText text.now }
     ensures value { result ≡ date_value text.now }

@@ -28,6 +28,7 @@ pub mod null_values;
 mod plain_at;
 mod quoted_at;
 pub mod quoting;
+mod seconds_at;
 pub mod text_buffer;
 pub mod text_types;
 pub mod times;

@@ -52,6 +52,9 @@ pub trait CellBuffer {
         ensures seen { IfOk result (λ seen. IsSeen quote_char (placed_text field.entry) (state self.old) (state self.new) seen) }
         ensures err { OnErr result (state self.new ≡ state self.old) };
 
+    /// Whether `put_between` may see more than `put_seen`.
+    fn reads_between(&self) -> bool;
+
     /// The same where `put_seen` did not see it, as of a number between quotes, whatever the quote.
     fn put_between(&mut self, field: Placed<'_>, quote_char: Option<u8>) -> Result<bool, AllocError>
         ensures seen { IfOk result (λ seen. IsSeen quote_char (placed_text field.entry) (state self.old) (state self.new) seen) }
@@ -88,6 +91,11 @@ impl<K: ValueType> CellBuffer for ValueBuffer<K> {
     #[inline(always)]
     fn put_seen(&mut self, field: Placed<'_>, quote_char: Option<u8>) -> Result<bool, AllocError> {
         self.add_seen(field, quote_char)
+    }
+
+    #[inline(always)]
+    fn reads_between(&self) -> bool {
+        true
     }
 
     #[inline(always)]
@@ -130,6 +138,11 @@ impl<L: TextType> CellBuffer for TextBuffer<L> {
     #[inline(always)]
     fn put_seen(&mut self, field: Placed<'_>, quote_char: Option<u8>) -> Result<bool, AllocError> {
         self.add_seen(field, quote_char)
+    }
+
+    #[inline(always)]
+    fn reads_between(&self) -> bool {
+        false
     }
 
     #[inline(always)]

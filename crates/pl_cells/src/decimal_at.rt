@@ -4,7 +4,7 @@ ghost use Rattle.pl_frame.specs.Types.{decimal_range, is_readable_decimal, is_wi
 ghost use Rattle.pl_cells.specs.Columns.{begins_number};
 ghost use Rattle.pl_cells.specs.DecimalParts.{scaled_below};
 ghost use Rattle.pl_cells.specs.Decimals.{before_point, behind_point, decimal_value};
-ghost use Rattle.pl_cells.specs.Integers.{is_digits, number_of};
+ghost use Rattle.pl_cells.specs.Integers.{is_digits};
 ghost use Rattle.pl_cells.specs.Quoting.{strip};
 
 use crate::around_point::number_around;

@@ -1,14 +1,13 @@
 -- Decimals that are read in place.
-use Rattle.std.proofs.Common.{◌≡◌, ℕ, suc, ◌+◌, ◌-◌, ◌*◌, ◌^◌, ◌<◌, ◌≤◌, Bool, true, false, if◌then◌else◌, List, [], ◌∷◌, length, take, drop, get_or, Some, None, refl, sym, ◌∙◌, ap, lit<, arith}
+use Rattle.std.proofs.Common.{◌≡◌, ℕ, suc, ◌+◌, ◌-◌, ◌*◌, ◌^◌, ◌<◌, ◌≤◌, true, List, [], ◌∷◌, ◌++◌, length, take, drop, get_or, Some, refl, sym, ◌∙◌, ap, lit<, arith}
 use Rattle.std.proofs.Math.Nat.{pow-suc, pow-le-pow_right, mul-le-mul}
-use Rattle.std.proofs.lemmas.List.{length-drop, get_or-drop, drop-drop, drop-take, take_all}
+use Rattle.std.proofs.lemmas.List.{length-drop, length-take-le, get_or-drop, drop-drop, drop-take}
 use Rattle.std.specs.Str.{all_ascii_digits}
 use Rattle.pl_cells.specs.DecimalParts.{scaled_below}
 use Rattle.pl_cells.specs.Decimals.{before_point, behind_point}
-use Rattle.pl_cells.specs.Integers.{is_digits, digits_value, number_after, number_of}
-use Rattle.pl_cells.specs.Dates.{part}
+use Rattle.pl_cells.specs.Integers.{is_digits, number_after, number_of}
 use Rattle.pl_cells.proofs.DecimalLaws.{read_on-some, scaled-few}
-use Rattle.pl_cells.proofs.IntegerLaws.{all_ascii_digits-is}
+use Rattle.pl_cells.proofs.IntegerLaws.{all_ascii_digits-append, all_ascii_digits-is, and_true, is_digits-cons, number_after-append, number_after-ge}
 
 -- digits behind a number multiply it by ten each
 pub number_after-shift : (n : ℕ) (xs : List ℕ) → number_after n xs ≡ n * 10 ^ length xs + number_of xs
@@ -51,14 +50,24 @@ scaled_in_place upto from point scale m f all inside few at_point digits is smal
     let last = read_on-some (2 ^ 128) m (drop (at + 1) text) (m * 10 ^ scale + f) (ap all_ascii_digits fraction ∙ all_ascii_digits-is (drop (point + 1) upto) digits') sum fits in
     scaled-few scale at (m * 10 ^ scale + f) m text (omega (arith, length-drop from upto)) (omega arith) dot fits first last
 
--- two digits at the end
-value_told : (n : ℕ) (xs : List ℕ) → Some n ≡ digits_value xs → (is_digits xs ≡ true) × (n ≡ number_of xs)
-value_told n xs h = by (is_digits xs) refl h
-  where
-    by : (t : Bool) → is_digits xs ≡ t → Some n ≡ (if t then Some (number_of xs) else None) → (is_digits xs ≡ true) × (n ≡ number_of xs)
-    by true e same = (e, cc)
-    by false e same = absurd (cc)
-
-pub two_in_place : (upto : List ℕ) (from n : ℕ) → 2 ≤ length upto → from ≡ length upto - 2 → Some n ≡ digits_value (part from 2 upto) → (is_digits (drop from upto) ≡ true) × (n ≡ number_of (drop from upto))
-two_in_place upto from n some at h =
-    value_told n (drop from upto) (h ∙ ap digits_value (take_all 2 (drop from upto) (omega (arith, some, at, length-drop from upto))))
+-- and side by side
+pub joined_in_place : (upto : List ℕ) (from point scale n : ℕ) → point + scale + 1 ≡ length upto → from < point → 0 < scale → scale ≤ 16 → get_or upto point 0 ≡ 46
+    → all_ascii_digits (drop from (take point upto) ++ drop (point + 1) upto) ≡ true → n ≡ number_of (drop from (take point upto) ++ drop (point + 1) upto) → n < 10 ^ 16
+    → (Some n ≡ scaled_below (2 ^ 128) scale (before_point (drop from upto)) (behind_point (drop from upto)))
+    × ((is_digits (drop from (take point upto)) ≡ true) × (is_digits (drop (point + 1) upto) ≡ true))
+joined_in_place upto from point scale n all inside some few at_point digits is small =
+    let whole : List ℕ = drop from (take point upto) in
+    let fraction : List ℕ = drop (point + 1) upto in
+    let m = number_of whole in
+    let f = number_of fraction in
+    let both = and_true (all_ascii_digits whole) (all_ascii_digits fraction) (sym (all_ascii_digits-append whole fraction) ∙ digits) in
+    let front : length (take point upto) ≡ point = length-take-le point upto (omega (arith, all)) in
+    let wide : length whole ≡ length (take point upto) - from = length-drop from (take point upto) in
+    let long : length fraction ≡ scale = omega (arith, all, length-drop (point + 1) upto) in
+    let before : is_digits whole ≡ true = is_digits-cons whole (omega (arith, front, wide, inside)) ∙ both.0 in
+    let behind : is_digits fraction ≡ true = is_digits-cons fraction (omega (arith, long, some)) ∙ both.1 in
+    let after : n ≡ number_after m fraction = is ∙ number_after-append 0 whole fraction in
+    let sum : n ≡ m * 10 ^ scale + f = after ∙ number_after-shift m fraction ∙ ap (λ k. m * 10 ^ k + f) long in
+    let small-m : m < 10 ^ 16 = omega (arith, after, number_after-ge m fraction, small) in
+    let small-f : f < 10 ^ 16 = omega (arith, sum, small) in
+    (ap Some sum ∙ scaled_in_place upto from point scale m f all inside few at_point before refl small-m behind refl small-f, (before, behind))

@@ -63,7 +63,7 @@ fours_number _ long = absurd (omega arith)
 abbrev pub lane_lt : ℕ → ℕ → ℕ
 lane_lt = borrow.Rule.Simd.Lanes.act2 (mir.Syntax.mask (mir.Syntax.lt mir.Syntax.unsigned)) (borrow.Table.Row.s_int w8) (borrow.Table.Row.s_int w8) (borrow.Table.Row.s_int w8)
 
-clear : (t : Bool) (m : ℕ) → cond (top 7 (cond t 255 0)) 1 0 + 2 * m ≡ 0 → (t ≡ false) × (m ≡ 0)
+pub clear : (t : Bool) (m : ℕ) → cond (top 7 (cond t 255 0)) 1 0 + 2 * m ≡ 0 → (t ≡ false) × (m ≡ 0)
 clear true m e = absurd (omega (arith, e))
 clear false m e = (refl, omega (arith, e))
 
@@ -91,11 +91,11 @@ digits_from_lanes lanes long =
 
 -- ---- lanes that are kept
 
-lower : (t : Bool) (y z : ℕ) → (t ≡ true → y ≡ z) → cond (top 7 (cond t 255 0)) y z ≡ z
+pub lower : (t : Bool) (y z : ℕ) → (t ≡ true → y ≡ z) → cond (top 7 (cond t 255 0)) y z ≡ z
 lower true y z h = h refl
 lower false y z h = refl
 
-upper : (t : Bool) (y z : ℕ) → (t ≡ false → y ≡ z) → cond (top 7 (cond t 255 0)) y z ≡ y
+pub upper : (t : Bool) (y z : ℕ) → (t ≡ false → y ≡ z) → cond (top 7 (cond t 255 0)) y z ≡ y
 upper true y z h = refl
 upper false y z h = sym (h refl)
 
@@ -163,7 +163,7 @@ last_lanes upto start long inside few =
 -- ---- from lanes to the number of a text
 
 -- a byte whose lane is a digit is one
-digit_byte : (x : ℕ) → x < 256 → digit_of x ≤ 9 → (is_ascii_digit x ≡ true) × (x - 48 ≡ digit_of x)
+pub digit_byte : (x : ℕ) → x < 256 → digit_of x ≤ 9 → (is_ascii_digit x ≡ true) × (x - 48 ≡ digit_of x)
 digit_byte x small h =
     let low : 48 ≤ x = omega arith in
     let high : x ≤ 57 = omega arith in

@@ -1,8 +1,10 @@
+pub mod AroundLaws
 mod AsciiLaws
 pub mod BufferLaws
 pub mod CastLaws
 pub mod ColumnLaws
 pub mod CutLaws
+pub mod DateAtLaws
 pub mod DateLaws
 pub mod DecimalAtLaws
 pub mod DecimalLaws
@@ -16,6 +18,7 @@ pub mod PlaceLaws
 pub mod PlacedLaws
 pub mod QuotingLaws
 mod Rows
+pub mod SecondsAtLaws
 pub mod SeenLaws
 pub mod TextSeenLaws
 pub mod TimeLaws

@@ -1,7 +1,8 @@
 -- The cells of numbers that are read in place.
-use Rattle.std.proofs.Common.{◌≡◌, ◌≤◌, ◌+◌, ◌-◌, ℕ, ◌==◌, nat_eq, get_or, take, drop, length, Bool, true, false, ◌||◌, if◌then◌else◌, List, [], ◌∷◌, ◌++◌, map, Option, Some, None, Ok, Err, refl, sym, ◌∙◌, ap, ap₂, arith}
+use Rattle.std.proofs.Common.{◌≡◌, ◌≤◌, ◌+◌, ◌-◌, ℕ, ◌==◌, nat_eq, get_or, take, drop, length, Bool, true, false, not, ◌||◌, if◌then◌else◌, List, [], ◌∷◌, ◌++◌, map, Option, Some, None, Ok, Err, refl, sym, ◌∙◌, ap, ap₂, arith}
 use Rattle.std.proofs.lemmas.Bool.Decides.{nat_tests}
 use Rattle.std.proofs.lemmas.List.{map-append}
+use Rattle.std.specs.Char.{is_ascii_digit}
 use Rattle.std.specs.Option.{option_map}
 use Rattle.pl_frame.specs.declared.data_type.DataType.{DataType}
 use Rattle.pl_frame.specs.Frame.{Scalar}
@@ -10,7 +11,7 @@ use Rattle.pl_scan.specs.Fields.{begins_quoted}
 use Rattle.pl_cells.specs.declared.utf8.CsvEncoding.{CsvEncoding}
 use Rattle.pl_cells.specs.BufferValue.{BufferValue, with_value, reading_of}
 use Rattle.pl_cells.specs.Cells.{Cell, cell, stripped_cell, plain_cell, value_or_null, value_text, softened, quoted_cell}
-use Rattle.pl_cells.specs.Columns.{begins_number, AddsSeen, StandsFor}
+use Rattle.pl_cells.specs.Columns.{begins_number, is_apart_from_numbers, AddsSeen, StandsFor}
 use Rattle.pl_cells.specs.Faults as fault
 use Rattle.pl_cells.specs.Integers.{without_blanks}
 use Rattle.pl_cells.specs.NullTest.{nothing_is_null}
@@ -49,6 +50,22 @@ plain_stands quote text begins = λ reading type value no_text front back is.
     ap₂ (λ (q : Option ℕ) (t : List ℕ). stripped_cell reading nothing_is_null q type t) begins back
     ∙ softened_ok reading.ignore_errors (plain_cell reading type text) (Some value)
     (plain_value reading type text no_text ∙ ap (value_or_null type) (unblanked type text front) ∙ some_cell type text value front is)
+
+other_byte : (x q : ℕ) → not (is_ascii_digit q || q == 45) ≡ true → (is_ascii_digit x || x == 45) ≡ true → nat_eq x q ≡ false
+other_byte x q apart front = grind (arith, nat_tests)
+
+unquoted : (quote : Option ℕ) (text : List ℕ) → is_apart_from_numbers quote ≡ true → begins_number text ≡ true → quote_of quote text ≡ None
+unquoted quote [] apart front = absurd (cc)
+unquoted None (x ∷ xs) apart front = refl
+unquoted (Some q) (x ∷ xs) apart front = by (nat_eq x q) (other_byte x q apart front)
+  where
+    by : (t : Bool) → t ≡ false → (if t then Some q else None) ≡ None
+    by true e = absurd (cc)
+    by false e = refl
+
+-- a number stands for itself where none begins with the quote
+pub number_stands : (quote : Option ℕ) (text : List ℕ) → is_apart_from_numbers quote ≡ true → StandsFor quote text text
+number_stands quote text apart = λ reading type value no_text front back is. plain_stands quote text (unquoted quote text apart front) reading type value no_text front back is
 
 -- and what stands between quotes for the field
 quoted_stands : (q : ℕ) (field text : List ℕ) → quote_of (Some q) field ≡ Some q → strip field ≡ field → is_well_quoted q field ≡ true → text ≡ inside field → StandsFor (Some q) field text

@@ -49,6 +49,11 @@ abbrev pub begins_number : List ℕ → Bool
 begins_number [] = false
 begins_number (x ∷ xs) = is_ascii_digit x || x == 45
 
+-- no number begins with the quote
+abbrev pub is_apart_from_numbers : Option ℕ → Bool
+is_apart_from_numbers None = true
+is_apart_from_numbers (Some q) = not (is_ascii_digit q || q == 45)
+
 -- a text stands for a field: where it begins like a number, the value that it has is the field's, where no text means null
 abbrev pub StandsFor : Option ℕ → List ℕ → List ℕ → Type 0
 StandsFor quote field text = (reading : Reading) (type : DataType) (value : Scalar) → is_text type ≡ false → begins_number text ≡ true → strip text ≡ text → value_of_text type text ≡ Some value → cell reading nothing_is_null quote type field ≡ Ok (Some value)

@@ -4,7 +4,7 @@ ghost use Rattle.std.specs.Option.{option_copied};
 ghost use Rattle.pl_table.specs.Tables.{placed_text};
 ghost use Rattle.pl_cells.specs.BufferValue.{BufferValue, Answers, with_value, reading_of};
 ghost use Rattle.pl_cells.specs.Cells.{missing_value, cell, stripped_cell, plain_cell, quoted_cell, softened};
-ghost use Rattle.pl_cells.specs.Columns.{IsSeen};
+ghost use Rattle.pl_cells.specs.Columns.{IsSeen, is_apart_from_numbers};
 ghost use Rattle.pl_cells.specs.NullTest.{nothing_is_null};
 ghost use Rattle.pl_cells.specs.NullValues.{HaveTexts, means_null};
 
@@ -46,8 +46,17 @@ pub trait CellBuffer {
         ensures err { OnErr result (state self.new ≡ state self.old) };
 
     /// Puts the cell of a field at the end where it is soon seen which it is, and else leaves all as it was. No text means
-    /// null. Refuses only want of memory, and is then as it was.
+    /// null, and no number begins with the quote. Refuses only want of memory, and is then as it was.
     fn put_seen(&mut self, field: Placed<'_>, quote_char: Option<u8>) -> Result<bool, AllocError>
+        requires apart { is_apart_from_numbers quote_char ≡ true }
+        ensures seen { IfOk result (λ seen. IsSeen quote_char (placed_text field.entry) (state self.old) (state self.new) seen) }
+        ensures err { OnErr result (state self.new ≡ state self.old) };
+
+    /// Whether `put_between` may see more than `put_seen`.
+    fn reads_between(&self) -> bool;
+
+    /// The same where `put_seen` did not see it, as of a number between quotes, whatever the quote.
+    fn put_between(&mut self, field: Placed<'_>, quote_char: Option<u8>) -> Result<bool, AllocError>
         ensures seen { IfOk result (λ seen. IsSeen quote_char (placed_text field.entry) (state self.old) (state self.new) seen) }
         ensures err { OnErr result (state self.new ≡ state self.old) };
 }
@@ -83,6 +92,20 @@ impl<K: ValueType> CellBuffer for ValueBuffer<K> {
     fn put_seen(&mut self, field: Placed<'_>, quote_char: Option<u8>) -> Result<bool, AllocError> {
         self.add_seen(field, quote_char)
     }
+
+    #[inline(always)]
+    fn reads_between(&self) -> bool {
+        true
+    }
+
+    #[inline(always)]
+    fn put_between(
+        &mut self,
+        field: Placed<'_>,
+        quote_char: Option<u8>,
+    ) -> Result<bool, AllocError> {
+        self.add_between(field, quote_char)
+    }
 }
 
 impl<L: TextType> CellBuffer for TextBuffer<L> {
@@ -115,6 +138,20 @@ impl<L: TextType> CellBuffer for TextBuffer<L> {
     #[inline(always)]
     fn put_seen(&mut self, field: Placed<'_>, quote_char: Option<u8>) -> Result<bool, AllocError> {
         self.add_seen(field, quote_char)
+    }
+
+    #[inline(always)]
+    fn reads_between(&self) -> bool {
+        false
+    }
+
+    #[inline(always)]
+    fn put_between(
+        &mut self,
+        _field: Placed<'_>,
+        _quote_char: Option<u8>,
+    ) -> Result<bool, AllocError> {
+        Ok(false)
     }
 }
 

@@ -4,6 +4,7 @@ ghost use Rattle.std.specs.Option.{option_copied, unwrap_or, option_map};
 ghost use Rattle.pl_table.specs.Tables.{AreWithin, fields_of, placed_text};
 ghost use Rattle.pl_cells.specs.BufferValue.{Answers, with_values, cut_to, reading_of};
 ghost use Rattle.pl_cells.specs.Cells.{cell, value_of};
+ghost use Rattle.pl_cells.specs.Columns as spec;
 ghost use Rattle.pl_cells.specs.Columns.{field_in, column_cells, AreSound, AddsCells};
 ghost use Rattle.pl_cells.specs.InitBuffers.{state_of};
 ghost use Rattle.pl_cells.specs.NullValues.{HaveTexts, means_null};
@@ -13,6 +14,7 @@ use crate::cell_buffer::{CellBuffer, put_field};
 use crate::cell_fault::CellFault;
 use crate::null_test::is_null_field;
 use crate::null_values::NullValuesCompiled;
+use crate::quoting::quote_of;
 use pl_table::table::{Placed, Table};
 
 // The field of a record in a column, or the empty one where the record has fewer.
@@ -41,9 +43,21 @@ fn bytes_of(field: Placed<'_>) -> &[u8]
     &field.upto[field.start..]
 }
 
-// Puts the cell of a field of a column at the end. Refuses the cell's fault, and want of memory; the buffer is then as it was.
+// Whether no number begins with the quote.
 #[inline(always)]
-fn put_placed<B: CellBuffer>(
+fn is_apart_from_numbers(quote_char: Option<u8>) -> bool
+    ensures { result ≡ spec.is_apart_from_numbers quote_char }
+{
+    match quote_char {
+        None => true,
+        Some(quote) => !(quote.is_ascii_digit() || quote == b'-'),
+    }
+}
+
+// Puts the cell of a field of a column at the end, whatever it is. Refuses the cell's fault, and want of memory; the buffer is
+// then as it was.
+#[inline(always)]
+fn put_any<B: CellBuffer>(
     buffer: &mut B,
     field: Placed<'_>,
     quote_char: Option<u8>,
@@ -58,7 +72,7 @@ fn put_placed<B: CellBuffer>(
 {
     let bytes = bytes_of(field);
     if !is_null_field(null_values, bytes, column, quote_char) {
-        let seen = buffer.put_seen(field, quote_char)?;
+        let seen = buffer.put_between(field, quote_char)?;
         if seen {
             return Ok(());
         }
@@ -72,6 +86,125 @@ fn put_placed<B: CellBuffer>(
         ignore_errors,
         missing_is_null,
     )
+}
+
+// The same. It is not put where it is called, so that the loop that calls it stays short.
+#[inline(never)]
+fn put_other<B: CellBuffer>(
+    buffer: &mut B,
+    field: Placed<'_>,
+    quote_char: Option<u8>,
+    null_values: Option<&NullValuesCompiled>,
+    column: usize,
+    ignore_errors: bool,
+    missing_is_null: bool,
+) -> Result<(), CellFault>
+    requires inside { field.start ≤ length field.upto.now }
+    requires texts { HaveTexts null_values (suc column) }
+    ensures { Answers (B.state buffer.old) (B.state buffer.new) (cell (reading_of (B.state buffer.old) missing_is_null ignore_errors) (means_null (option_copied null_values.entry) column) quote_char (B.state buffer.old).dtype (placed_text field.entry)) result }
+{
+    put_any(
+        buffer,
+        field,
+        quote_char,
+        null_values,
+        column,
+        ignore_errors,
+        missing_is_null,
+    )
+}
+
+// Puts the cell of a field of a column at the end. Refuses the cell's fault, and want of memory; the buffer is then as it was.
+// `apart` says whether no number begins with the quote.
+#[inline(always)]
+fn put_placed<B: CellBuffer>(
+    buffer: &mut B,
+    field: Placed<'_>,
+    apart: bool,
+    quote_char: Option<u8>,
+    null_values: Option<&NullValuesCompiled>,
+    column: usize,
+    ignore_errors: bool,
+    missing_is_null: bool,
+) -> Result<(), CellFault>
+    requires inside { field.start ≤ length field.upto.now }
+    requires apart { apart ≡ spec.is_apart_from_numbers quote_char }
+    requires texts { HaveTexts null_values (suc column) }
+    ensures { Answers (B.state buffer.old) (B.state buffer.new) (cell (reading_of (B.state buffer.old) missing_is_null ignore_errors) (means_null (option_copied null_values.entry) column) quote_char (B.state buffer.old).dtype (placed_text field.entry)) result }
+{
+    if apart && !is_null_field(null_values, bytes_of(field), column, quote_char) {
+        let seen = buffer.put_seen(field, quote_char)?;
+        if seen {
+            return Ok(());
+        }
+    }
+    put_other(
+        buffer,
+        field,
+        quote_char,
+        null_values,
+        column,
+        ignore_errors,
+        missing_is_null,
+    )
+}
+
+// Puts the cells of the first records in a column at the end, whose fields mostly begin with the quote. Refuses the first fault,
+// and want of memory; the buffer then holds some of the cells.
+#[inline(never)]
+fn put_quoted_column<B: CellBuffer>(
+    buffer: &mut B,
+    text: &[u8],
+    table: &Table,
+    rows: usize,
+    quote_char: Option<u8>,
+    null_values: Option<&NullValuesCompiled>,
+    column: usize,
+    ignore_errors: bool,
+    missing_is_null: bool,
+) -> Result<(), CellFault>
+    requires within { AreWithin (length text.now) table.now }
+    requires rows { rows ≤ length table.now }
+    requires texts { HaveTexts null_values (suc column) }
+    ensures added { OnOk result (AddsCells (column_cells (reading_of (B.state buffer.old) missing_is_null ignore_errors) (means_null (option_copied null_values.entry) column) quote_char (B.state buffer.old).dtype column (take rows (fields_of text.now table.now))) (B.state buffer.old) (B.state buffer.new)) }
+    ensures kept { OnErr result (cut_to (length (B.state buffer.old).values) (B.state buffer.new) ≡ B.state buffer.old) }
+{
+    for row in 0..rows {
+        let placed = placed_in(table, text, row, column);
+        let put = put_any(
+            buffer,
+            placed,
+            quote_char,
+            null_values,
+            column,
+            ignore_errors,
+            missing_is_null,
+        );
+        match put {
+            Ok(()) => {}
+            Err(fault) => return Err(fault),
+        }
+    }
+    Ok(())
+}
+
+// Whether the field of the first record in a column begins with the quote.
+#[inline]
+fn begins_quoted(
+    text: &[u8],
+    table: &Table,
+    rows: usize,
+    quote_char: Option<u8>,
+    column: usize,
+) -> bool
+    requires within { AreWithin (length text.now) table.now }
+    requires rows { rows ≤ length table.now }
+{
+    if rows == 0 {
+        return false;
+    }
+    let first = placed_in(table, text, 0, column);
+    quote_of(bytes_of(first), quote_char).is_some()
 }
 
 // Puts the cells of the first records in a column at the end. Refuses the first fault, and want of memory; the buffer then
@@ -95,11 +228,26 @@ fn put_column<B: CellBuffer>(
     ensures kept { OnErr result (cut_to (length (B.state buffer.old).values) (B.state buffer.new) ≡ B.state buffer.old) }
 {
     buffer.make_room(rows)?;
+    if buffer.reads_between() && begins_quoted(text, table, rows, quote_char, column) {
+        return put_quoted_column(
+            buffer,
+            text,
+            table,
+            rows,
+            quote_char,
+            null_values,
+            column,
+            ignore_errors,
+            missing_is_null,
+        );
+    }
+    let apart = is_apart_from_numbers(quote_char);
     for row in 0..rows {
         let field = placed_in(table, text, row, column);
         let put = put_placed(
             buffer,
             field,
+            apart,
             quote_char,
             null_values,
             column,

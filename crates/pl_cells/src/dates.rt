@@ -33,9 +33,9 @@ fn four_digits(text: &[u8]) -> Option<u16>
     Some(u16::from(century) * 100 + u16::from(year))
 }
 
-// The days from 1970-01-01 to the day, where the calendar has it.
+/// The days from 1970-01-01 to the day, where the calendar has it.
 #[inline]
-fn day_of(year: u16, month: u8, day: u8) -> Option<i64>
+pub(crate) fn day_of(year: u16, month: u8, day: u8) -> Option<i64>
     requires year_in { year < 10000 }
     requires month_in { month < 100 }
     requires day_in { day < 100 }

@@ -6,8 +6,8 @@ ghost use Rattle.pl_cells.specs.Lanes.{AreDigits, digit_of, digits_number};
 
 use std::simd::prelude::*;
 
-// How many bytes are read.
-const WIDTH: usize = 16;
+/// How many bytes are read.
+pub(crate) const WIDTH: usize = 16;
 
 // From a place on, so many zeros as bytes in front of a field don't count, and behind them what lets each byte be.
 static KEPT: [u8; 32] = [
@@ -15,9 +15,9 @@ static KEPT: [u8; 32] = [
     255, 255, 255, 255, 255, 255, 255,
 ];
 
-// The last bytes of a text as digits, with zeros in front of them.
+/// The last bytes of a text as digits, with zeros in front of them.
 #[inline(always)]
-fn last_digits(upto: &[u8], start: usize) -> u8x16
+pub(crate) fn last_digits(upto: &[u8], start: usize) -> u8x16
     requires long { WIDTH ≤ length upto.now }
     requires inside { start ≤ length upto.now }
     requires few { length upto.now ≤ start + WIDTH }
@@ -29,17 +29,17 @@ fn last_digits(upto: &[u8], start: usize) -> u8x16
     (bytes - u8x16::splat(b'0')).simd_min(kept)
 }
 
-// True only where each lane is a digit.
+/// True only where each lane is a digit.
 #[inline(always)]
-fn are_digits(lanes: u8x16) -> bool
+pub(crate) fn are_digits(lanes: u8x16) -> bool
     ensures { OnTrue result (AreDigits lanes) }
 {
     lanes.simd_gt(u8x16::splat(9)).to_bitmask() == 0
 }
 
-// The number of sixteen digits.
+/// The number of sixteen digits.
 #[inline(always)]
-fn number_of_lanes(lanes: u8x16) -> u64
+pub(crate) fn number_of_lanes(lanes: u8x16) -> u64
     requires { AreDigits lanes }
     ensures value { result ≡ digits_number 0 lanes }
     ensures small { result < 10 ^ 16 }
@@ -57,11 +57,13 @@ fn number_of_lanes(lanes: u8x16) -> u64
 /// more, or where the text is shorter than sixteen bytes.
 #[inline(always)]
 pub(crate) fn number_at(upto: &[u8], start: usize) -> Option<u64>
+    requires { start ≤ length upto.now }
     ensures digits { IfSome result (λ n. is_digits (drop start upto.now) ≡ true) }
     ensures value { IfSome result (λ n. n ≡ number_of (drop start upto.now)) }
     ensures small { IfSome result (λ n. n < 10 ^ 16) }
 {
-    if upto.len() < WIDTH || start >= upto.len() || upto.len() - start > WIDTH {
+    let count = upto.len() - start;
+    if upto.len() < WIDTH || count == 0 || count > WIDTH {
         return None;
     }
     let lanes = last_digits(upto, start);

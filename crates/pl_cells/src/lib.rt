@@ -1,6 +1,7 @@
 //! The text of a field and the value that it has: whole numbers, booleans, dates, times, decimals and texts.
 #![tactic(auto)]
 
+mod around_point;
 mod ascii;
 pub mod booleans;
 pub mod buffer;
@@ -9,6 +10,7 @@ mod cell_buffer;
 pub mod cell_fault;
 pub mod column_settings;
 mod columns;
+mod date_at;
 pub mod dates;
 mod decimal_at;
 pub mod decimal_type;
@@ -26,6 +28,7 @@ pub mod null_values;
 mod plain_at;
 mod quoted_at;
 pub mod quoting;
+mod seconds_at;
 pub mod text_buffer;
 pub mod text_types;
 pub mod times;

@@ -4,9 +4,11 @@ ghost use Rattle.pl_frame.specs.declared.data_type.DataType.TheVariants as dtype
 ghost use Rattle.pl_frame.specs.Columns.{HoldsType, number_cells};
 ghost use Rattle.pl_frame.specs.Frame.{Number};
 
+use crate::date_at::date_at;
 use crate::dates::parse_date;
 use crate::plain_at::number_text;
-use crate::times::{parse_datetime, parse_seconds, parse_time};
+use crate::seconds_at::seconds_at;
+use crate::times::{parse_datetime, parse_time};
 use crate::value_types::ValueType;
 use pl_frame::column::Column;
 use pl_frame::data_type::{DataType, TimeUnit};
@@ -43,10 +45,7 @@ impl ValueType for Date {
 
     #[inline(always)]
     fn parse_at(&self, upto: &[u8], start: usize) -> Option<i64> {
-        match number_text(upto, start) {
-            Some(text) => parse_date(text),
-            None => None,
-        }
+        date_at(upto, start)
     }
 
     fn column(self, name: PlSmallStr, values: Numbers<i64>) -> Column
@@ -133,10 +132,7 @@ impl ValueType for Datetime {
 
     #[inline(always)]
     fn parse_at(&self, upto: &[u8], start: usize) -> Option<i64> {
-        match number_text(upto, start) {
-            Some(text) => parse_seconds(text, self.unit),
-            None => None,
-        }
+        seconds_at(upto, start, self.unit)
     }
 
     fn column(self, name: PlSmallStr, values: Numbers<i64>) -> Column

@@ -12,9 +12,9 @@ use pl_frame::data_type::TimeUnit;
 
 const NANOSECONDS: u64 = 1_000_000_000;
 
-// The second of the day, where there is one.
+/// The second of the day, where there is one.
 #[inline(always)]
-fn second_of(hour: u8, minute: u8, second: u8) -> Option<u64>
+pub(crate) fn second_of(hour: u8, minute: u8, second: u8) -> Option<u64>
     ensures value { result ≡ second_of_day (Some hour) (Some minute) (Some second) }
     ensures small { IfSome result (λ n. n < 86400) }
 {
@@ -115,9 +115,9 @@ pub fn parse_time(text: &[u8]) -> Option<i64>
     }
 }
 
-// The number, where it fits 64 bits.
+/// The number, where it fits 64 bits.
 #[inline(always)]
-fn in_64_bits(number: i128) -> Option<i64>
+pub(crate) fn in_64_bits(number: i128) -> Option<i64>
     ensures { result ≡ only_within (signed_range 64) number }
 {
     if number < i128::from(i64::MIN) || number > i128::from(i64::MAX) {
@@ -154,9 +154,9 @@ fn count_in(unit: TimeUnit, day: i64, nanoseconds: u64) -> i128
     }
 }
 
-// The same, which lies in the range of the type.
+/// The count of units of a day and of the nanoseconds of that day, which lies in the range of the type.
 #[inline(always)]
-fn units_of(unit: TimeUnit, day: i64, nanoseconds: u64) -> i128
+pub(crate) fn units_of(unit: TimeUnit, day: i64, nanoseconds: u64) -> i128
     requires day_in { is_within day_range day ≡ true }
     requires time_in { nanoseconds < 86400 * 10 ^ 9 }
     ensures value { result ≡ count_of_units (units_in_second unit) day nanoseconds }
@@ -199,17 +199,4 @@ pub fn parse_datetime(text: &[u8], unit: TimeUnit) -> Option<i64>
     ensures within { IfSome result (λ n. is_within (datetime_range (units_in_second unit)) n ≡ true) }
 {
     datetime_of_text(text, unit)
-}
-
-/// The same of a text of whole seconds, which is read faster. Other texts are not seen.
-#[inline(always)]
-pub(crate) fn parse_seconds(text: &[u8], unit: TimeUnit) -> Option<i64>
-    ensures value { IfSome result (λ n. datetime_value unit text.now ≡ Some n) }
-    ensures within { IfSome result (λ n. is_within (datetime_range (units_in_second unit)) n ≡ true) }
-{
-    if text.len() == 19 {
-        datetime_of_text(text, unit)
-    } else {
-        None
-    }
 }

@@ -3,7 +3,7 @@ ghost use Rattle.std.specs.Prelude.{◌≡◌, true, [], length, IfOk, OnOk, OnE
 ghost use Rattle.pl_frame.specs.Types.{is_text};
 ghost use Rattle.pl_cells.specs.BufferValue.{Answers, with_value, with_values, cut_to, reading_of, column_of};
 ghost use Rattle.pl_cells.specs.Cells.{missing_value, plain_cell, quoted_cell, softened, value_or_null, value_text};
-ghost use Rattle.pl_cells.specs.Columns.{IsSeen};
+ghost use Rattle.pl_cells.specs.Columns.{IsSeen, is_apart_from_numbers};
 ghost use Rattle.pl_cells.specs.Integers.{without_blanks};
 ghost use Rattle.pl_table.specs.Tables.{placed_text};
 
@@ -159,10 +159,31 @@ impl<K: ValueType> ValueBuffer<K> {
         Ok(())
     }
 
-    /// Puts the value of a field at the end where it is soon seen which it is, and else leaves all as it was. No text means
-    /// null. Refuses only want of memory, and is then as it was.
+    /// Puts the value of a plain field at the end where it is soon seen which it is, and else leaves all as it was. A number
+    /// begins with no quote, which is not looked for. No text means null. Refuses only want of memory, and is then as it was.
     #[inline(always)]
     pub(crate) fn add_seen(
+        &mut self,
+        field: Placed<'_>,
+        _quote_char: Option<u8>,
+    ) -> Result<bool, AllocError>
+        requires apart { is_apart_from_numbers _quote_char ≡ true }
+        ensures seen { IfOk result (λ seen. IsSeen _quote_char (placed_text field.entry) self.old self.new seen) }
+        ensures err { OnErr result (self.new ≡ self.old) }
+    {
+        match self.kind.parse_at(field.upto, field.start) {
+            Some(value) => {
+                self.values.push(value)?;
+                Ok(true)
+            }
+            None => Ok(false),
+        }
+    }
+
+    /// Puts the value of a field, or of what stands between its quotes, at the end where it is soon seen which it is, and else
+    /// leaves all as it was. No text means null. Refuses only want of memory, and is then as it was.
+    #[inline(always)]
+    pub(crate) fn add_between(
         &mut self,
         field: Placed<'_>,
         quote_char: Option<u8>,

@@ -10,11 +10,13 @@ use crate::lanes::number_at;
 /// Whether a minus stands at the place, and where the digits begin.
 #[inline(always)]
 pub(crate) fn digits_from(upto: &[u8], start: usize) -> (bool, usize)
+    requires { start < length upto.now }
     ensures negative { result.0 ≡ is_negative (drop start upto.now) }
     ensures behind { start ≤ result.1 }
+    ensures inside { result.1 ≤ length upto.now }
     ensures digits { drop result.1 upto.now ≡ without_minus (drop start upto.now) }
 {
-    if start < upto.len() && upto[start] == b'-' {
+    if upto[start] == b'-' {
         (true, start + 1)
     } else {
         (false, start)
@@ -39,6 +41,9 @@ pub(crate) fn whole_at(upto: &[u8], start: usize, low: i64, high: i64) -> Option
     ensures front { IfSome result (λ _. begins_number (drop start upto.now) ≡ true) }
     ensures back { IfSome result (λ _. strip (drop start upto.now) ≡ drop start upto.now) }
 {
+    if start >= upto.len() {
+        return None;
+    }
     let (negative, from) = digits_from(upto, start);
     let number = with_sign(negative, number_at(upto, from)?);
     if low <= number && number <= high {
@@ -56,6 +61,9 @@ pub(crate) fn natural_at(upto: &[u8], start: usize, high: i64) -> Option<i64>
     ensures front { IfSome result (λ _. begins_number (drop start upto.now) ≡ true) }
     ensures back { IfSome result (λ _. strip (drop start upto.now) ≡ drop start upto.now) }
 {
+    if start >= upto.len() {
+        return None;
+    }
     let number = number_at(upto, start)? as i64;
     if number <= high { Some(number) } else { None }
 }

@@ -128,8 +128,8 @@ impl<S: Sink> CsvWriter<S> {
         self
     }
 
-    /// Sets how many threads print a frame, which must not be 0 where one is written; 64 at most do. The text is the same
-    /// whatever the number.
+    /// Sets how many threads print a frame, which must not be 0 where one is written; 64 at most do, and no more than there
+    /// are batches. The text is the same whatever the number.
     pub fn n_threads(mut self, n_threads: usize) -> Self
         ensures { result ≡ with_threads n_threads self }
     {

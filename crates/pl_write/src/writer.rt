@@ -322,7 +322,7 @@ fn write_side_by_side<W: Threads + Sync, Si: Sink>(
     }
 }
 
-/// Appends the text of a frame to a sink, printed by so many workers, and by 64 at most.
+/// Appends the text of a frame to a sink, printed by so many workers, by 64 at most and by no more than there are batches.
 ///
 /// The rows are printed in batches of the options' size, of which 0 counts as 1. A frame of no more than one batch, and each
 /// frame where one worker is asked for, is printed by the caller, a block at a time. Else each worker prints up to eight batches
@@ -354,13 +354,15 @@ pub fn write_frame<W: Threads + Sync, Si: Sink>(
         return Err(SinkFault::OutOfMemory);
     };
     let height = row_count(columns);
-    if workers == 1 || height <= options.batch_size.max(1) {
+    let batch_size = options.batch_size.max(1);
+    if workers == 1 || height <= batch_size {
         return write_in_blocks(alloc, head, columns, &sources, height, cells, sink);
     }
+    let batches = (height / batch_size).saturating_add(1);
     write_side_by_side(
         rt,
         alloc,
-        workers.min(WORKERS),
+        workers.min(WORKERS).min(batches),
         head.as_slice(),
         columns,
         &sources,

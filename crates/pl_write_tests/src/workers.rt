@@ -15,7 +15,7 @@ use std::process::Abort;
 use std::thread::Threads;
 
 // So often do the three rows of the frame come.
-const TIMES: usize = 10;
+const TIMES: usize = 20;
 
 // A column of three values, again and again.
 fn whole_column(

@@ -151,7 +151,12 @@ fn read_in_chunks(rt: &impl Abort, alloc: Global, piece_size: usize) -> Tally
     requires { 0 < piece_size }
 {
     let mut board: BoardState<'_, Told> = BoardState::new(
-        alloc, MISLEADING, piece_size, Some(b'"'), b'\n', None,
+        alloc,
+        MISLEADING,
+        piece_size,
+        Some(b'"'),
+        b'\n',
+        None,
     );
     let mut tally = Tally { rows: 0, bytes: 0 };
     let mut end = 0;

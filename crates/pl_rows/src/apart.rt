@@ -83,7 +83,9 @@ fn expected_rows(piece: &[u8], eol_char: u8, width: usize) -> usize
     let sample = &piece[..piece.len().min(SAMPLE)];
     let lines = memchr_iter(eol_char, sample).count() + 1;
     let samples = piece.len() / sample.len().max(1) + 1;
-    lines.saturating_mul(samples).min(piece.len() / width.max(1))
+    lines
+        .saturating_mul(samples)
+        .min(piece.len() / width.max(1))
 }
 
 // Makes room in each buffer for so many cells, and for so many bytes of texts. Refuses only want of memory.

@@ -135,7 +135,7 @@ impl Tally {
     fn count(&mut self, rt: &impl Abort, frame: &DataFrame, bytes: usize) {
         let wanted = ["x\"y", "c\nd"];
         let [column] = frame.columns() else {
-            abort!(rt; "one column is read");
+            panic!(rt; "one column is read");
         };
         for row in 0..column.len() {
             let at = self.rows.saturating_add(row);

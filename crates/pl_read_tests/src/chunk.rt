@@ -1,5 +1,5 @@
 //! Tests of `pl_read::chunk`: a range of an input on its own.
-ghost use Rattle.std.specs.Prelude.{◌≡◌, ◌≤◌, length};
+ghost use Rattle.std.specs.Prelude.{◌≡◌, ◌<◌, ◌≤◌, length};
 
 use crate::given::add;
 use pl_board::piece::{Done, Posted};
@@ -177,6 +177,7 @@ fn read_in_chunks(rt: &impl Abort, alloc: Global, piece_size: usize) -> Tally
         tally.count(rt, &chunk.frame, to - from);
         end = to;
     }
+    assert!(rt; end <= MISLEADING.len());
     let rest = read_between(
         rt,
         alloc,

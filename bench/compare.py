@@ -60,7 +60,7 @@ PANDAS = python_with_pandas()
 # Each task: its name, whether it is there, its command (source and target are files; None for standard input and output), and what it checks.
 TASKS = [
     ("pl_csv", lambda: True, lambda w, i, o: ([f"{TOP}/pl_csv", "--schema", ours(w), "--workers", "1"], i, o), "types as told; every cell, date and UTF-8 text is checked"),
-    ("pl_csv, 4 workers", lambda: True, lambda w, i, o: ([f"{TOP}/pl_csv", "--schema", ours(w), "--workers", "4"], i, o), "the same; four workers read, and one thread writes"),
+    ("pl_csv, 4 workers", lambda: True, lambda w, i, o: ([f"{TOP}/pl_csv", "--schema", ours(w), "--workers", "4"], i, o), "the same; four workers read and print"),
     ("pl_csv, no schema", lambda: True, lambda w, i, o: ([f"{TOP}/pl_csv", "--dates", "--workers", "1"], i, o), "types by a sample; every cell and UTF-8 text is checked"),
     ("data.table", has_data_table, lambda w, i, o: (["Rscript", f"{HERE}/peers/datatable.R", i, o, neutral(w)], None, None), "types by a sample; decimals as doubles; doubled quotes stay"),
     ("pandas", lambda: PANDAS, lambda w, i, o: ([PANDAS, f"{HERE}/peers/pandas_peer.py", i, o, neutral(w)], None, None), "types as told; decimals as doubles"),

@@ -1,3 +1,4 @@
+mod BatchLaws
 mod BlockLaws
 mod CountLaws
 mod DateLaws

@@ -2,7 +2,7 @@
 use Rattle.std.proofs.Common.{◌≡◌, ℕ, zero, suc, ◌+◌, ◌<◌, ◌≤◌, List, [], ◌∷◌, ◌++◌, map, length, take, get_or, refl, sym, ◌∙◌, ap, append_assoc, arith}
 use Rattle.std.specs.List.{flat_map, join_with_byte}
 use Rattle.std.proofs.lemmas.List.{take_more, map-append, length-map, length-take-le}
-use Rattle.pl_frame.specs.Frame.{ColumnValue, cell_at, names_of}
+use Rattle.pl_frame.specs.Frame.{ColumnValue, cell_at}
 use Rattle.pl_frame.specs.Text.{WriteOptions, written_cell, row_line, row_lines}
 use Rattle.pl_write.specs.Lines.{cell_in_line, joined_cells, AreLines, HaveRows}
 use Rattle.pl_write.specs.Writing.{separator_before}
@@ -59,8 +59,3 @@ pub HaveRows-at : (count : ℕ) (columns : List ColumnValue) (i : ℕ) (d : Colu
 HaveRows-at count [] i d have inside = absurd (omega arith)
 HaveRows-at count (column ∷ columns) zero d have inside = have.0
 HaveRows-at count (column ∷ columns) (suc i) d have inside = HaveRows-at count columns i d have.1 (omega arith)
-
--- the texts of the names
-pub map-names : (f : List ℕ → List ℕ) (columns : List ColumnValue) → map (λ column. f column.name) columns ≡ map f (names_of columns)
-map-names f [] = refl
-map-names f (column ∷ columns) = ap (λ l. f column.name ∷ l) (map-names f columns)

@@ -1,3 +1,4 @@
+pub mod Batches
 pub mod CellForms
 pub mod CellSources
 pub mod CellsLeft

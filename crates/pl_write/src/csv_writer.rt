@@ -1,5 +1,5 @@
 //! The writer of frames.
-ghost use Rattle.std.specs.Prelude.{◌≡◌, ◌≤◌, true, IfOk, IfErr, OnOk, IsOkUnless};
+ghost use Rattle.std.specs.Prelude.{◌≡◌, ◌≤◌, true, false, IfOk, IfErr, OnOk, IsOkUnless};
 ghost use Rattle.std.specs.Io.KnownBytes.{Appends};
 ghost use Rattle.std.specs.Thread.{IsSync};
 ghost use Rattle.pl_frame.specs.declared.error.PolarsError.TheVariants as error;
@@ -9,11 +9,13 @@ ghost use Rattle.pl_frame.specs.Types.{is_readable};
 ghost use Rattle.pl_write.specs.Options.{default_options, frame_options, with_separator, with_quote_char, with_null, with_line_terminator, with_quote_style, with_include_bom, with_include_header, with_batch_size, with_cells};
 ghost use Rattle.pl_write.specs.Writing.{AppendsPrefix, CanWrite, IsEarlyFault, IsWriteFault, Writer, with_change, with_threads};
 
+use crate::batched_writer::BatchedWriter;
 use crate::options::{CsvWriterOptions, QuoteStyle};
 use crate::writer::write_frame;
 use pl_frame::error::{ComputeFault, OpFault, PolarsError, PolarsResult};
 use pl_frame::frame::DataFrame;
 use pl_frame::name::PlSmallStr;
+use pl_frame::schema::Schema;
 use pl_frame::sink::{Sink, SinkFault};
 use std::alloc::Global;
 use std::marker::Model;
@@ -147,10 +149,26 @@ impl<S: Sink + Drop> CsvWriter<S> {
         self.options = options.try_clone()?;
         Ok(self)
     }
+
+    /// A writer of batches that have the names and types of this schema, with the same sink, options and threads. It has begun
+    /// nothing. Refuses only want of memory.
+    pub fn batched(self, schema: &Schema) -> PolarsResult<BatchedWriter<S>>
+        ensures made { IfOk result (λ made. made ≡ record { writer = self; schema = schema.now; begun = false }) }
+        ensures refused { IsOkUnless result error.OutOfMemory }
+    {
+        let schema = schema.try_clone()?;
+        let CsvWriter {
+            alloc,
+            sink,
+            options,
+            n_threads,
+        } = self;
+        Ok(BatchedWriter::new(alloc, sink, options, n_threads, schema))
+    }
 }
 
 // Refuses no threads, and then a quote that is not ASCII.
-fn can_write(n_threads: usize, quote: u8) -> PolarsResult<()>
+pub(crate) fn can_write(n_threads: usize, quote: u8) -> PolarsResult<()>
     ensures can { OnOk result (CanWrite n_threads quote) }
     ensures refused { IfErr result (IsEarlyFault n_threads quote) }
 {

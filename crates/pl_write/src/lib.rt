@@ -1,6 +1,7 @@
 //! Frames written as CSV: the text of each cell, and of a whole frame.
 #![tactic(auto)]
 
+pub mod batched_writer;
 mod block;
 mod cell_form;
 mod cell_source;
@@ -11,6 +12,7 @@ mod decimals;
 mod digit_counts;
 mod digit_words;
 mod digits;
+mod head;
 pub mod laws;
 mod lines;
 pub mod options;

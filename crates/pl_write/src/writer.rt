@@ -1,22 +1,23 @@
 //! The text of a frame, written in blocks.
-ghost use Rattle.std.specs.Prelude.{◌≡◌, true, ◌<◌, ◌++◌, ◌≤◌, [], length, None, unwrap_or, slice_get, IfOk, OnOk, IsErrOf, if◌then◌else◌};
+ghost use Rattle.std.specs.Prelude.{◌≡◌, true, ◌<◌, ◌++◌, ◌≤◌, length, None, unwrap_or, slice_get, OnOk, IsErrOf};
 ghost use Rattle.std.specs.Fmt.{signed_decimal};
 ghost use Rattle.std.specs.Io.KnownBytes.{Appends};
 ghost use Rattle.pl_frame.specs.Causes.{Rose};
 ghost use Rattle.pl_frame.specs.Columns.{is_number_of};
 ghost use Rattle.pl_frame.specs.Types.{is_numeric};
-ghost use Rattle.pl_frame.specs.Frame.{cell_at, HaveHeight, height_of, names_of};
+ghost use Rattle.pl_frame.specs.Frame.{cell_at, HaveHeight, height_of};
 ghost use Rattle.pl_frame.specs.Printed.{number_text};
-ghost use Rattle.pl_frame.specs.Text.{written_cell, written_value, written_text, header_line, head_text, byte_order_mark, row_lines, text_of_frame};
+ghost use Rattle.pl_frame.specs.Text.{written_cell, written_value, written_text, row_lines, text_of_frame};
 ghost use Rattle.pl_write.specs.Options.{cell_options, frame_options};
 ghost use Rattle.pl_write.specs.CellForms.{FitsForm, number_or_null};
 ghost use Rattle.pl_write.specs.CellSources.{HaveSources};
 ghost use Rattle.pl_write.specs.declared.cell_form.CellForm.TheVariants as CellForm;
-ghost use Rattle.pl_write.specs.Writing.{separator_before, AppendsPrefix, StaysInFront};
+ghost use Rattle.pl_write.specs.Writing.{AppendsPrefix, StaysInFront};
 
 use crate::block::Block;
 use crate::cell_form::CellForm;
 use crate::cell_source::{CellSource, sources_of};
+use crate::head::{ColumnNames, head_block};
 use crate::lines::{append_rows, line_count, new_lines};
 use crate::options::{CsvWriterOptions, SerializeOptions};
 use crate::printing::write_by_workers;
@@ -146,93 +147,6 @@ pub(crate) fn push_cell(
     push_value(block, scratch, column, form, row, options)
 }
 
-// Appends a separator, but before the first of a line.
-#[inline]
-fn push_separator(block: &mut Vec<u8>, separator: u8, place: usize) -> Result<(), AllocError>
-    ensures { OnOk result (block.new.items ≡ block.old.items ++ separator_before separator place) }
-{
-    if place == 0 {
-        Ok(())
-    } else {
-        block.push(separator)?;
-        Ok(())
-    }
-}
-
-// Appends what ends a line.
-#[inline]
-fn push_terminator(block: &mut Vec<u8>, options: &SerializeOptions) -> Result<(), AllocError>
-    ensures { OnOk result (block.new.items ≡ block.old.items ++ options.now.line_terminator) }
-{
-    block.extend_from_slice(options.line_terminator.as_str().as_bytes())
-}
-
-// Appends the name of a column, as a text.
-fn push_name(
-    block: &mut Vec<u8>,
-    column: &Column,
-    options: &SerializeOptions,
-) -> Result<(), AllocError>
-    ensures { OnOk result (block.new.items ≡ block.old.items ++ written_text (cell_options options.now) column.now.name) }
-{
-    push_text(block, column.name().as_bytes(), options)
-}
-
-// Appends the line of the names.
-fn push_header(
-    block: &mut Vec<u8>,
-    columns: &[Column],
-    options: &SerializeOptions,
-) -> Result<(), AllocError>
-    ensures { OnOk result (block.new.items ≡ block.old.items ++ header_line (cell_options options.now) (names_of columns.now)) }
-{
-    for (place, column) in columns.iter().enumerate() {
-        push_separator(block, options.separator, place)?;
-        push_name(block, column, options)?;
-    }
-    push_terminator(block, options)
-}
-
-// Appends a byte order mark, where one is asked for.
-fn push_mark(block: &mut Vec<u8>, include_bom: bool) -> Result<(), AllocError>
-    ensures { OnOk result (block.new.items ≡ block.old.items ++ (if include_bom then byte_order_mark else [])) }
-{
-    if include_bom {
-        block.extend_from_slice(&[0xEF, 0xBB, 0xBF])?;
-    }
-    Ok(())
-}
-
-// Appends what stands before the rows.
-fn push_head(
-    block: &mut Vec<u8>,
-    columns: &[Column],
-    options: &CsvWriterOptions,
-) -> Result<(), AllocError>
-    ensures { OnOk result (block.new.items ≡ block.old.items ++ head_text (frame_options options.now) (names_of columns.now)) }
-{
-    push_mark(block, options.include_bom)?;
-    if options.include_header {
-        push_header(block, columns, &options.serialize_options)?;
-    }
-    Ok(())
-}
-
-// A block of what stands before the rows. Refuses only want of memory.
-fn head_block(
-    alloc: Global,
-    columns: &[Column],
-    options: &CsvWriterOptions,
-) -> Result<Block, AllocError>
-    ensures { IfOk result (λ block. block ≡ head_text (frame_options options.now) (names_of columns.now)) }
-{
-    let mut head = Vec::new(alloc);
-    push_head(&mut head, columns, options)?;
-    let mut block = Block::new(alloc);
-    block.append(&head)?;
-    Ok(block)
-}
-
 // The number of rows.
 fn row_count(columns: &[Column]) -> usize
     ensures { result ≡ height_of columns.now }
@@ -322,6 +236,50 @@ fn write_side_by_side<W: Threads + Sync, Si: Sink>(
     }
 }
 
+/// Appends what is in a block to a sink, and behind it the lines of the rows, printed by so many workers, by 64 at most and by no
+/// more than there are batches.
+///
+/// Refuses a fault of the device, and want of memory, here, of a worker or in the sink. A prefix of these was then appended.
+pub(crate) fn write_rows_behind<W: Threads + Sync, Si: Sink>(
+    rt: &W,
+    alloc: Global,
+    workers: usize,
+    head: Block,
+    columns: &[Column],
+    options: &CsvWriterOptions,
+    sink: &mut Si,
+) -> Result<(), SinkFault>
+    requires workers { 0 < workers }
+    requires columns { HaveHeight (height_of columns.now) columns.now }
+    ensures text { OnOk result (Appends (Si.received sink.old) (Si.received sink.new) (head ++ row_lines (cell_options options.now.serialize_options) columns.now 0 (height_of columns.now))) }
+    ensures prefix { AppendsPrefix (Si.received sink.old) (Si.received sink.new) (head ++ row_lines (cell_options options.now.serialize_options) columns.now 0 (height_of columns.now)) }
+    ensures later { Si.faults sink.old ≤ Si.faults sink.new }
+    ensures later_wants { Si.wants sink.old ≤ Si.wants sink.new }
+    ensures device { IsErrOf result SinkFault.Device → Rose (Si.faults sink.old) (Si.faults sink.new) }
+{
+    let cells = &options.serialize_options;
+    let Ok(sources) = sources_of(alloc, columns, cells) else {
+        return Err(SinkFault::OutOfMemory);
+    };
+    let height = row_count(columns);
+    let batch_size = options.batch_size.max(1);
+    if workers == 1 || height <= batch_size {
+        return write_in_blocks(alloc, head, columns, &sources, height, cells, sink);
+    }
+    let batches = (height / batch_size).saturating_add(1);
+    write_side_by_side(
+        rt,
+        alloc,
+        workers.min(WORKERS).min(batches),
+        head.as_slice(),
+        columns,
+        &sources,
+        height,
+        options,
+        sink,
+    )
+}
+
 /// Appends the text of a frame to a sink, printed by so many workers, by 64 at most and by no more than there are batches.
 ///
 /// The rows are printed in batches of the options' size, of which 0 counts as 1. A frame of no more than one batch, and each
@@ -346,28 +304,8 @@ pub fn write_frame<W: Threads + Sync, Si: Sink>(
     ensures later_wants { Si.wants sink.old ≤ Si.wants sink.new }
     ensures device { IsErrOf result SinkFault.Device → Rose (Si.faults sink.old) (Si.faults sink.new) }
 {
-    let cells = &options.serialize_options;
-    let Ok(sources) = sources_of(alloc, columns, cells) else {
+    let Ok(head) = head_block(alloc, &ColumnNames(columns), options) else {
         return Err(SinkFault::OutOfMemory);
     };
-    let Ok(head) = head_block(alloc, columns, options) else {
-        return Err(SinkFault::OutOfMemory);
-    };
-    let height = row_count(columns);
-    let batch_size = options.batch_size.max(1);
-    if workers == 1 || height <= batch_size {
-        return write_in_blocks(alloc, head, columns, &sources, height, cells, sink);
-    }
-    let batches = (height / batch_size).saturating_add(1);
-    write_side_by_side(
-        rt,
-        alloc,
-        workers.min(WORKERS).min(batches),
-        head.as_slice(),
-        columns,
-        &sources,
-        height,
-        options,
-        sink,
-    )
+    write_rows_behind(rt, alloc, workers, head, columns, options, sink)
 }

@@ -2,6 +2,8 @@
 #![tactic(auto)]
 
 #[cfg(test)]
+mod batched_writer;
+#[cfg(test)]
 mod csv_writer;
 #[cfg(test)]
 mod given;

@@ -1,4 +1,5 @@
 mod BatchLaws
+mod BatchingLaws
 mod BlockLaws
 mod CountLaws
 mod DateLaws
@@ -15,6 +16,7 @@ pub mod PrintLaws
 pub mod PutLaws
 pub mod SourceLaws
 mod SpecialLaws
+mod StackLaws
 mod TimeLaws
 mod WordLaws
 pub mod WriteLaws

@@ -65,7 +65,7 @@ IsWriting-all old now next block text writing appended =
     subst (λ l. Appends old next l) (sym (append-nil (writing.flushed ++ block)) ∙ writing.whole) (Appends-more old now next writing.flushed block writing.appended appended)
 
 -- the lines of some rows, and then those of the others
-row_lines-both : (o : WriteOptions) (columns : List ColumnValue) (row a b : ℕ) → row_lines o columns row (a + b) ≡ row_lines o columns row a ++ row_lines o columns (row + a) b
+pub row_lines-both : (o : WriteOptions) (columns : List ColumnValue) (row a b : ℕ) → row_lines o columns row (a + b) ≡ row_lines o columns row a ++ row_lines o columns (row + a) b
 row_lines-both o columns row zero b =
     let none : zero + b ≡ b = omega arith in
     let here : row ≡ row + zero = omega arith in

@@ -2,6 +2,7 @@ pub mod Batches
 pub mod CellForms
 pub mod CellSources
 pub mod CellsLeft
+pub mod JoinedBatches
 pub mod Lines
 pub mod Options
 pub mod Printing

@@ -3,7 +3,6 @@ ghost use Rattle.std.specs.Prelude.{◌≡◌, ◌≤◌, true, false, IfOk, IfE
 ghost use Rattle.std.specs.Bool.{Decides};
 ghost use Rattle.std.specs.Cmp.Lexicographic.{pointwise};
 ghost use Rattle.std.specs.Io.KnownBytes.{Appends};
-ghost use Rattle.std.specs.Thread.{IsSync};
 ghost use Rattle.std.specs.Option.{option_map_or};
 ghost use Rattle.pl_frame.specs.Equal.{entries_equal};
 ghost use Rattle.pl_frame.specs.FrameParts.{schema_of};
@@ -87,7 +86,6 @@ impl<S: Sink> BatchedWriter<S> {
     /// fault of the sink; and want of memory. A prefix was then appended, and no later call makes up for the rest: byte order
     /// mark and header count as begun.
     pub fn write_batch<W: Threads + Sync>(&mut self, rt: &W, df: &DataFrame) -> PolarsResult<()>
-        requires sync { IsSync W.row }
         requires batch { HaveSchema self.old.schema df.now }
         ensures written { OnOk result (Appends (S.received self.old.writer.sink) (S.received self.new.writer.sink) (batch_text self.old df.now)) }
         ensures can { OnOk result (IsReady self.old.writer) }

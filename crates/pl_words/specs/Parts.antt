@@ -61,6 +61,7 @@ options =
     ∷ codes "--out-null"
     ∷ codes "--out-eol"
     ∷ codes "--style"
+    ∷ codes "--batch"
     ∷ []
 
 -- the value of an option that stands in a word of its own is not empty and does not begin with a minus

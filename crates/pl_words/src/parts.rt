@@ -78,6 +78,7 @@ fn is_option(name: &str) -> bool
             | "--out-null"
             | "--out-eol"
             | "--style"
+            | "--batch"
     )
 }
 

@@ -62,10 +62,11 @@ pub(crate) fn write_options_of(
     let null = text_or(alloc, parts, "--out-null", "")?;
     let line_terminator = terminator_or(alloc, parts, "--out-eol", "\n")?;
     let quote_style = set_or(alloc, parts, "--style", QuoteStyle::Necessary)?;
+    let batch_size = set_or(alloc, parts, "--batch", 1024)?;
     Ok(CsvWriterOptions {
         include_bom: has_name(parts, "--out-bom"),
         include_header: !has_name(parts, "--out-no-header"),
-        batch_size: 1024,
+        batch_size,
         maintain_order: false,
         serialize_options: SerializeOptions {
             separator,

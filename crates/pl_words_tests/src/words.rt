@@ -43,6 +43,7 @@ fn assert_meaning(rt: &impl Abort, parsed: &Result<Conversion, WordsFault>) {
             assert_columns(rt, read);
             assert_read(rt, read);
             assert!(rt; write.serialize_options.separator == b'|');
+            assert!(rt; write.batch_size == 0);
         }
         Err(_) => panic!(rt; "these words have a meaning"),
     }
@@ -71,6 +72,8 @@ fn words_have_a_meaning(rt: HostRuntime) {
         "--infer=all",
         "--dates",
         "--out-sep=|",
+        "--batch",
+        "0",
     ];
     let words = words_of(&rt, rt.alloc(), &texts);
     assert_meaning(&rt, &parse_words(rt.alloc(), &words));
@@ -88,6 +91,7 @@ fn words_have_no_meaning(rt: HostRuntime) {
         ["--schema=a:int64", "--row-offset=1"],
         ["--schema=a:int64", "--schema=a:int64"],
         ["--infer=ALL", "--allow-empty"],
+        ["--no-header", "--batch=all"],
     ] {
         assert!(rt; are_refused(&rt, rt.alloc(), &texts), "{texts:?}");
     }

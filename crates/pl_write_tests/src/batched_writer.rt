@@ -1,14 +1,17 @@
 //! Tests of `pl_write::batched_writer`.
+ghost use Rattle.std.specs.Prelude.{◌≡◌};
+ghost use Rattle.pl_frame.specs.FrameParts.{stacked};
 
 use crate::given::{frame_of, name};
 use pl_frame::column::Column;
 use pl_frame::data_type::DataType;
-use pl_frame::error::{ComputeFault, OpFault, PolarsError};
+use pl_frame::error::{ComputeFault, OpFault, PolarsError, PolarsResult};
 use pl_frame::frame::DataFrame;
 use pl_frame::schema::Schema;
 use pl_frame::sink::{MemSink, PipeSink, Sink};
 use pl_write::batched_writer::BatchedWriter;
 use pl_write::csv_writer::{CsvWriter, SerWriter};
+use pl_write::laws::batches_are_one_text;
 use std::alloc::Global;
 use std::process::Abort;
 use std::thread::Threads;
@@ -45,7 +48,7 @@ fn write_number<W: Abort + Threads + Sync, S: Sink>(
     alloc: Global,
     writer: &mut BatchedWriter<S>,
     number: i128,
-) -> Result<(), PolarsError> {
+) -> PolarsResult<()> {
     let batch = batch(rt, alloc, "a", number);
     assert!(rt; writer.fits(&batch));
     writer.write_batch(rt, &batch)
@@ -140,4 +143,31 @@ fn header_is_begun_once(rt: HostRuntime) {
     let mut sink = PipeSink::new(rt.alloc(), 1, &[1]);
     finish_after_a_fault(&rt, rt.alloc(), &mut sink);
     assert!(rt; sink.received() == b"a".as_slice());
+}
+
+// Puts the rows of a batch behind those of a frame.
+fn stack(rt: &impl Abort, frame: &mut DataFrame, batch: &DataFrame)
+    ensures { frame.new ≡ stacked frame.old batch.now }
+{
+    assert!(rt; frame.has_same_columns(batch));
+    frame.vstack(batch).expect(rt, "a frame");
+}
+
+// Writes two batches, and their frame.
+fn write_both_ways<W: Abort + Threads + Sync>(rt: &W, alloc: Global) -> PolarsResult<()> {
+    let mut one = CsvWriter::new(alloc, MemSink::new(alloc)).expect(rt, "a writer");
+    let writer = CsvWriter::new(alloc, MemSink::new(alloc)).expect(rt, "a writer");
+    let schema = schema(rt, alloc);
+    let mut batched = writer.batched(&schema).expect(rt, "a writer");
+    let batches = [batch(rt, alloc, "a", 1), batch(rt, alloc, "a", 2)];
+    let mut whole = DataFrame::empty_with_schema(alloc, &schema).expect(rt, "a frame");
+    stack(rt, &mut whole, &batches[0]);
+    stack(rt, &mut whole, &batches[1]);
+    assert!(rt; batched.fits(&batches[0]) && batched.fits(&batches[1]));
+    batches_are_one_text(rt, &mut one, &mut batched, &whole, &batches)
+}
+
+#[test]
+fn batches_and_their_frame_are_written(rt: HostRuntime) {
+    assert!(rt; write_both_ways(&rt, rt.alloc()).is_ok());
 }

@@ -12,3 +12,4 @@ pub mod ReaderMakers
 pub mod Laws
 pub mod Chunk
 pub mod Batches
+pub mod NextFrames

@@ -1,9 +1,9 @@
 -- Parts that were read, judged and made frames of.
-use Rattle.std.proofs.Common.{◌≡◌, ℕ, zero, suc, ◌+◌, ◌-◌, ◌<◌, ◌≤◌, List, [], ◌∷◌, ◌++◌, length, take, drop, map, get_or, reverse, refl, sym, ◌∙◌, ap, subst, inl, inr, append_assoc, append-nil, arith, length-append, length-take, length-drop}
-use Rattle.std.specs.Prelude.{◌⊎◌, false, Option, None, Some, IfSome, is_some, Result, Ok, Err, IfOk, OnOk}
-use Rattle.std.specs.List.{flat_map, AllByRecursion}
+use Rattle.std.proofs.Common.{◌≡◌, ℕ, suc, ◌+◌, ◌-◌, ◌<◌, ◌≤◌, List, [], ◌∷◌, ◌++◌, length, take, drop, map, get_or, reverse, refl, sym, ◌∙◌, ap, subst, inl, inr, append_assoc, append-nil, arith, length-append, length-drop}
+use Rattle.std.specs.Prelude.{false, Option, None, Some, IfSome, is_some, Result, Ok, Err, IfOk, OnOk}
+use Rattle.std.specs.List.{flat_map}
 use Rattle.std.specs.Option.{option_map}
-use Rattle.std.proofs.lemmas.List.{take_all, drop_all, take_more, drop_more, take-append-drop, take-append-le, drop-append-le, reverse-append, reverse-reverse, map-append, length-map}
+use Rattle.std.proofs.lemmas.List.{take_all, drop_all, take_more, drop_more, take-append-drop, take-append-le, drop-append-le, reverse-append, map-append}
 use Rattle.std.proofs.lemmas.List.Concat.{flat_map-append}
 use Rattle.std.proofs.Math.Seq.{drop-append_seam, take-append_seam}
 use Rattle.pl_frame.specs.declared.error.FaultKind.{FaultKind}
@@ -16,13 +16,12 @@ use Rattle.pl_infer.specs.declared.read_options.CsvReadOptions.{CsvReadOptions}
 use Rattle.pl_infer.specs.declared.row_index.RowIndex.{RowIndex}
 use Rattle.pl_infer.specs.Causes.{first_some, IsFault}
 use Rattle.pl_rows.specs.declared.columns.RangeColumns.{RangeColumns}
-use Rattle.pl_rows.specs.Columns.{entries_in, frame_of_rows}
 use Rattle.pl_rows.specs.Ranges.{IsRangeRead}
 use Rattle.pl_rows.specs.Rows.{first_faulty}
 use Rattle.pl_table.specs.Rows.{Row}
 use Rattle.pl_read.specs.declared.batch_parts.Part.{Part}
 use Rattle.pl_read.specs.declared.next_frames.Behind.{Behind}
-use Rattle.pl_read.specs.Batches.{AreFramesOf, IsCauseBehind, rows_behind, frame_behind, faulty_behind, codes_past_rows}
+use Rattle.pl_read.specs.Batches.{AreFramesOf, rows_behind, frame_behind, faulty_behind, codes_past_rows}
 use Rattle.pl_frame.specs.Dialect.{AreDistinct, IsDialect}
 use Rattle.pl_scan.specs.Dialect as scan
 use Rattle.pl_infer.specs.Text.{marks_of}
@@ -34,7 +33,6 @@ use Rattle.pl_read.specs.Steps.{CanReadData}
 use Rattle.pl_read.proofs.DataLaws.{readable-places}
 use Rattle.pl_read.proofs.ProjectionLaws.{projected-rises, projected-below}
 use Rattle.pl_read.specs.Options.{rules_of}
-use Rattle.pl_read.specs.Projection.{projected}
 use Rattle.pl_read.specs.Refusals.{numbers_past, codes_past, index_past}
 use Rattle.pl_read.specs.Rows.{columns_read}
 use Rattle.pl_read.proofs.CauseLaws.{first_some-behind}

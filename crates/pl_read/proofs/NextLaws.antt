@@ -1,17 +1,15 @@
 -- What is read of the rows behind others.
-use Rattle.std.proofs.Common.{◌≡◌, ℕ, zero, suc, ◌+◌, ◌<◌, ◌≤◌, ◌^◌, Bool, true, false, ◌&&◌, ◌==◌, nat_lt, List, [], ◌∷◌, ◌++◌, length, take, drop, map, refl, sym, ◌∙◌, ap, subst, inl, inr, arith}
+use Rattle.std.proofs.Common.{◌≡◌, ℕ, zero, suc, ◌+◌, ◌<◌, ◌≤◌, Bool, true, false, ◌&&◌, ◌==◌, nat_lt, List, [], ◌∷◌, ◌++◌, length, refl, sym, ◌∙◌, ap, subst, inl, inr, arith}
 use Rattle.std.specs.Prelude.{◌⊎◌, if◌then◌else◌, Option, None, Some}
 use Rattle.std.specs.List.{filter_map}
 use Rattle.std.specs.Option.{option_map, option_map_or, option_and_then}
 use Rattle.std.proofs.lemmas.Bool.{lt-ltb}
 use Rattle.std.proofs.lemmas.Bool.Decides.{nat_tests}
-use Rattle.std.proofs.lemmas.List.{length-map, length-take, take_all}
+use Rattle.std.proofs.lemmas.List.{length-map, length-take}
 use Rattle.pl_frame.specs.declared.error.FaultKind.{FaultKind}
-use Rattle.pl_frame.specs.declared.error.ComputeFault.TheVariants as compute_fault
-use Rattle.pl_frame.specs.declared.error.PolarsError.{PolarsError}
 use Rattle.pl_frame.specs.declared.error.PolarsError.TheVariants as error
 use Rattle.pl_frame.specs.Dialect.{Marks}
-use Rattle.pl_frame.specs.Frame.{ColumnValue, IsFrame, height_of}
+use Rattle.pl_frame.specs.Frame.{IsFrame, height_of}
 use Rattle.pl_frame.specs.Schema.{Entry, HaveDistinctNames}
 use Rattle.pl_scan.specs.Items.{items_behind}
 use Rattle.pl_scan.proofs.ItemLaws.{length-items}
@@ -31,15 +29,13 @@ use Rattle.pl_rows.specs.Ranges.{limited, has_unjudged, end_of, IsRangeRead}
 use Rattle.pl_rows.specs.Rows.{first_fault, first_faulty}
 use Rattle.pl_rows.proofs.RangeLaws.{first_faulty-more, first_faulty-here}
 use Rattle.pl_rows.proofs.WholeLaws.{fault-first}
-use Rattle.pl_infer.specs.Causes.{when, first_some, IsFault}
-use Rattle.pl_read.specs.Batches.{rows_behind, index_behind, frame_behind, faulty_behind, codes_past_rows, IsCauseBehind}
+use Rattle.pl_infer.specs.Causes.{when}
+use Rattle.pl_read.specs.Batches.{rows_behind, index_behind, frame_behind}
 use Rattle.pl_read.specs.NextFrames.{options_behind}
 use Rattle.pl_read.specs.Options.{rules_of}
 use Rattle.pl_read.specs.Projection.{projected, has_projected, taken_name}
-use Rattle.pl_read.specs.Refusals.{nothing_read, numbers_past, codes_past, index_past}
-use Rattle.pl_read.specs.Rows.{columns_read, rows_in, with_index}
+use Rattle.pl_read.specs.Rows.{columns_read, with_index}
 use Rattle.pl_read.specs.Steps.{IsPlanOf, CanReadData}
-use Rattle.pl_read.proofs.CauseLaws.{first_some-behind, first_some-here, first_some-front}
 use Rattle.pl_read.proofs.DataLaws.{faulty-is, no-fault, columns-are, height-is, IsFrame-indexed}
 
 -- ---- how many rows

@@ -1,18 +1,16 @@
 -- Parts of the text of the next batches.
-use Rattle.std.proofs.Common.{◌≡◌, ℕ, suc, ◌+◌, ◌-◌, ◌<◌, ◌≤◌, true, false, not, List, [], ◌∷◌, ◌++◌, length, take, drop, map, refl, sym, ◌∙◌, ap, subst, inl, inr, append-nil, arith, length-append}
+use Rattle.std.proofs.Common.{◌≡◌, ℕ, ◌+◌, ◌-◌, ◌<◌, ◌≤◌, true, false, not, List, [], ◌∷◌, ◌++◌, length, take, drop, sym, ◌∙◌, ap, inl, inr, append-nil, arith, length-append}
 use Rattle.std.specs.Prelude.{◌⊎◌, Result, Ok, Err, IfOk}
 use Rattle.std.specs.List.{flat_map}
-use Rattle.std.proofs.lemmas.List.{length-map, map-append, take_all}
+use Rattle.std.proofs.lemmas.List.{length-map, take_all}
 use Rattle.std.proofs.lemmas.List.Concat.{flat_map-append}
 use Rattle.pl_frame.specs.Dialect.{IsDialect}
-use Rattle.pl_table.specs.Rows.{Row, rows}
 use Rattle.pl_rows.proofs.RangeLaws.{rows-nil}
 use Rattle.pl_table.proofs.PieceLaws.{rows-append}
 use Rattle.pl_infer.specs.declared.read_options.CsvReadOptions.{CsvReadOptions}
 use Rattle.pl_infer.specs.Text.{marks_of, comment_of}
 use Rattle.pl_read.specs.declared.batch_parts.Part.{Part}
 use Rattle.pl_read.specs.declared.batch_parts.Parts.{Parts}
-use Rattle.pl_read.specs.Batches.{EndsAtItem, batch_text}
 use Rattle.pl_read.specs.NextFrames.{texts_of, records_of, AreParts}
 use Rattle.pl_read.proofs.NextTextLaws.{HasCut, HasCut-start, HasCut-next, HasCut-all, HasCut-end, first_size, is_unclosed, split-take}
 

@@ -1,25 +1,22 @@
 -- Which text the next batches are read of.
-use Rattle.std.proofs.Common.{◌≡◌, ℕ, zero, suc, ◌+◌, ◌-◌, ◌<◌, ◌≤◌, Bool, true, false, cond, ◌&&◌, not, ◌==◌, List, [], ◌∷◌, ◌++◌, length, take, drop, map, refl, sym, ◌∙◌, ap, subst, eqb-true, append_assoc, zero-add, arith, length-take, length-drop, length-append, ◌⊎◌, inl, inr}
-use Rattle.std.specs.Prelude.{Option, None, Some, filter, unwrap_or}
+use Rattle.std.proofs.Common.{◌≡◌, ℕ, zero, suc, ◌+◌, ◌-◌, ◌<◌, ◌≤◌, Bool, true, false, cond, ◌&&◌, not, ◌==◌, List, [], ◌∷◌, ◌++◌, length, take, drop, refl, sym, ◌∙◌, ap, subst, eqb-true, zero-add, arith, length-drop, ◌⊎◌, inl, inr}
+use Rattle.std.specs.Prelude.{Option, None, Some, filter}
 use Rattle.std.specs.List.{range_with_len, last_or}
-use Rattle.std.proofs.lemmas.List.{length-take-le, take-append-drop}
 use Rattle.std.proofs.lemmas.Option.{none-some, same_Some}
 use Rattle.pl_frame.specs.Dialect.{Marks, AreDistinct, IsCommentPrefix}
 use Rattle.pl_scan.specs.Closing.{is_open_item, ends_open}
-use Rattle.pl_scan.specs.Items.{items, items_behind}
-use Rattle.pl_scan.proofs.ItemLaws.{items-nil, length-items, items_behind-nil}
-use Rattle.std.proofs.lemmas.List.{length-map, take_all, drop_all, drop-drop}
+use Rattle.pl_scan.specs.Items.{items}
+use Rattle.pl_scan.proofs.ItemLaws.{items-nil}
+use Rattle.std.proofs.lemmas.List.{take_all, drop_all, drop-drop}
 use Rattle.std.specs.Option.{option_map_or}
-use Rattle.std.specs.List.{filter_map}
 use Rattle.pl_frame.specs.Dialect.{IsDialect}
 use Rattle.pl_board.specs.Cutting.{cut}
-use Rattle.pl_table.specs.Rows.{Row, row_of, rows}
 use Rattle.pl_infer.specs.declared.read_options.CsvReadOptions.{CsvReadOptions}
 use Rattle.pl_infer.specs.Text.{marks_of, comment_of}
-use Rattle.pl_read.specs.Batches.{EndsAtItem, pieces_length, pieces_close, batch_text, rows_behind}
+use Rattle.pl_read.specs.Batches.{EndsAtItem, pieces_length, pieces_close, batch_text}
 use Rattle.pl_scan.specs.Laws.{IsEnded}
 use Rattle.pl_scan.specs.LineEnds.{begins_end, is_even_end, even_ends, cut_size}
-use Rattle.pl_scan.proofs.AppendLaws.{IsEnded-last, ended-front, closing_items}
+use Rattle.pl_scan.proofs.AppendLaws.{closing_items}
 
 -- ---- two texts that end where an item does
 

@@ -1,5 +1,5 @@
 -- How the rows of the next batches are read.
-use Rattle.std.specs.Prelude.{◌≡◌, ℕ, ◌+◌, ◌<◌, ◌≤◌, ◌⊎◌, List, length, map, take, drop, Option, None, Some, IfSome}
+use Rattle.std.specs.Prelude.{◌≡◌, ℕ, ◌+◌, ◌<◌, ◌≤◌, ◌⊎◌, List, length, map, take, drop, None, Some, IfSome}
 use Rattle.std.specs.List.{flat_map, AllByRecursion}
 use Rattle.pl_frame.specs.Dialect.{AreDistinct}
 use Rattle.pl_frame.specs.Schema.{Entry}

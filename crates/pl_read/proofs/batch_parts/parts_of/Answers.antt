@@ -1,11 +1,10 @@
-use Rattle.std.proofs.Common.{◌≡◌, ◌+◌, ◌-◌, ◌++◌, ◌∷◌, [], length, take, drop, map, sym, ◌∙◌, ap, refl, inl, inr}
-use Rattle.std.specs.Prelude.{IfOk}
+use Rattle.std.proofs.Common.{◌≡◌, ◌+◌, ◌-◌, ◌++◌, ◌∷◌, [], take, drop, ◌∙◌, ap}
 use Rattle.std.proofs.lemmas.List.{map-append}
 use Rattle.pl_board.specs.Cutting.{cut}
 use Rattle.pl_read.specs.declared.batch_parts.Part.{Part}
 use Rattle.pl_read.specs.NextFrames.{texts_of, AreParts}
 use Rattle.pl_read.proofs.NextTextLaws.{first_size}
-use Rattle.pl_read.proofs.NextPartLaws.{ArePieces-start, ArePieces-next, AreParts-end, AreParts-all, ok-then}
+use Rattle.pl_read.proofs.NextPartLaws.{ArePieces-start, ArePieces-next, AreParts-all, ok-then}
 use Rattle.pl_read.proofs.batch_parts.parts_of.Goals as goal
 
 pub loop-left-init : goal.loop-left-init

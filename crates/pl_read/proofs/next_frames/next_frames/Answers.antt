@@ -1,16 +1,5 @@
-use Rattle.std.proofs.Common.{◌≡◌, ◌+◌, length, take, sym, ◌∙◌, ap, subst, arith, length-take}
-use Rattle.std.specs.Prelude.{◌⊎◌, IfErr}
-use Rattle.pl_frame.specs.declared.error.PolarsError.TheVariants as error
-use Rattle.pl_rows.specs.Rows.{first_faulty}
-use Rattle.pl_read.specs.declared.next_frames.Behind.{Behind}
-use Rattle.pl_read.specs.Batches.{AreFramesOf, EndsBatches, IsCauseBehind, rows_behind, batch_text}
-use Rattle.pl_read.specs.NextFrames.{CanReadBehind, rows_of_parts}
-use Rattle.pl_read.specs.Options.{rules_of}
-use Rattle.pl_read.specs.Refusals.{numbers_past}
-use Rattle.pl_read.specs.Rows.{columns_read}
+use Rattle.std.proofs.Common.{length, take, ap, arith, length-take}
 use Rattle.pl_read.proofs.NextLaws.{CanReadData-behind, few-behind}
-use Rattle.pl_read.proofs.NextPartLaws.{ok-then}
-use Rattle.pl_read.proofs.NextFrameLaws.{ok-on}
 use Rattle.pl_read.proofs.next_frames.next_frames.Goals as goal
 
 pub read_parts-requires-clause-can : goal.read_parts-requires-clause-can

@@ -1,7 +1,5 @@
-use Rattle.std.proofs.Common.{◌≡◌, ◌+◌, ◌<◌, length, take, drop, sym, ◌∙◌, ap, refl, inl, inr, arith}
-use Rattle.pl_rows.specs.Rows.{first_faulty}
+use Rattle.std.proofs.Common.{◌≡◌, ◌+◌, take, drop, ◌∙◌, ap, refl, inl, arith}
 use Rattle.pl_read.specs.Batches.{rows_behind}
-use Rattle.pl_read.specs.NextFrames.{rows_of_parts}
 use Rattle.pl_read.specs.Options.{rules_of}
 use Rattle.pl_read.specs.Rows.{columns_read}
 use Rattle.pl_frame.specs.Frame.{height_of}

@@ -1,5 +1,4 @@
 use Rattle.std.proofs.Common.{refl}
-use Rattle.std.specs.Prelude.{Some}
 use Rattle.pl_read.specs.NextFrames.{AreReadParts}
 use Rattle.pl_read.proofs.NextPartLaws.{ok-then}
 use Rattle.pl_read.proofs.NextFrameLaws.{AreReadParts-one, CanReadPart-data, IsDialect-plan}

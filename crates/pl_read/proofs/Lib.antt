@@ -12,3 +12,7 @@ pub mod PrefixLaws
 pub mod EmptyLaws
 pub mod ChunkLaws
 pub mod WorkerLaws
+pub mod NextTextLaws
+pub mod NextPartLaws
+pub mod NextLaws
+pub mod NextFrameLaws

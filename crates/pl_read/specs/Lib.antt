@@ -11,3 +11,5 @@ pub mod CsvReader
 pub mod ReaderMakers
 pub mod Laws
 pub mod Chunk
+pub mod Batches
+pub mod NextFrames

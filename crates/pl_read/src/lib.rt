@@ -1,6 +1,7 @@
 //! Readers: the frame that an input means under the options of a read, or the first cause against it.
 #![tactic(auto)]
 
+mod batch_parts;
 pub mod bytes_reader;
 pub mod checks;
 pub mod chunk;
@@ -8,6 +9,7 @@ pub mod csv_reader;
 mod indexing;
 pub mod laws;
 pub mod named_columns;
+mod next_frames;
 mod nulls;
 mod projecting;
 pub mod reader_makers;

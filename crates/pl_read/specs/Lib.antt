@@ -11,3 +11,4 @@ pub mod CsvReader
 pub mod ReaderMakers
 pub mod Laws
 pub mod Chunk
+pub mod RowTest

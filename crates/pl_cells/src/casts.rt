@@ -46,13 +46,29 @@ pub fn cast_columns<W: Threads + Sync>(
     ensures refused { IfErr result (IsCastFault (first_fault ignore_errors df.old to_cast.now)) }
     ensures unchanged { OnErr result (df.new ≡ df.old) }
 {
-    let casts = if parallel {
-        casts_by_workers(rt, alloc, df.columns(), to_cast, ignore_errors)?
-    } else {
-        make_casts(alloc, df.columns(), to_cast, ignore_errors)?
-    };
+    let casts = casts_of(rt, alloc, df.columns(), to_cast, parallel, ignore_errors)?;
     place_all(df, casts);
     Ok(())
+}
+
+// The cast column of each field with its place, where there is one of its name, made by workers where that is asked.
+fn casts_of<W: Threads + Sync>(
+    rt: &W,
+    alloc: Global,
+    columns: &[Column],
+    to_cast: &[Field],
+    parallel: bool,
+    ignore_errors: bool,
+) -> PolarsResult<Vec<Option<(usize, Column)>>>
+    ensures made { IfOk result (λ casts. casts.items ≡ map (placed_cast columns.now) to_cast.now) }
+    ensures faultless { OnOk result (first_fault ignore_errors columns.now to_cast.now ≡ None) }
+    ensures refused { IfErr result (IsCastFault (first_fault ignore_errors columns.now to_cast.now)) }
+{
+    if parallel {
+        casts_by_workers(rt, alloc, columns, to_cast, ignore_errors)
+    } else {
+        make_casts(alloc, columns, to_cast, ignore_errors)
+    }
 }
 
 // The cast column of each field with its place, where there is one of its name.

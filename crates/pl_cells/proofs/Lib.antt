@@ -2,6 +2,7 @@ pub mod AroundLaws
 mod AsciiLaws
 pub mod BufferLaws
 pub mod CastLaws
+pub mod CastWorkerLaws
 pub mod ColumnLaws
 pub mod CutLaws
 pub mod DateAtLaws

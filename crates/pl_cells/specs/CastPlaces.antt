@@ -1,9 +1,10 @@
 -- Cast columns on the way into a frame, each with its place there.
-use Rattle.std.specs.Prelude.{◌≡◌, ℕ, List, [], ◌∷◌, Option, None, Some, length, slice_get, slice_set}
+use Rattle.std.specs.Prelude.{◌≡◌, ℕ, Bool, List, [], ◌∷◌, Option, None, Some, Result, IfOk, OnOk, IfErr, length, slice_get, slice_set}
 use Rattle.std.specs.Option.{option_map, option_map_or, option_and_then}
 use Rattle.pl_frame.specs.declared.schema.Field.{Field}
 use Rattle.pl_frame.specs.Frame.{ColumnValue}
-use Rattle.pl_cells.specs.Casts.{carried_cast, place_named}
+use Rattle.pl_frame.specs.declared.error.PolarsError.{PolarsError}
+use Rattle.pl_cells.specs.Casts.{carried_cast, place_named, field_fault, IsCastFault}
 
 -- the cast column of a field with its place, where the frame has one of its name
 abbrev pub placed_cast : List ColumnValue → Field → Option (ℕ × ColumnValue)
@@ -23,3 +24,9 @@ with_all_placed (placed ∷ rest) columns = with_placed placed (with_all_placed 
 abbrev pub FitsAt : List (List ℕ) → ℕ → Option (ℕ × ColumnValue) → Type 0
 FitsAt names height None = Unit {0}
 FitsAt names height (Some placed) = (slice_get names placed.0 ≡ Some placed.1.name) × (length placed.1.values ≡ height)
+
+-- what was made of a field: the cast column with its place, where nothing is wrong with it; else the fault, or want of memory
+pub record IsMade (ignore : Bool) (columns : List ColumnValue) (field : Field) (made : Result (Option (ℕ × ColumnValue)) PolarsError) : Type 0 where
+  pub cast : IfOk made (λ cast. cast ≡ placed_cast columns field)
+  pub faultless : OnOk made (field_fault ignore columns field ≡ None)
+  pub refused : IfErr made (IsCastFault (field_fault ignore columns field))

@@ -10,6 +10,7 @@ ghost use Rattle.pl_frame.specs.Types.{is_readable};
 ghost use Rattle.pl_cells.specs.Casts.{is_read, is_carried, is_text_cast, read_cell, carried_cell, carried_cast, is_lost, first_lost, cast_fault, field_fault, first_fault, IsCastFault, with_casts};
 ghost use Rattle.pl_cells.specs.CastPlaces.{placed_cast, with_placed, with_all_placed, FitsAt};
 
+use crate::cast_workers::casts_by_workers;
 use crate::decimal_type::Decimal;
 use crate::moment_types::{Date, Datetime, Time};
 use crate::value_types::{Boolean, ValueType};
@@ -22,19 +23,22 @@ use pl_frame::name::PlSmallStr;
 use pl_frame::numbers::Numbers;
 use pl_frame::schema::Field;
 use std::alloc::{AllocError, Global};
+use std::thread::Threads;
 
 /// Casts the columns that a list names to the types that it gives them; a name that the frame lacks is passed over, and
 /// of two fields of one name the first counts. Each value stays where it is one of the new type, and a text has the value
-/// that it writes; where there is none the cell becomes null. All is done on the caller, whatever `parallel` says.
+/// that it writes; where there is none the cell becomes null. Where `parallel` is set, up to four workers cast columns side by
+/// side, and the caller in the place of one that can't be started; the answer is the same.
 ///
 /// In the list's order, refuses a column whose type can't be cast so (`ComputeError` with `Dtype` and its place), and,
 /// where errors are not ignored, one with a cell that becomes null and was not (`Record` with the first such row and
 /// `Value`), and want of memory. The frame is then as it was.
-pub fn cast_columns(
+pub fn cast_columns<W: Threads + Sync>(
+    rt: &W,
     alloc: Global,
     df: &mut DataFrame,
     to_cast: &[Field],
-    _parallel: bool,
+    parallel: bool,
     ignore_errors: bool,
 ) -> PolarsResult<()>
     ensures cast { OnOk result (df.new ≡ with_casts to_cast.now df.old) }
@@ -42,9 +46,29 @@ pub fn cast_columns(
     ensures refused { IfErr result (IsCastFault (first_fault ignore_errors df.old to_cast.now)) }
     ensures unchanged { OnErr result (df.new ≡ df.old) }
 {
-    let casts = make_casts(alloc, df.columns(), to_cast, ignore_errors)?;
+    let casts = casts_of(rt, alloc, df.columns(), to_cast, parallel, ignore_errors)?;
     place_all(df, casts);
     Ok(())
+}
+
+// The cast column of each field with its place, where there is one of its name, made by workers where that is asked.
+fn casts_of<W: Threads + Sync>(
+    rt: &W,
+    alloc: Global,
+    columns: &[Column],
+    to_cast: &[Field],
+    parallel: bool,
+    ignore_errors: bool,
+) -> PolarsResult<Vec<Option<(usize, Column)>>>
+    ensures made { IfOk result (λ casts. casts.items ≡ map (placed_cast columns.now) to_cast.now) }
+    ensures faultless { OnOk result (first_fault ignore_errors columns.now to_cast.now ≡ None) }
+    ensures refused { IfErr result (IsCastFault (first_fault ignore_errors columns.now to_cast.now)) }
+{
+    if parallel {
+        casts_by_workers(rt, alloc, columns, to_cast, ignore_errors)
+    } else {
+        make_casts(alloc, columns, to_cast, ignore_errors)
+    }
 }
 
 // The cast column of each field with its place, where there is one of its name.
@@ -67,7 +91,7 @@ fn make_casts(
 }
 
 // Puts a column with its place at the end.
-fn push_cast(
+pub(crate) fn push_cast(
     casts: &mut Vec<Option<(usize, Column)>>,
     cast: Option<(usize, Column)>,
 ) -> PolarsResult<()>
@@ -104,7 +128,7 @@ fn place(df: &mut DataFrame, cast: Option<(usize, Column)>)
 }
 
 // The cast column of a field with its place, where there is one of its name.
-fn cast_field(
+pub(crate) fn cast_field(
     alloc: Global,
     columns: &[Column],
     field: &Field,

@@ -5,6 +5,7 @@ mod around_point;
 mod ascii;
 pub mod booleans;
 pub mod buffer;
+mod cast_workers;
 pub mod casts;
 mod cell_buffer;
 pub mod cell_fault;

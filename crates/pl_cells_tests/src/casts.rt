@@ -11,6 +11,7 @@ use pl_frame::schema::Field;
 use pl_frame::texts::Texts;
 use std::alloc::Global;
 use std::process::Abort;
+use std::thread::Threads;
 
 // A frame of a column.
 fn frame_of(rt: &impl Abort, alloc: Global, column: Column) -> DataFrame {
@@ -39,9 +40,9 @@ fn int64s(rt: &impl Abort, alloc: Global, first: i64, second: Option<i64>) -> Da
     frame_of(rt, alloc, Column::from_int64(name(rt, alloc, "a"), numbers))
 }
 
-// Casts the column of a name.
-fn cast(
-    rt: &impl Abort,
+// Casts the column of a name, on the caller and by workers, which is to give the same.
+fn cast<W: Abort + Threads + Sync>(
+    rt: &W,
     alloc: Global,
     df: &mut DataFrame,
     column: &str,
@@ -52,7 +53,11 @@ fn cast(
         name: name(rt, alloc, column),
         dtype,
     }];
-    cast_columns(alloc, df, &field, true, ignore_errors)
+    let mut other = df.try_clone().expect(rt, "a frame");
+    let alone = cast_columns(rt, alloc, &mut other, &field, false, ignore_errors);
+    let side_by_side = cast_columns(rt, alloc, df, &field, true, ignore_errors);
+    assert!(rt; *df == other && alone.is_ok() == side_by_side.is_ok());
+    side_by_side
 }
 
 // The number, or the truth value as a number, in the first row of the first column.
@@ -69,7 +74,12 @@ fn first_number(df: &DataFrame) -> Option<i128> {
 }
 
 // The number of a text under another type.
-fn value_of(rt: &impl Abort, alloc: Global, text: &str, dtype: DataType) -> Option<i128> {
+fn value_of<W: Abort + Threads + Sync>(
+    rt: &W,
+    alloc: Global,
+    text: &str,
+    dtype: DataType,
+) -> Option<i128> {
     let mut df = texts(rt, alloc, text, "");
     cast(rt, alloc, &mut df, "a", dtype, true).expect(rt, "a cast");
     first_number(&df)

@@ -13,3 +13,4 @@ pub mod Laws
 pub mod Chunk
 pub mod Batches
 pub mod NextFrames
+pub mod RowTest

@@ -8,9 +8,12 @@ ghost use Rattle.pl_read.specs.BytesReader.{input_of};
 ghost use Rattle.pl_read.specs.CsvReader.{Reader, OfInput, IsFinishFault, IsMeaning, AnswersUnlessFailed};
 ghost use Rattle.pl_read.specs.Options.{settled_schema};
 ghost use Rattle.pl_read.specs.Reading.{IsRead};
+ghost use Rattle.pl_read.specs.RowTest.{IsTested, tested};
 
 use crate::bytes_reader::{MmapBytesReader, lent_or_read, read_unlent};
 use crate::reading::read_frame;
+pub use crate::row_test::RowTest;
+use crate::row_test::rows_wanted;
 pub use pl_board::gate::{Gate, OpenGate};
 use pl_frame::error::PolarsResult;
 use pl_frame::frame::DataFrame;
@@ -113,6 +116,29 @@ impl<R: MmapBytesReader> CsvReader<R> {
         ensures options { self.new.options ≡ self.old.options }
     {
         read_source(rt, self.alloc, gate, &mut self.reader, &self.options)
+    }
+
+    /// The rows that a test wants of the frame that the input means, as `finish` gives it: numbered and limited first, and then
+    /// tested. Refuses what `finish` refuses.
+    pub fn finish_with<W: Threads + Wait + Sync, P: RowTest>(
+        &mut self,
+        rt: &W,
+        predicate: &P,
+    ) -> PolarsResult<DataFrame>
+        ensures frame { IfOk result (λ frame. OfInput R.lent R.left self.old.source self.new.source (λ input. IsTested (P.wants predicate.now) self.old.options input frame)) }
+        ensures refused { IfErr result (IsFinishFault R.lent R.left R.faults self.old.source self.new.source self.old.options) }
+        ensures complete { (input : List ℕ) (meaning : Result (List ColumnValue) PolarsError)
+            → input_of (R.lent self.old.source) (R.left self.old.source) ≡ Some input
+            → IsMeaning self.old.options input meaning
+            → AnswersUnlessFailed result (tested (P.wants predicate.now) meaning) (R.faults self.old.source) (R.faults self.new.source) }
+        ensures lent { IsSome (R.lent self.old.source) → self.new.source ≡ self.old.source }
+        ensures later { R.faults self.old.source ≤ R.faults self.new.source }
+        ensures options { self.new.options ≡ self.old.options }
+    {
+        match self.finish_gated(rt, &OpenGate) {
+            Ok(frame) => rows_wanted(self.alloc, &frame, predicate),
+            Err(fault) => Err(fault),
+        }
     }
 
     /// The source again, where the reads left it, without taking memory.

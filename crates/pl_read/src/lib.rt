@@ -14,6 +14,7 @@ mod nulls;
 mod projecting;
 pub mod reader_makers;
 pub mod reading;
+pub mod row_test;
 mod settling;
 pub mod slices;
 pub mod workers;

@@ -12,6 +12,7 @@ pub mod PrefixLaws
 pub mod EmptyLaws
 pub mod ChunkLaws
 pub mod WorkerLaws
+pub mod TestLaws
 pub mod NextTextLaws
 pub mod NextPartLaws
 pub mod NextLaws

@@ -14,3 +14,4 @@ pub mod Chunk
 pub mod Batches
 pub mod NextFrames
 pub mod RowTest
+pub mod Workers

@@ -8,6 +8,7 @@ ghost use Rattle.pl_cells.specs.BufferValue.{BufferValue};
 ghost use Rattle.pl_cells.specs.InitBuffers.{empty_buffers, first_unreadable, state_of};
 ghost use Rattle.pl_cells.specs.NullValues.{HaveTexts};
 ghost use Rattle.pl_read.specs.declared.workers.Joining.{Joining};
+ghost use Rattle.pl_read.specs.Workers.{worker_count};
 ghost use Rattle.pl_rows.specs.Apart.{ReadsApart, all_joined, column_joined};
 ghost use Rattle.pl_rows.specs.Plan.{states, state_types, AreRising};
 ghost use Rattle.pl_rows.specs.Ranges.{IsRangeRead};
@@ -149,11 +150,17 @@ fn join_all<W: Threads + Sync>(
     after_join(alloc, columns)
 }
 
-/// How many workers read where so many are asked: four where none is said, and 64 at most.
+/// How many workers read where so many are asked: four where none is said, one at least and 64 at most.
 pub fn worker_count(n_threads: Option<usize>) -> usize
-    ensures { 0 < result }
+    ensures count { result ≡ worker_count n_threads }
+    ensures some { 0 < result }
 {
-    n_threads.unwrap_or(4).clamp(1, 64)
+    match n_threads {
+        None => 4,
+        Some(0) => 1,
+        Some(asked) if asked > 64 => 64,
+        Some(asked) => asked,
+    }
 }
 
 // The buffers as columns that are joined to.

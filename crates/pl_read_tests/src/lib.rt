@@ -16,6 +16,8 @@ mod reader_makers;
 #[cfg(test)]
 mod reading;
 #[cfg(test)]
+mod row_test;
+#[cfg(test)]
 mod slices;
 #[cfg(test)]
 mod workers;

@@ -143,6 +143,39 @@ fn a_frame_is_written(rt: HostRuntime) {
     assert!(rt; sink.received() == text.as_slice());
 }
 
+// Writes frames of one schema one behind the other.
+fn write_in_batches<W: Threads + Sync>(
+    rt: &W,
+    alloc: Global,
+    schema: &Schema,
+    batches: &[DataFrame],
+    sink: &mut MemSink,
+) -> PolarsResult<()> {
+    let mut writer = CsvWriter::new(alloc, sink)?.batched(schema)?;
+    for batch in batches {
+        if writer.fits(batch) {
+            writer.write_batch(rt, batch)?;
+        }
+    }
+    writer.finish()
+}
+
+#[test]
+fn batches_are_written(rt: HostRuntime) {
+    let alloc = rt.alloc();
+    let Ok(Some(schema)) = orders(alloc).map(|options| options.schema) else {
+        panic!(rt; "a schema is given");
+    };
+    let first = orders_of(&rt, alloc, b"id,name,amount\n1,Anna,2.50\n2,,3.00\n");
+    let second = orders_of(&rt, alloc, b"id,name,amount\n3,Berta,\n");
+    let batches = vec![in alloc; first, second].expect(&rt, "batches");
+    let mut sink = MemSink::new(alloc);
+    let written = write_in_batches(&rt, alloc, &schema, &batches, &mut sink);
+    written.expect(&rt, "a text");
+    let text = b"id,name,amount\n1,Anna,2.50\n2,,3.00\n3,Berta,\n";
+    assert!(rt; sink.received() == text.as_slice());
+}
+
 // The number of rows of a file.
 fn count_the_rows(files: &impl Files, alloc: Global, path: &str) -> PolarsResult<usize> {
     let mut opener = FsOpener::new(files);

@@ -12,6 +12,13 @@ const TWO_COLUMNS: &str = "--schema a:int64,b:string";
 
 const ROW: &str = "a,b\n1,x\n2,\n";
 
+// A file with comments, dates and nulls, and how it is written.
+const SALES: &str =
+    "# export of March\nid,day,shop,amount,note\n1,2024-02-29,Oslo,12.50,\"fine, thanks\"\n2,2024-03-01,NA,-3,\n3,NA,Bergen,n/a,\"say \"\"hi\"\"\"\n4,2024-03-02,-,7,ok\n";
+
+const SALES_WRITTEN: &str =
+    "id,day,shop,amount,note\n1,2024-02-29,Oslo,12.50,\"fine, thanks\"\n2,2024-03-01,,-3,\n3,,Bergen,,\"say \"\"hi\"\"\"\n4,2024-03-02,,7,ok\n";
+
 // The words of a line stand between blanks; the empty line has none.
 fn words_for(rt: &impl Abort, alloc: Global, line: &str) -> Vec<String> {
     let mut words = Vec::new(alloc);
@@ -58,6 +65,22 @@ fn names_and_types_are_inferred_without_words(rt: HostRuntime) {
     let text = b"a,a_duplicated_0,b\n1,2,3\n";
     let ok = converts(&rt, rt.alloc(), "", b"a,a,b\n1,2,3\n", text, b"");
     assert!(rt; ok == (0, true));
+}
+
+#[test]
+fn batches_and_workers_give_one_text(rt: HostRuntime) {
+    let alloc = rt.alloc();
+    for batch in [1, 2, 1024] {
+        for workers in [1, 3] {
+            let words = format!(in alloc;
+                "--comment # --dates --nulls NA,n/a,- --batch {batch} --workers {workers}"
+            );
+            let words = words.expect(&rt, "words");
+            let (input, text) = (SALES.as_bytes(), SALES_WRITTEN.as_bytes());
+            let ok = converts(&rt, alloc, words.as_str(), input, text, b"");
+            assert!(rt; ok == (0, true), "in batches of {batch} by {workers}");
+        }
+    }
 }
 
 // The status where the calls with these numbers fail, what the sink holds, whether that begins the row, and whether the

@@ -4,6 +4,8 @@
 #[cfg(test)]
 mod board;
 #[cfg(test)]
+mod cutting;
+#[cfg(test)]
 mod rows;
 #[cfg(test)]
 mod state;

@@ -12,3 +12,8 @@ pub mod PrefixLaws
 pub mod EmptyLaws
 pub mod ChunkLaws
 pub mod WorkerLaws
+pub mod PreparingLaws
+pub mod BatchLaws
+pub mod BatchStepLaws
+pub mod OpeningLaws
+pub mod BatchJoinLaws

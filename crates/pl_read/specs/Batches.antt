@@ -1,5 +1,5 @@
 -- A reader of batches: what it holds, and what its calls answer (docs/batches.md).
-use Rattle.std.specs.Prelude.{◌≡◌, ℕ, zero, suc, ◌+◌, ◌<◌, ◌≤◌, ◌⊎◌, ◌||◌, ◌==◌, ◌&&◌, not, Bool, true, false, nat_le, if◌then◌else◌, List, [], ◌∷◌, ◌++◌, length, map, take, drop, Option, None, Some, IsNone, unwrap_or}
+use Rattle.std.specs.Prelude.{◌≡◌, ℕ, zero, suc, ◌+◌, ◌<◌, ◌≤◌, ◌⊎◌, ◌||◌, ◌==◌, ◌&&◌, not, Bool, true, false, nat_le, if◌then◌else◌, List, [], ◌∷◌, ◌++◌, length, map, take, drop, Option, None, Some, Result, IsNone, IfSome, MatchResult, unwrap_or}
 use Rattle.std.specs.Option.{option_map, option_map_or}
 use Rattle.pl_frame.specs.Causes.{Rose}
 use Rattle.pl_frame.specs.Frame.{ColumnValue}
@@ -19,6 +19,7 @@ use Rattle.pl_rows.specs.Pieces.{left_limit}
 use Rattle.pl_rows.specs.Ranges.{limited}
 use Rattle.pl_rows.specs.Rows.{first_faulty}
 use Rattle.pl_table.specs.Rows.{Row, rows}
+use Rattle.pl_read.specs.BytesReader.{input_of}
 use Rattle.pl_read.specs.CsvReader.{OfInput}
 use Rattle.pl_read.specs.Options.{rules_of, data_of, settled_schema}
 use Rattle.pl_read.specs.Projection.{projected}
@@ -30,7 +31,7 @@ use Rattle.pl_read.specs.Rows.{columns_read, rows_in, with_index}
 pub record Batches : Type 0 where
   pub options : CsvReadOptions
   pub schema : List Entry
-  pub data : List ℕ
+  pub records : List ℕ
   pub rest : List ℕ
   pub rows : ℕ
   pub fault : Option PolarsError
@@ -46,7 +47,7 @@ pub record EndsAtItem (o : CsvReadOptions) (text : List ℕ) : Type 0 where
 -- a fault.
 pub record StandsInData (b : Batches) : Type 0 where
   pub front : List ℕ
-  pub cut_is : b.data ≡ front ++ b.rest
+  pub cut_is : b.records ≡ front ++ b.rest
   pub start : (b.rest ≡ []) ⊎ EndsAtItem b.options front
   pub count : b.rows ≡ length (rows_in b.options front)
   pub sound : first_faulty (rules_of b.options b.schema) (columns_read b.options b.schema) 0 (rows_in b.options front) ≡ None
@@ -97,6 +98,14 @@ AreFramesOf o schema before given [] = given ≡ []
 AreFramesOf o schema before given (frame ∷ frames) =
     (n : ℕ) × (n ≤ length given) × (frame ≡ frame_behind o schema before (take n given)) × AreFramesOf o schema (before + n) (drop n given) frames
 
+-- where the batches of these rows end in what is left, behind so many rows: these are the rows of so many of its bytes, and those are all
+-- or end where an item does
+pub record EndsBatches (o : CsvReadOptions) (before : ℕ) (rest : List ℕ) (given : List Row) (end : ℕ) : Type 0 where
+  pub some : 0 < end
+  pub within : end ≤ length rest
+  pub rows_are : rows_behind o before (take end rest) ≡ given
+  pub start : (end ≡ length rest) ⊎ EndsAtItem o (take end rest)
+
 -- ---- the answers
 
 -- a count of rows is the limit, or past it
@@ -108,36 +117,40 @@ abbrev pub is_over : Batches → ℕ → Bool
 is_over b n = n == 0 || (is_reached b.options.n_rows b.rows || length b.rest == 0)
 
 -- One frame or more, so many at most: of the rows of a call's batches, which are the next ones, and none of which has a fault.
--- What is left gets shorter, and nothing else changes.
+-- Some bytes of what was left were read, which have these rows; the others are left, and nothing else changes.
 pub record AreBatches (old new : Batches) (n : ℕ) (frames : List (List ColumnValue)) : Type 0 where
   pub some : 0 < length frames
   pub few : length frames ≤ n
   pub frames_are : AreFramesOf old.options old.schema old.rows (batch_rows old n) frames
   pub sound : first_faulty (rules_of old.options old.schema) (columns_read old.options old.schema) old.rows (batch_rows old n) ≡ None
   pub numbered : numbers_past old.options.row_index (old.rows + length (batch_rows old n)) ≡ None
+  pub read : List ℕ
+  pub left : old.rest ≡ read ++ new.rest
+  pub rows_are : rows_behind old.options old.rows read ≡ batch_rows old n
   pub shorter : length new.rest < length old.rest
   pub new_is : new ≡ record old { rest = new.rest; rows = old.rows + length (batch_rows old n) }
-
--- the least row of a call's batches that has a fault, with its first fault
-abbrev pub faulty_batch : Batches → ℕ → Option PolarsError
-faulty_batch b n =
-    option_map (λ found. error.ComputeError (compute_fault.Record found.0 found.1.0 found.1.1)) (first_faulty (rules_of b.options b.schema) (columns_read b.options b.schema) b.rows (batch_rows b n))
-
--- the last number of the rows up to the end of a call's batches does not fit 32 bits
-abbrev pub numbers_past_batch : Batches → ℕ → Option PolarsError
-numbers_past_batch b n = numbers_past b.options.row_index (b.rows + length (batch_rows b n))
 
 -- the last code of a category in the columns of some rows does not fit 32 bits
 abbrev pub codes_past_rows : CsvReadOptions → List Entry → List Row → Option PolarsError
 codes_past_rows o schema given = first_some (map codes_past (frame_of_rows (rules_of o schema) (entries_in schema (projected o schema)) given))
 
--- Why there are no batches: a row of theirs has a fault; or else a number of theirs does not fit 32 bits; or else a code in one
--- of their frames does not.
+-- the least of rows behind so many others that has a fault, with its first fault
+abbrev pub faulty_behind : CsvReadOptions → List Entry → ℕ → List Row → Option PolarsError
+faulty_behind o schema before given =
+    option_map (λ found. error.ComputeError (compute_fault.Record found.0 found.1.0 found.1.1)) (first_faulty (rules_of o schema) (columns_read o schema) before given)
+
+-- Why rows behind so many others are no batches: one of them has a fault; or else a number up to their end does not fit 32 bits;
+-- or else a code in a frame of some of them does not.
+abbrev pub IsCauseBehind : CsvReadOptions → List Entry → ℕ → List Row → PolarsError → Type 0
+IsCauseBehind o schema before given fault =
+    (faulty_behind o schema before given ≡ Some fault)
+    ⊎ ((faulty_behind o schema before given ≡ None) × (numbers_past o.row_index (before + length given) ≡ Some fault))
+    ⊎ ((faulty_behind o schema before given ≡ None) × (numbers_past o.row_index (before + length given) ≡ None)
+    × ((from count : ℕ) × (codes_past_rows o schema (take count (drop from given)) ≡ Some fault)))
+
+-- why a call gives no batches
 abbrev pub IsBatchCause : Batches → ℕ → PolarsError → Type 0
-IsBatchCause b n fault =
-    (faulty_batch b n ≡ Some fault)
-    ⊎ ((faulty_batch b n ≡ None) × (numbers_past_batch b n ≡ Some fault))
-    ⊎ ((faulty_batch b n ≡ None) × (numbers_past_batch b n ≡ None) × ((from count : ℕ) × (codes_past_rows b.options b.schema (take count (drop from (batch_rows b n))) ≡ Some fault)))
+IsBatchCause b n = IsCauseBehind b.options b.schema b.rows (batch_rows b n)
 
 -- a call answers the fault that is kept; or memory is wanting, and the reader is as it was; or it answers the first cause against
 -- its batches, and that is kept
@@ -152,8 +165,8 @@ IsBatchFault old new n fault =
 -- over an input, with no batch given: all of its data is left
 abbrev pub opened : CsvReadOptions → List ℕ → Batches
 opened o input =
-    let data = unwrap_or (data_of o input) [] in
-    record { options = o; schema = settled_schema o input; data = data; rest = data; rows = 0; fault = None }
+    let records = unwrap_or (data_of o input) [] in
+    record { options = o; schema = settled_schema o input; records = records; rest = records; rows = 0; fault = None }
 
 -- the causes against an input that stand before those of its rows, in their order
 abbrev pub opening_causes : CsvReadOptions → List Entry → List ℕ → Bool → List (Option PolarsError)
@@ -167,9 +180,28 @@ IsOpened o input b = IsFirstCause (opening_causes o (settled_schema o input) inp
 abbrev pub IsOpeningRefusal : CsvReadOptions → List ℕ → PolarsError → Type 0
 IsOpeningRefusal o input refusal = IsFirstCause (opening_causes o (settled_schema o input) input) o.parse_options (Some refusal)
 
+-- what comes of opening a reader over an input: the reader, or that cause
+abbrev pub IsOpening : CsvReadOptions → List ℕ → Result Batches PolarsError → Type 0
+IsOpening o input opening = MatchResult opening (IsOpened o input) (IsOpeningRefusal o input)
+
 -- why there is no reader of batches: a fault of a source that lends nothing, whose count rose; want of memory, at any time; else
 -- the first cause against the input that stands before those of its rows
 abbrev pub IsOpeningFault : {R : Type 0} → (lent left : R → Option (List ℕ)) → (faults : R → ℕ) → (before now : R) → CsvReadOptions → PolarsError → Type 0
 IsOpeningFault lent left faults before now o error.IO = IsNone (lent before) × Rose (faults before) (faults now)
 IsOpeningFault lent left faults before now o error.OutOfMemory = Unit {0}
 IsOpeningFault lent left faults before now o fault = OfInput lent left before now (λ input. IsOpeningRefusal o input fault)
+
+-- options under a schema in place of their own, where one is given
+abbrev pub options_under : Option (List Entry) → CsvReadOptions → CsvReadOptions
+options_under None o = o
+options_under (Some schema) o = record o { schema = Some schema }
+
+-- this holds of an input: of the one that a source tells, where it tells one
+abbrev pub OfTold : (lent left : Option (List ℕ)) → (List ℕ → Type 0) → Type 0
+OfTold lent left P = (input : List ℕ) × IfSome (input_of lent left) (λ told. input ≡ told) × P input
+
+-- why there is none that borrows its bytes, of whose source no count can be told while it lasts
+abbrev pub IsBorrowingFault : (lent left : Option (List ℕ)) → CsvReadOptions → PolarsError → Type 0
+IsBorrowingFault lent left o error.IO = IsNone lent
+IsBorrowingFault lent left o error.OutOfMemory = Unit {0}
+IsBorrowingFault lent left o fault = OfTold lent left (λ input. IsOpeningRefusal o input fault)

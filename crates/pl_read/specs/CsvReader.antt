@@ -42,6 +42,6 @@ IsMeaning o input meaning =
     MatchResult meaning (IsRead o schema input) (IsRefusal o schema input)
 
 -- this answer, or want of memory, or a fault of the source, whose count rose
-abbrev pub AnswersUnlessFailed : (result expected : Result (List ColumnValue) PolarsError) → (before now : ℕ) → Type 0
+abbrev pub AnswersUnlessFailed : {X : Type 0} → (result expected : Result X PolarsError) → (before now : ℕ) → Type 0
 AnswersUnlessFailed result expected before now =
     (result ≡ expected) ⊎ (result ≡ Err error.OutOfMemory) ⊎ ((result ≡ Err error.IO) × Rose before now)

@@ -4,6 +4,7 @@ pub mod Rows
 pub mod Refusals
 pub mod Reading
 pub mod Steps
+pub mod Preparing
 pub mod BytesReader
 pub mod NamedColumns
 pub mod Slices
@@ -12,3 +13,5 @@ pub mod ReaderMakers
 pub mod Laws
 pub mod Chunk
 pub mod Batches
+pub mod BatchSteps
+pub mod BatchJoining

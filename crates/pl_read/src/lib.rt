@@ -1,6 +1,7 @@
 //! Readers: the frame that an input means under the options of a read, or the first cause against it.
 #![tactic(auto)]
 
+pub mod batched_reader;
 pub mod bytes_reader;
 pub mod checks;
 pub mod chunk;
@@ -8,7 +9,9 @@ pub mod csv_reader;
 mod indexing;
 pub mod laws;
 pub mod named_columns;
+mod next_frames;
 mod nulls;
+mod preparing;
 mod projecting;
 pub mod reader_makers;
 pub mod reading;

@@ -3,7 +3,7 @@ use Rattle.std.proofs.Common.{◌≡◌, ℕ, zero, suc, ◌+◌, ◌-◌, ◌<�
 use Rattle.std.specs.Prelude.{◌⊎◌, Option, None, Some, unwrap_or}
 use Rattle.std.specs.List.{prefix_len}
 use Rattle.std.proofs.lemmas.Bool.Decides.{nat_tests}
-use Rattle.std.proofs.lemmas.List.{length-take, take-append-drop, drop-drop}
+use Rattle.std.proofs.lemmas.List.{length-take, take_all, take-append-drop, drop-drop}
 use Rattle.pl_frame.specs.Dialect.{Marks, AreDistinct, IsDialect}
 use Rattle.pl_frame.specs.Schema.{Entry}
 use Rattle.pl_frame.specs.declared.error.ComputeFault.{ComputeFault}
@@ -172,6 +172,35 @@ module _ (o : CsvReadOptions) (input : List ℕ) (prepared : Prepared) (at count
   pub next-fits : count + next.rows < 2 ^ 64
   next-fits = omega (arith, rows-fit o input prepared (at + next.end) (count + next.rows) None may-next, may.fits)
 
+-- the same of a reader as it is seen
+module _ (o : CsvReadOptions) (input : List ℕ) (prepared : Prepared) (at count n : ℕ) (fault : Option ComputeFault) (next : NextFrames) (b : Batches) (none : fault ≡ None)
+    (view : held o input prepared at count fault ≡ b) (may : MayReadOn o input prepared at count fault) (over : is_over b n ≡ false) (are : AreNext b n next) where
+  abbrev old : Batches
+  old = held o input prepared at count None
+
+  seen : b ≡ old
+  seen = sym view ∙ ap (held o input prepared at count) none
+
+  may_read : MayReadOn o input prepared at count None
+  may_read = subst (MayReadOn o input prepared at count) none may
+
+  some_left : 0 < length (drop at input)
+  some_left = (not-over old n (ap (λ b. is_over b n) (sym seen) ∙ over)).some
+
+  are_next : AreNext old n next
+  are_next = subst (λ b. AreNext b n next) seen are
+
+  pub step-fits : count + next.rows < 2 ^ 64
+  step-fits = next-fits o input prepared at count n next may_read some_left are_next
+
+  pub step-may : MayReadOn o input prepared (at + next.end) (count + next.rows) fault
+  step-may = subst (MayReadOn o input prepared (at + next.end) (count + next.rows)) (sym none) (may-next o input prepared at count n next may_read some_left are_next)
+
+  pub step-batches : AreBatches b (held o input prepared (at + next.end) (count + next.rows) fault) n next.frames.items
+  step-batches =
+      subst (λ b. AreBatches b (held o input prepared (at + next.end) (count + next.rows) fault) n next.frames.items) (sym seen)
+      (subst (λ f. AreBatches old (held o input prepared (at + next.end) (count + next.rows) f) n next.frames.items) (sym none) (next-batches o input prepared at count n next may_read some_left are_next))
+
 -- with a fault that is kept
 pub may-keep : (o : CsvReadOptions) (input : List ℕ) (prepared : Prepared) (at count : ℕ) (fault other : Option ComputeFault) → MayReadOn o input prepared at count fault → MayReadOn o input prepared at count other
 may-keep o input prepared at count fault other may = record {
@@ -181,3 +210,15 @@ may-keep o input prepared at count fault other may = record {
   within = may.within;
   stands = StandsInData-kept o input prepared at count fault other may.stands;
 }
+
+-- ---- what is left
+
+-- all from a place on
+pub rest-is : (at : ℕ) (bytes input : List ℕ) → bytes ≡ input → take (length bytes - at) (drop at bytes) ≡ drop at input
+rest-is at bytes input same = take_all (length bytes - at) (drop at bytes) (omega (arith, length-drop at bytes)) ∙ ap (drop at) same
+
+-- it is no longer than the data
+pub rest-fewer : (o : CsvReadOptions) (input : List ℕ) (prepared : Prepared) (at count : ℕ) (fault : Option ComputeFault) → MayReadOn o input prepared at count fault → length (drop at input) ≤ length (drop prepared.start input)
+rest-fewer o input prepared at count fault may =
+    let cut : drop prepared.start input ≡ may.stands.front ++ drop at input = may.stands.cut_is in
+    omega (arith, ap length cut, length-append may.stands.front (drop at input))

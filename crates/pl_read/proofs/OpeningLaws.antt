@@ -8,7 +8,7 @@ use Rattle.pl_infer.specs.declared.read_options.CsvReadOptions.{CsvReadOptions}
 use Rattle.pl_read.specs.Batches.{Batches, opening_causes, IsOpened, IsOpeningRefusal, IsOpening, IsOpeningFault, OfTold, IsBorrowingFault}
 use Rattle.pl_read.specs.BatchSteps.{IsOpeningFaultOf}
 use Rattle.pl_read.specs.BytesReader.{input_of, IsSourceFault}
-use Rattle.pl_read.specs.CsvReader.{IsInput, OfInput, AnswersUnlessFailed}
+use Rattle.pl_read.specs.CsvReader.{IsInput, OfInput, IsUnlentFault, AnswersUnlessFailed}
 use Rattle.pl_read.specs.Options.{settled_schema}
 use Rattle.pl_read.specs.Reading.{IsRefusal}
 use Rattle.pl_read.specs.Refusals.{late_causes}
@@ -60,13 +60,22 @@ opening-refusal lent left faults before now o (Ok batches) input is h = tt
 opening-refusal lent left faults before now o (Err fault) input is h = opening-refused lent left faults before now o fault input is h
 
 -- a fault of a source that lends nothing
-pub opening-failed : {R : Type 0} (lent left : R → Option (List ℕ)) (faults : R → ℕ) (before now : R) (o : CsvReadOptions) (fault : PolarsError)
-    → (IsSome (lent before) → ⊥) → IsSourceFault (faults before) (faults now) fault → IsOpeningFault lent left faults before now o fault
-opening-failed lent left faults before now o fault not h = by_cause (failed-of (faults before) (faults now) fault h)
+pub unlent-of : (lent : Option (List ℕ)) (before now : ℕ) (fault : PolarsError) → (IsSome lent → ⊥) → IsSourceFault before now fault → IsUnlentFault lent before now fault
+unlent-of lent before now fault not h = by_cause (failed-of before now fault h)
   where
-    by_cause : (fault ≡ error.OutOfMemory) ⊎ ((fault ≡ error.IO) × Rose (faults before) (faults now)) → IsOpeningFault lent left faults before now o fault
-    by_cause (inl wanting) = subst (IsOpeningFault lent left faults before now o) (sym wanting) tt
-    by_cause (inr failed) = subst (IsOpeningFault lent left faults before now o) (sym failed.0) (none-lent (lent before) not, failed.1)
+    by_cause : (fault ≡ error.OutOfMemory) ⊎ ((fault ≡ error.IO) × Rose before now) → IsUnlentFault lent before now fault
+    by_cause (inl wanting) = inl wanting
+    by_cause (inr failed) = inr (failed.0, none-lent lent not, failed.1)
+
+pub opening-failed : {R : Type 0} (lent left : R → Option (List ℕ)) (faults : R → ℕ) (before now : R) (o : CsvReadOptions) (fault : PolarsError)
+    → IsUnlentFault (lent before) (faults before) (faults now) fault → IsOpeningFault lent left faults before now o fault
+opening-failed lent left faults before now o fault (inl wanting) = subst (IsOpeningFault lent left faults before now o) (sym wanting) tt
+opening-failed lent left faults before now o fault (inr (failed, none, rose)) = subst (IsOpeningFault lent left faults before now o) (sym failed) (none, rose)
+
+pub complete-failed : (lent left : Option (List ℕ)) (o : CsvReadOptions) (before now : ℕ) (fault : PolarsError) → IsUnlentFault lent before now fault
+    → (input : List ℕ) (opening : Result Batches PolarsError) → input_of lent left ≡ Some input → IsOpening o input opening → AnswersUnlessFailed (Err fault) opening before now
+complete-failed lent left o before now fault (inl wanting) input opening told is = inr (inl (ap Err wanting))
+complete-failed lent left o before now fault (inr (failed, none, rose)) input opening told is = inr (inr (ap Err failed, rose))
 
 -- ---- a reader that borrows them
 

@@ -8,7 +8,7 @@ ghost use Rattle.pl_infer.specs.Options.{default_read_options};
 ghost use Rattle.pl_infer.specs.ReaderBytes.{bytes_in};
 ghost use Rattle.pl_read.specs.Batches.{Batches, options_under, IsOpened, IsOpening, IsOpeningFault, OfTold, IsBorrowingFault};
 ghost use Rattle.pl_read.specs.BytesReader.{input_of};
-ghost use Rattle.pl_read.specs.CsvReader.{Reader, OfInput, IsFinishFault, IsMeaning, AnswersUnlessFailed};
+ghost use Rattle.pl_read.specs.CsvReader.{Reader, IsInput, OfInput, IsUnlentFault, IsFinishFault, IsMeaning, AnswersUnlessFailed};
 ghost use Rattle.pl_read.specs.Options.{settled_schema};
 ghost use Rattle.pl_read.specs.Reading.{IsRead};
 
@@ -130,12 +130,15 @@ impl<R: MmapBytesReader> CsvReader<R> {
         ensures opened { IfOk result (λ batches. OfTold (R.lent self.old.source) (R.left self.old.source) (λ input. IsOpened self.old.options input batches)) }
         ensures refused { IfErr result (IsBorrowingFault (R.lent self.old.source) (R.left self.old.source) self.old.options) }
     {
-        let options = self.options.try_clone()?;
         let read = match read_unlent(self.alloc, &mut self.reader) {
             Ok(read) => read,
             Err(fault) => return Err(fault),
         };
-        BatchedCsvReader::open(self.alloc, lent_or_read(&self.reader, read), options)
+        let bytes = lent_or_read(&self.reader, read);
+        match self.options.try_clone() {
+            Ok(options) => BatchedCsvReader::open(self.alloc, bytes, options),
+            Err(_) => Err(PolarsError::OutOfMemory),
+        }
     }
 
     /// A reader of the input batch by batch, which owns its bytes (docs/batches.md), under this schema in place of the option
@@ -155,8 +158,14 @@ impl<R: MmapBytesReader> CsvReader<R> {
         ensures later { R.faults self.old.source ≤ R.faults self.new.source }
         ensures options { self.new.options ≡ self.old.options }
     {
-        let options = options_under(&self.options, schema)?;
-        open_source(self.alloc, &mut self.reader, options)
+        let bytes = match read_owned(self.alloc, &mut self.reader) {
+            Ok(bytes) => bytes,
+            Err(fault) => return Err(fault),
+        };
+        match options_under(&self.options, schema) {
+            Ok(options) => OwnedBatchedCsvReader::open(self.alloc, bytes, options),
+            Err(_) => Err(PolarsError::OutOfMemory),
+        }
     }
 
     /// The source again, where the reads left it, without taking memory.
@@ -218,18 +227,10 @@ fn owned_bytes(alloc: Global, bytes: ReaderBytes<'_>) -> PolarsResult<Vec<u8>>
     }
 }
 
-// A reader of the batches of the input of a source, by these options.
-fn open_source<R: MmapBytesReader>(
-    alloc: Global,
-    reader: &mut R,
-    options: CsvReadOptions,
-) -> PolarsResult<OwnedBatchedCsvReader>
-    ensures opened { IfOk result (λ batches. OfInput R.lent R.left reader.old reader.new (λ input. IsOpened options input batches)) }
-    ensures refused { IfErr result (IsOpeningFault R.lent R.left R.faults reader.old reader.new options) }
-    ensures complete { (input : List ℕ) (opening : Result Batches PolarsError)
-        → input_of (R.lent reader.old) (R.left reader.old) ≡ Some input
-        → IsOpening options input opening
-        → AnswersUnlessFailed result opening (R.faults reader.old) (R.faults reader.new) }
+// The input of a source, owned. Refuses `IO` only where the source lends nothing and its count of faults rose, and want of memory.
+fn read_owned<R: MmapBytesReader>(alloc: Global, reader: &mut R) -> PolarsResult<Vec<u8>>
+    ensures input { IfOk result (λ bytes. IsInput (R.lent reader.old) (R.left reader.old) (R.left reader.new) bytes.items) }
+    ensures refused { IfErr result (IsUnlentFault (R.lent reader.old) (R.faults reader.old) (R.faults reader.new)) }
     ensures lent { IsSome (R.lent reader.old) → reader.new ≡ reader.old }
     ensures later { R.faults reader.old ≤ R.faults reader.new }
 {
@@ -238,7 +239,7 @@ fn open_source<R: MmapBytesReader>(
         Err(fault) => return Err(fault),
     };
     match owned_bytes(alloc, lent_or_read(reader, read)) {
-        Ok(bytes) => OwnedBatchedCsvReader::open(alloc, bytes, options),
+        Ok(bytes) => Ok(bytes),
         Err(_) => Err(PolarsError::OutOfMemory),
     }
 }

@@ -8,7 +8,7 @@ use Rattle.pl_infer.specs.declared.read_options.CsvReadOptions.{CsvReadOptions}
 use Rattle.pl_read.specs.Batches.{Batches, opening_causes, IsOpened, IsOpeningRefusal, IsOpening, IsOpeningFault, OfTold, IsBorrowingFault}
 use Rattle.pl_read.specs.BatchSteps.{IsOpeningFaultOf}
 use Rattle.pl_read.specs.BytesReader.{input_of, IsSourceFault}
-use Rattle.pl_read.specs.CsvReader.{IsInput, OfInput, IsUnlentFault, AnswersUnlessFailed}
+use Rattle.pl_read.specs.CsvReader.{Reader, IsInput, OfInput, IsUnlentFault, AnswersUnlessFailed}
 use Rattle.pl_read.specs.Options.{settled_schema}
 use Rattle.pl_read.specs.Reading.{IsRefusal}
 use Rattle.pl_read.specs.Refusals.{late_causes}
@@ -135,3 +135,7 @@ opening-complete lent before now o result bytes faults raised is h r input openi
     by_same : (result ≡ opening) ⊎ (result ≡ Err error.OutOfMemory) → AnswersUnlessFailed result opening faults raised
     by_same (inl same) = inl same
     by_same (inr wanting) = inr (inl wanting)
+
+-- what holds of a source and options holds of a reader that has them
+pub seen : {R : Type 0} (P : R → CsvReadOptions → Type 0) (source : R) (o : CsvReadOptions) (reader : Reader R) → ◌≡◌ {A = Reader R} (record { source = source; options = o }) reader → P source o → P reader.source reader.options
+seen {R = R} P source o reader is h = subst (λ (r : Reader R). P r.source r.options) is h

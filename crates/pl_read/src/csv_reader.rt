@@ -7,6 +7,7 @@ ghost use Rattle.pl_frame.specs.declared.error.PolarsError.TheVariants as error;
 ghost use Rattle.pl_infer.specs.Options.{default_read_options};
 ghost use Rattle.pl_infer.specs.ReaderBytes.{bytes_in};
 ghost use Rattle.pl_read.specs.Batches.{Batches, options_under, IsOpened, IsOpening, IsOpeningFault, OfTold, IsBorrowingFault};
+ghost use Rattle.pl_read.specs.BatchSteps.{IsOpeningFaultOf};
 ghost use Rattle.pl_read.specs.BytesReader.{input_of};
 ghost use Rattle.pl_read.specs.CsvReader.{Reader, IsInput, OfInput, IsUnlentFault, IsFinishFault, IsMeaning, AnswersUnlessFailed};
 ghost use Rattle.pl_read.specs.Options.{settled_schema};
@@ -162,10 +163,7 @@ impl<R: MmapBytesReader> CsvReader<R> {
             Ok(bytes) => bytes,
             Err(fault) => return Err(fault),
         };
-        match options_under(&self.options, schema) {
-            Ok(options) => OwnedBatchedCsvReader::open(self.alloc, bytes, options),
-            Err(_) => Err(PolarsError::OutOfMemory),
-        }
+        open_under(self.alloc, bytes, &self.options, schema)
     }
 
     /// The source again, where the reads left it, without taking memory.
@@ -225,6 +223,23 @@ fn owned_bytes(alloc: Global, bytes: ReaderBytes<'_>) -> PolarsResult<Vec<u8>>
             Err(_) => Err(PolarsError::OutOfMemory),
         },
     }
+}
+
+// A reader of the batches of these bytes, by options under a schema in place of their own, where one is given.
+fn open_under(
+    alloc: Global,
+    bytes: Vec<u8>,
+    options: &CsvReadOptions,
+    schema: Option<Schema>,
+) -> PolarsResult<OwnedBatchedCsvReader>
+    ensures opened { IfOk result (IsOpened (options_under schema options.now) bytes.items) }
+    ensures refused { IfErr result (IsOpeningFaultOf (options_under schema options.now) bytes.items) }
+{
+    let options = match options_under(options, schema) {
+        Ok(options) => options,
+        Err(_) => return Err(PolarsError::OutOfMemory),
+    };
+    OwnedBatchedCsvReader::open(alloc, bytes, options)
 }
 
 // The input of a source, owned. Refuses `IO` only where the source lends nothing and its count of faults rose, and want of memory.

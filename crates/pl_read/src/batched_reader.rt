@@ -132,9 +132,7 @@ impl<'a> BatchedCsvReader<'a> {
     fn is_over(&self, n: usize) -> bool
         ensures { result ≡ is_over self.now n }
     {
-        n == 0
-            || is_reached(self.options.n_rows, self.rows)
-            || self.at == self.bytes.bytes().len()
+        n == 0 || is_reached(self.options.n_rows, self.rows) || self.at == self.bytes.bytes().len()
     }
 
     // The frames of the next rows.

@@ -23,7 +23,7 @@ returns-in-Err-clause-complete g c =
     let faults = g.R.Source.faults in
     let now = c.read_owned.new.reader in
     seen (λ source o. (input : List ℕ) (opening : Result Batches PolarsError) → input_of (lent source) (left source) ≡ Some input → IsOpening (options_under c.args.schema o) input opening
-      → AnswersUnlessFailed (Err c.in-Err.fault) opening (faults source) (faults now)) c.self.inside.reader c.self.inside.options c.args.self.now c.self.view_is
+    → AnswersUnlessFailed (Err c.in-Err.fault) opening (faults source) (faults now)) c.self.inside.reader c.self.inside.options c.args.self.now c.self.view_is
     (complete-failed (lent c.self.inside.reader) (left c.self.inside.reader) (options_under c.args.schema c.self.inside.options) (faults c.self.inside.reader) (faults now) c.in-Err.fault c.in-Err.ensures.refused)
 
 pub returns-in-Err-clause-lent : goal.returns-in-Err-clause-lent
@@ -62,7 +62,7 @@ returns-clause-complete g c =
     let now = c.read_owned.new.reader in
     let before = c.self.inside.reader in
     seen (λ source o. (input : List ℕ) (opening : Result Batches PolarsError) → input_of (lent source) (left source) ≡ Some input → IsOpening (options_under c.args.schema o) input opening
-      → AnswersUnlessFailed c.open_under.result opening (faults source) (faults now)) before c.self.inside.options c.args.self.now c.self.view_is
+    → AnswersUnlessFailed c.open_under.result opening (faults source) (faults now)) before c.self.inside.options c.args.self.now c.self.view_is
     (opening-complete (lent before) (left before) (left now) (options_under c.args.schema c.self.inside.options) c.open_under.result c.in-Ok.bytes.items (faults before) (faults now) c.in-Ok.ensures.input c.open_under.ensures.opened c.open_under.ensures.refused)
 
 pub returns-clause-lent : goal.returns-clause-lent

@@ -82,7 +82,7 @@ faulty-cause plan o schema records read row column kind is range ended =
     first_some-here (faulty_record o schema records) _ _ (ap (option_map (λ found. error.ComputeError (compute_fault.Record found.0 found.1.0 found.1.1))) found)
 
 -- else no row has a fault
-no-fault : (plan : RangePlan) (o : CsvReadOptions) (schema : List Entry) (records : List ℕ) (read : RangeColumns) → IsPlanOf plan o schema → IsRangeRead plan schema records read
+pub no-fault : (plan : RangePlan) (o : CsvReadOptions) (schema : List Entry) (records : List ℕ) (read : RangeColumns) → IsPlanOf plan o schema → IsRangeRead plan schema records read
     → (read.end ≡ end.Closed) ⊎ (read.end ≡ end.Open) → first_faulty (rules_of o schema) (columns_read o schema) 0 (rows_in o records) ≡ None
 no-fault plan o schema records read is range ended = sym (faulty-is plan o schema records is) ∙ none-first _ (has_unjudged plan records) read.end range.end_is ended
 

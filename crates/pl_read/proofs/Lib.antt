@@ -17,3 +17,7 @@ pub mod BatchLaws
 pub mod BatchStepLaws
 pub mod OpeningLaws
 pub mod BatchJoinLaws
+pub mod NextTextLaws
+pub mod NextPartLaws
+pub mod NextLaws
+pub mod NextFrameLaws

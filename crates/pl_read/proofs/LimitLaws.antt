@@ -89,7 +89,7 @@ when-less true limit a b one other less none = by (nat_lt limit a) refl none
     by false e none = let test : nat_lt limit b ≡ false = grind (arith, nat_tests) in rw test refl
 
 -- the last number
-numbers_past-fewer : (index : Option RowIndex) (a b : ℕ) → b ≤ a → numbers_past index a ≡ None → numbers_past index b ≡ None
+pub numbers_past-fewer : (index : Option RowIndex) (a b : ℕ) → b ≤ a → numbers_past index a ≡ None → numbers_past index b ≡ None
 numbers_past-fewer None a b less none = refl
 numbers_past-fewer (Some index) a b less none =
     when-less true (2 ^ 32) (index.offset + a) (index.offset + b) (error.ComputeError (compute_fault.Index index.offset a)) (error.ComputeError (compute_fault.Index index.offset b)) (omega arith) none

@@ -15,3 +15,4 @@ pub mod Chunk
 pub mod Batches
 pub mod BatchSteps
 pub mod BatchJoining
+pub mod NextFrames

@@ -1,11 +1,13 @@
 //! The row index before the columns, and numbers that do not fit 32 bits.
-ghost use Rattle.std.specs.Prelude.{◌≡◌, ◌<◌, ◌+◌, ◌^◌, nat_lt, IfOk, OnOk, IfErr, None, map};
+ghost use Rattle.std.specs.Prelude.{◌≡◌, ◌<◌, ◌≤◌, ◌+◌, ◌^◌, nat_lt, IfOk, OnOk, IfErr, None, map};
 ghost use Rattle.std.specs.Option.{option_copied};
 ghost use Rattle.pl_frame.specs.Frame.{IsFrame, height_of};
 ghost use Rattle.pl_frame.specs.declared.error.ComputeFault.TheVariants as compute_fault;
 ghost use Rattle.pl_frame.specs.declared.error.PolarsError.TheVariants as error;
 ghost use Rattle.pl_infer.specs.Causes.{when, first_some, IsFault};
 ghost use Rattle.pl_schema.specs.Schemas.{is_categorical};
+ghost use Rattle.pl_frame.specs.RowIndex.{row_numbers};
+ghost use Rattle.pl_read.specs.Batches.{index_behind};
 ghost use Rattle.pl_read.specs.Refusals.{numbers_past, codes_past, index_past};
 ghost use Rattle.pl_read.specs.Rows.{with_index};
 
@@ -20,7 +22,7 @@ use std::alloc::Global;
 const NUMBERS: u64 = 1 << 32;
 
 // The refusal of a row index whose last number does not fit 32 bits.
-fn numbers_past(index: Option<&RowIndex>, rows: usize) -> Option<PolarsError>
+pub(crate) fn numbers_past(index: Option<&RowIndex>, rows: usize) -> Option<PolarsError>
     ensures { result ≡ numbers_past (option_copied index.entry) rows }
 {
     match index {
@@ -80,7 +82,7 @@ fn index_past(index: Option<&RowIndex>, rows: usize, columns: &[Column]) -> Opti
 }
 
 // The number of rows of columns of one height.
-fn rows_of(columns: &[Column]) -> usize
+pub(crate) fn rows_of(columns: &[Column]) -> usize
     ensures { result ≡ height_of columns.now }
 {
     match columns {
@@ -110,6 +112,46 @@ pub fn with_index(
         return Ok(DataFrame::of_distinct(columns));
     };
     let numbers = Column::row_numbers(alloc, index.name.try_clone()?, index.offset, rows)?;
+    let mut columns = columns;
+    match columns.insert(0, numbers) {
+        Ok(()) => Ok(DataFrame::of_distinct(columns)),
+        Err(_) => Err(PolarsError::OutOfMemory),
+    }
+}
+
+// The number so many behind another, of so many rows; where there are none it may be any.
+fn number_behind(offset: u32, before: usize, rows: usize) -> u32
+    requires fits { offset + (before + rows) ≤ 2 ^ 32 }
+    ensures numbers { row_numbers result rows ≡ row_numbers (offset + before) rows }
+    ensures within { result + rows ≤ 2 ^ 32 }
+{
+    if rows == 0 { 0 } else { offset + before as u32 }
+}
+
+/// The frame of columns of one height behind their row index, where one is asked, whose numbers begin so many later; with it
+/// their names are distinct. Refuses the last number of the row index up to their end, or else the last code of the first
+/// column, that does not fit 32 bits (`Index`), and want of memory.
+pub(crate) fn with_index_behind(
+    alloc: Global,
+    index: Option<&RowIndex>,
+    before: usize,
+    columns: Vec<Column>,
+) -> PolarsResult<DataFrame>
+    requires fits { before + height_of columns.items < 2 ^ 64 }
+    requires frame { IsFrame (with_index (index_behind before (option_copied index)) (height_of columns.items) columns.items) }
+    ensures frame { IfOk result (λ frame. frame ≡ with_index (index_behind before (option_copied index.entry)) (height_of columns.items) columns.items) }
+    ensures sound { OnOk result (index_past (option_copied index.entry) (before + height_of columns.items) columns.items ≡ None) }
+    ensures refused { IfErr result (IsFault (index_past (option_copied index.entry) (before + height_of columns.items) columns.items)) }
+{
+    let rows = rows_of(&columns);
+    if let Some(fault) = index_past(index, before + rows, &columns) {
+        return Err(fault);
+    }
+    let Some(index) = index else {
+        return Ok(DataFrame::of_distinct(columns));
+    };
+    let offset = number_behind(index.offset, before, rows);
+    let numbers = Column::row_numbers(alloc, index.name.try_clone()?, offset, rows)?;
     let mut columns = columns;
     match columns.insert(0, numbers) {
         Ok(()) => Ok(DataFrame::of_distinct(columns)),

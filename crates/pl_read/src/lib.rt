@@ -1,6 +1,7 @@
 //! Readers: the frame that an input means under the options of a read, or the first cause against it.
 #![tactic(auto)]
 
+mod batch_parts;
 pub mod batched_reader;
 pub mod bytes_reader;
 pub mod checks;

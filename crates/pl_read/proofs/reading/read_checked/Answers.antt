@@ -11,7 +11,7 @@ use Rattle.pl_read.proofs.SettlingLaws.{late-opening, late-data}
 use Rattle.pl_read.proofs.reading.read_checked.Goals as goal
 
 pub read_prepared-requires-clause-prepared : goal.read_prepared-requires-clause-prepared
-read_prepared-requires-clause-prepared g c = IsPrepared-own c.args.options.now (settled_schema c.args.options.now c.args.input.now) c.args.input.now c.in-Ok.prepared c.in-Ok.ensures.prepared
+read_prepared-requires-clause-prepared g c κs within = IsPrepared-own c.args.options.now (settled_schema c.args.options.now c.args.input.now) c.args.input.now c.in-Ok.prepared c.in-Ok.ensures.prepared
 
 pub returns-in-Ok : goal.returns-in-Ok
 returns-in-Ok g c =

@@ -141,8 +141,17 @@ fn a_fault_is_kept(rt: HostRuntime) {
 #[test]
 fn a_quote_over_pieces_is_read_as_one_range(rt: HostRuntime) {
     let alloc = rt.alloc();
-    let options = headless(&rt, alloc, 1);
-    assert!(rt; gives(&rt, alloc, b"1\n\"2\"\n\" 3\n\"\n4\n", options, 2, &[1, 2, 3, 4]));
+    let mut schema = Schema::new(alloc);
+    add(&rt, alloc, &mut schema, "t", DataType::String);
+    let options = CsvReadOptions::new(alloc)
+        .with_schema(Some(schema))
+        .with_has_header(false)
+        .with_chunk_size(1);
+    let mut reader = batched(&rt, alloc, b"x\"y\n\"c\nd\"\n", options);
+    let first = reader.next_batches(&rt, 1).expect(&rt, "an answer");
+    let frames = first.expect(&rt, "batches");
+    assert!(rt; frames.len() == 1);
+    assert!(rt; frames[0].height() == 2);
 }
 
 #[test]

@@ -111,29 +111,6 @@ fn two_columns_are_read(rt: HostRuntime) {
     assert!(rt; frame.width() == 2);
 }
 
-// The number of rows of a text, which is read in batches.
-fn count_in_batches<W: Threads + Wait + Sync>(
-    rt: &W,
-    alloc: Global,
-    text: &[u8],
-) -> PolarsResult<usize> {
-    let options = orders(alloc)?.with_chunk_size(65536);
-    let mut reader = options.into_reader_with_file_handle(alloc, MemSource::new(text));
-    let mut batches = reader.batched_borrowed()?;
-    let mut rows: usize = 0;
-    while let Some(frames) = batches.next_batches(rt, 8)? {
-        let more = frames.iter().map(|frame| frame.height());
-        rows = more.fold(rows, |rows, height| rows.saturating_add(height));
-    }
-    Ok(rows)
-}
-
-#[test]
-fn rows_are_counted_in_batches(rt: HostRuntime) {
-    let rows = count_in_batches(&rt, rt.alloc(), b"id,name,amount\n1,Anna,2.50\n2,,-3\n");
-    assert!(rt; matches!(rows, Ok(2)));
-}
-
 // Writes a frame with semicolons.
 fn write_a_frame<W: Threads + Sync>(
     rt: &W,

@@ -13,6 +13,11 @@ pub mod EmptyLaws
 pub mod ChunkLaws
 pub mod WorkerLaws
 pub mod TestLaws
+pub mod PreparingLaws
+pub mod BatchLaws
+pub mod BatchStepLaws
+pub mod OpeningLaws
+pub mod BatchJoinLaws
 pub mod NextTextLaws
 pub mod NextPartLaws
 pub mod NextLaws

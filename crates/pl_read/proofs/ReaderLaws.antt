@@ -150,7 +150,7 @@ refused-is lent left faults before now o (Ok frame) input is h = tt
 refused-is lent left faults before now o (Err fault) input is h = refused-of lent left faults before now o fault input is h
 
 -- a fault of a source is want of memory, or comes by its count
-failed-of : (before now : ℕ) (fault : PolarsError) → IsSourceFault before now fault → (fault ≡ error.OutOfMemory) ⊎ ((fault ≡ error.IO) × Rose before now)
+pub failed-of : (before now : ℕ) (fault : PolarsError) → IsSourceFault before now fault → (fault ≡ error.OutOfMemory) ⊎ ((fault ≡ error.IO) × Rose before now)
 failed-of before now (error.InvalidOperation op) h = inr (h (λ e. cc))
 failed-of before now (error.ComputeError compute) h = inr (h (λ e. cc))
 failed-of before now (error.NoData none) h = inr (h (λ e. cc))
@@ -162,7 +162,7 @@ failed-of before now error.IO h = inr (h (λ e. cc))
 failed-of before now error.OutOfMemory h = inl refl
 
 -- what lends no bytes
-none-lent : (lent : Option (List ℕ)) → (IsSome lent → ⊥) → IsNone lent
+pub none-lent : (lent : Option (List ℕ)) → (IsSome lent → ⊥) → IsNone lent
 none-lent None not = refl
 none-lent (Some bytes) not = absurd (not refl)
 
@@ -188,7 +188,7 @@ meaning-of o input (Err fault) (Err other) (inl h) k =
     inl (let e : ◌≡◌ {A = Option PolarsError} (Some fault) (Some other) = first-same (read_causes o (settled_schema o input) input) o.parse_options (Some fault) (Some other) h k in let same : fault ≡ other = cc in ap Err same)
 
 -- where an input is told, it is the one that came
-told-is : (told : Option (List ℕ)) (bytes input : List ℕ) → IfSome told (λ input. bytes ≡ input) → told ≡ Some input → bytes ≡ input
+pub told-is : (told : Option (List ℕ)) (bytes input : List ℕ) → IfSome told (λ input. bytes ≡ input) → told ≡ Some input → bytes ≡ input
 told-is None bytes input h e = absurd (cc)
 told-is (Some known) bytes input h e = h ∙ (let same : known ≡ input = cc in same)
 

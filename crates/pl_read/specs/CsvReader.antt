@@ -26,6 +26,10 @@ pub record IsInput (lent before now : Option (List ℕ)) (bytes : List ℕ) : Ty
 abbrev pub OfInput : {R : Type 0} → (lent left : R → Option (List ℕ)) → (before now : R) → (List ℕ → Type 0) → Type 0
 OfInput lent left before now P = (input : List ℕ) × IsInput (lent before) (left before) (left now) input × P input
 
+-- a fault of a source that lends nothing, whose count rose; or memory is wanting, which may be at any time
+abbrev pub IsUnlentFault : (lent : Option (List ℕ)) → (before now : ℕ) → PolarsError → Type 0
+IsUnlentFault lent before now fault = (fault ≡ error.OutOfMemory) ⊎ ((fault ≡ error.IO) × IsNone lent × Rose before now)
+
 -- ---- the answer
 
 -- why there is no frame: a fault of a source that lends nothing, whose count rose; want of memory, at any time; else the first
@@ -42,6 +46,6 @@ IsMeaning o input meaning =
     MatchResult meaning (IsRead o schema input) (IsRefusal o schema input)
 
 -- this answer, or want of memory, or a fault of the source, whose count rose
-abbrev pub AnswersUnlessFailed : (result expected : Result (List ColumnValue) PolarsError) → (before now : ℕ) → Type 0
+abbrev pub AnswersUnlessFailed : {X : Type 0} → (result expected : Result X PolarsError) → (before now : ℕ) → Type 0
 AnswersUnlessFailed result expected before now =
     (result ≡ expected) ⊎ (result ≡ Err error.OutOfMemory) ⊎ ((result ≡ Err error.IO) × Rose before now)

@@ -4,6 +4,7 @@ pub mod Rows
 pub mod Refusals
 pub mod Reading
 pub mod Steps
+pub mod Preparing
 pub mod BytesReader
 pub mod NamedColumns
 pub mod Slices
@@ -12,6 +13,8 @@ pub mod ReaderMakers
 pub mod Laws
 pub mod Chunk
 pub mod Batches
+pub mod BatchSteps
+pub mod BatchJoining
 pub mod NextFrames
 pub mod RowTest
 pub mod Workers

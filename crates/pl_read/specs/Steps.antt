@@ -1,5 +1,5 @@
 -- What the steps of a read answer.
-use Rattle.std.specs.Prelude.{◌≡◌, ◌<◌, ℕ, zero, suc, Bool, true, false, List, [], ◌∷◌, length, drop, Option, None, map}
+use Rattle.std.specs.Prelude.{◌≡◌, ◌<◌, ℕ, zero, suc, Bool, true, false, List, [], ◌∷◌, length, take, drop, Option, None, map}
 use Rattle.std.specs.List.{range_with_len}
 use Rattle.std.specs.Option.{option_and_then}
 use Rattle.pl_frame.specs.declared.error.PolarsError.{PolarsError}
@@ -54,20 +54,17 @@ projection_cause o schema = first_some (out_of_bounds o schema ∷ duplicate o s
 abbrev pub data_cause : CsvReadOptions → List Entry → List ℕ → Option PolarsError
 data_cause o schema records = first_some (faulty_record o schema records ∷ index_past o.row_index (length (rows_in o records)) (data_columns o schema records) ∷ [])
 
--- the first cause against data of which columns are read
-abbrev pub projected_cause : CsvReadOptions → List Entry → List ℕ → Option PolarsError
-projected_cause o schema records =
-    first_some (nothing_read o schema records ∷ faulty_record o schema records ∷ index_past o.row_index (length (rows_in o records)) (data_columns o schema records) ∷ [])
-
--- the first cause against data of which columns are asked
+-- the first cause against data of which columns are asked, before those of its rows
 abbrev pub asked_cause : CsvReadOptions → List Entry → List ℕ → Option PolarsError
-asked_cause o schema records =
-    first_some (out_of_bounds o schema ∷ duplicate o schema ∷ nothing_read o schema records ∷ faulty_record o schema records
-    ∷ index_past o.row_index (length (rows_in o records)) (data_columns o schema records) ∷ [])
+asked_cause o schema records = first_some (out_of_bounds o schema ∷ duplicate o schema ∷ nothing_read o schema records ∷ [])
 
--- the first cause against an input behind those that stand against its schema
+-- the first cause against an input that stands behind those against its schema, and before those of its rows
 abbrev pub settled_cause : CsvReadOptions → List Entry → List ℕ → Option PolarsError
-settled_cause o schema input = first_some (drop 5 (late_causes o schema input))
+settled_cause o schema input = first_some (take 5 (drop 5 (late_causes o schema input)))
+
+-- the first cause against an input, behind those against the options, that stands before those of its rows
+abbrev pub opening_cause : CsvReadOptions → List Entry → List ℕ → Option PolarsError
+opening_cause o schema input = first_some (take 10 (late_causes o schema input))
 
 -- ---- the plan of a read
 

@@ -1,23 +1,30 @@
-//! The reader of frames.
-ghost use Rattle.std.specs.Prelude.{◌≡◌, ◌≤◌, ℕ, List, Result, Some, IsSome, IfOk, IfErr};
+//! The reader of frames, and how readers of batches come of it.
+ghost use Rattle.std.specs.Prelude.{◌≡◌, ◌≤◌, ℕ, List, Result, Some, IsSome, IfOk, IfErr, IsOkUnless};
 ghost use Rattle.std.specs.Thread.{IsSync};
 ghost use Rattle.pl_frame.specs.Frame.{ColumnValue};
 ghost use Rattle.pl_frame.specs.declared.error.PolarsError.{PolarsError};
+ghost use Rattle.pl_frame.specs.declared.error.PolarsError.TheVariants as error;
 ghost use Rattle.pl_infer.specs.Options.{default_read_options};
+ghost use Rattle.pl_infer.specs.ReaderBytes.{bytes_in};
+ghost use Rattle.pl_read.specs.Batches.{Batches, options_under, IsOpened, IsOpening, IsOpeningFault, OfTold, IsBorrowingFault};
+ghost use Rattle.pl_read.specs.BatchSteps.{IsOpeningFaultOf};
 ghost use Rattle.pl_read.specs.BytesReader.{input_of};
-ghost use Rattle.pl_read.specs.CsvReader.{Reader, OfInput, IsFinishFault, IsMeaning, AnswersUnlessFailed};
+ghost use Rattle.pl_read.specs.CsvReader.{Reader, IsInput, OfInput, IsUnlentFault, IsFinishFault, IsMeaning, AnswersUnlessFailed};
 ghost use Rattle.pl_read.specs.Options.{settled_schema};
 ghost use Rattle.pl_read.specs.Reading.{IsRead};
 ghost use Rattle.pl_read.specs.RowTest.{IsTested, tested};
 
+use crate::batched_reader::{BatchedCsvReader, OwnedBatchedCsvReader};
 use crate::bytes_reader::{MmapBytesReader, lent_or_read, read_unlent};
 use crate::reading::read_frame;
 pub use crate::row_test::RowTest;
 use crate::row_test::rows_wanted;
 pub use pl_board::gate::{Gate, OpenGate};
-use pl_frame::error::PolarsResult;
+use pl_frame::error::{PolarsError, PolarsResult};
 use pl_frame::frame::DataFrame;
+use pl_frame::schema::Schema;
 use pl_infer::read_options::CsvReadOptions;
+use pl_infer::reader_bytes::ReaderBytes;
 use std::alloc::Global;
 use std::marker::Model;
 use std::sync::Wait;
@@ -118,6 +125,50 @@ impl<R: MmapBytesReader> CsvReader<R> {
         read_source(rt, self.alloc, gate, &mut self.reader, &self.options)
     }
 
+    /// A reader of the input batch by batch, which borrows this one (docs/batches.md). The input is what the source lends, or else
+    /// what is left of it, which is read to its end first.
+    ///
+    /// Refuses `IO` only where the source lends nothing, then the first cause against the input that stands before those of its
+    /// rows, and want of memory, in which a source without end ends.
+    pub fn batched_borrowed(&mut self) -> PolarsResult<BatchedCsvReader<'_>>
+        ensures opened { IfOk result (λ batches. OfTold (R.lent self.old.source) (R.left self.old.source) (λ input. IsOpened self.old.options input batches)) }
+        ensures refused { IfErr result (IsBorrowingFault (R.lent self.old.source) (R.left self.old.source) self.old.options) }
+    {
+        let read = match read_unlent(self.alloc, &mut self.reader) {
+            Ok(read) => read,
+            Err(fault) => return Err(fault),
+        };
+        let bytes = lent_or_read(&self.reader, read);
+        match self.options.try_clone() {
+            Ok(options) => BatchedCsvReader::open(self.alloc, bytes, options),
+            Err(_) => Err(PolarsError::OutOfMemory),
+        }
+    }
+
+    /// A reader of the input batch by batch, which owns its bytes (docs/batches.md), under this schema in place of the option
+    /// `schema`, where one is given. The input is what the source lends, of which it takes a copy, or else what is left of it, which
+    /// is read to its end first; the options stay.
+    ///
+    /// Refuses `IO` only where the source lends nothing and its count of faults rose, then the first cause against the input that
+    /// stands before those of its rows, and want of memory, in which a source without end ends.
+    pub fn batched(&mut self, schema: Option<Schema>) -> PolarsResult<OwnedBatchedCsvReader>
+        ensures opened { IfOk result (λ batches. OfInput R.lent R.left self.old.source self.new.source (λ input. IsOpened (options_under schema self.old.options) input batches)) }
+        ensures refused { IfErr result (IsOpeningFault R.lent R.left R.faults self.old.source self.new.source (options_under schema self.old.options)) }
+        ensures complete { (input : List ℕ) (opening : Result Batches PolarsError)
+            → input_of (R.lent self.old.source) (R.left self.old.source) ≡ Some input
+            → IsOpening (options_under schema self.old.options) input opening
+            → AnswersUnlessFailed result opening (R.faults self.old.source) (R.faults self.new.source) }
+        ensures lent { IsSome (R.lent self.old.source) → self.new.source ≡ self.old.source }
+        ensures later { R.faults self.old.source ≤ R.faults self.new.source }
+        ensures options { self.new.options ≡ self.old.options }
+    {
+        let bytes = match read_owned(self.alloc, &mut self.reader) {
+            Ok(bytes) => bytes,
+            Err(fault) => return Err(fault),
+        };
+        open_under(self.alloc, bytes, &self.options, schema)
+    }
+
     /// The rows that a test wants of the frame that the input means, as `finish` gives it: numbered and limited first, and then
     /// tested. Refuses what `finish` refuses.
     pub fn finish_with<W: Threads + Wait + Sync, P: RowTest>(
@@ -172,6 +223,83 @@ fn read_source<R: MmapBytesReader, W: Threads + Wait + Sync, G: Gate + Sync>(
     };
     let input = lent_or_read(reader, read);
     read_frame(rt, alloc, gate, input.bytes(), options)
+}
+
+// Options under a schema in place of their own, where one is given. Refuses only want of memory.
+fn options_under(options: &CsvReadOptions, schema: Option<Schema>) -> PolarsResult<CsvReadOptions>
+    ensures options { IfOk result (λ given. given ≡ options_under schema options.now) }
+    ensures refused { IsOkUnless result error.OutOfMemory }
+{
+    let mut options = options.try_clone()?;
+    if let Some(schema) = schema {
+        options.schema = Some(schema);
+    }
+    Ok(options)
+}
+
+// The bytes of an input, owned. Refuses only want of memory.
+fn owned_bytes(alloc: Global, bytes: ReaderBytes<'_>) -> PolarsResult<Vec<u8>>
+    ensures bytes { IfOk result (λ owned. owned.items ≡ bytes_in bytes.entry) }
+    ensures refused { IsOkUnless result error.OutOfMemory }
+{
+    match bytes {
+        ReaderBytes::Owned(bytes) => Ok(bytes),
+        ReaderBytes::Borrowed(bytes) => match bytes.to_vec(alloc) {
+            Ok(copy) => Ok(copy),
+            Err(_) => Err(PolarsError::OutOfMemory),
+        },
+    }
+}
+
+// A reader of the batches of these bytes, by options under a schema in place of their own, where one is given.
+fn open_under(
+    alloc: Global,
+    bytes: Vec<u8>,
+    options: &CsvReadOptions,
+    schema: Option<Schema>,
+) -> PolarsResult<OwnedBatchedCsvReader>
+    ensures opened { IfOk result (IsOpened (options_under schema options.now) bytes.items) }
+    ensures refused { IfErr result (IsOpeningFaultOf (options_under schema options.now) bytes.items) }
+{
+    let options = match options_under(options, schema) {
+        Ok(options) => options,
+        Err(_) => return Err(PolarsError::OutOfMemory),
+    };
+    OwnedBatchedCsvReader::open(alloc, bytes, options)
+}
+
+// The input of a source, owned. Refuses `IO` only where the source lends nothing and its count of faults rose, and want of memory.
+fn read_owned<R: MmapBytesReader>(alloc: Global, reader: &mut R) -> PolarsResult<Vec<u8>>
+    ensures input { IfOk result (λ bytes. IsInput (R.lent reader.old) (R.left reader.old) (R.left reader.new) bytes.items) }
+    ensures refused { IfErr result (IsUnlentFault (R.lent reader.old) (R.faults reader.old) (R.faults reader.new)) }
+    ensures lent { IsSome (R.lent reader.old) → reader.new ≡ reader.old }
+    ensures later { R.faults reader.old ≤ R.faults reader.new }
+{
+    let read = match read_unlent(alloc, reader) {
+        Ok(read) => read,
+        Err(fault) => return Err(fault),
+    };
+    match owned_bytes(alloc, lent_or_read(reader, read)) {
+        Ok(bytes) => Ok(bytes),
+        Err(_) => Err(PolarsError::OutOfMemory),
+    }
+}
+
+/// A reader of the input of a reader batch by batch, which owns its bytes, as `CsvReader::batched` gives it without a schema.
+pub fn to_batched_owned<R: MmapBytesReader>(
+    reader: &mut CsvReader<R>,
+) -> PolarsResult<OwnedBatchedCsvReader>
+    ensures opened { IfOk result (λ batches. OfInput R.lent R.left reader.old.source reader.new.source (λ input. IsOpened reader.old.options input batches)) }
+    ensures refused { IfErr result (IsOpeningFault R.lent R.left R.faults reader.old.source reader.new.source reader.old.options) }
+    ensures complete { (input : List ℕ) (opening : Result Batches PolarsError)
+        → input_of (R.lent reader.old.source) (R.left reader.old.source) ≡ Some input
+        → IsOpening reader.old.options input opening
+        → AnswersUnlessFailed result opening (R.faults reader.old.source) (R.faults reader.new.source) }
+    ensures lent { IsSome (R.lent reader.old.source) → reader.new.source ≡ reader.old.source }
+    ensures later { R.faults reader.old.source ≤ R.faults reader.new.source }
+    ensures options { reader.new.options ≡ reader.old.options }
+{
+    reader.batched(None)
 }
 
 impl<R: MmapBytesReader> SerReader<R> for CsvReader<R> {

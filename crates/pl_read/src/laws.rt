@@ -1,5 +1,6 @@
 //! What holds of every input, as contracts of functions that do nothing.
 ghost use Rattle.pl_read.specs.Slices.{PartsAreTheSlice};
+ghost use Rattle.pl_read.specs.BatchJoining.{BatchesJoinToTheWholeRead};
 ghost use Rattle.pl_read.specs.Laws.{LimitTakesFirstRows, ProjectionSelects, LimitedReadDependsOnPrefix, SchemaIsEmptyWithoutRecord};
 
 /// However the rows are divided into files: the parts that `split_slice_at_file` tells, joined, are the slice of all rows.
@@ -26,4 +27,10 @@ pub fn limited_read_depends_on_prefix()
 /// not refused.
 pub fn schema_is_empty_without_record()
     ensures { SchemaIsEmptyWithoutRecord }
+{}
+
+/// The batches of a reader, joined onto the empty frame, are the frame of its input, whatever the counts, as long as each is positive
+/// and the last call gives no batch.
+pub fn batches_join_to_the_whole_read()
+    ensures { BatchesJoinToTheWholeRead }
 {}

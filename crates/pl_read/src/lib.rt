@@ -2,6 +2,7 @@
 #![tactic(auto)]
 
 mod batch_parts;
+pub mod batched_reader;
 pub mod bytes_reader;
 pub mod checks;
 pub mod chunk;
@@ -11,6 +12,7 @@ pub mod laws;
 pub mod named_columns;
 mod next_frames;
 mod nulls;
+mod preparing;
 mod projecting;
 pub mod reader_makers;
 pub mod reading;

@@ -1,0 +1,6 @@
+use Rattle.pl_infer.specs.ReaderBytes.{bytes_in}
+use Rattle.pl_read.proofs.BatchStepLaws.{refused-options}
+use Rattle.pl_read.proofs.batched_reader.BatchedCsvReader.open.Goals as goal
+
+pub returns-clause-refused : goal.returns-clause-refused
+returns-clause-refused c = refused-options c.args.options (bytes_in c.args.bytes) c.in-Err.fault c.in-Err.ensures.refused

@@ -107,9 +107,10 @@ pub one-more : (ignore : Bool) (columns : List ColumnValue) (fields : List Field
 one-more ignore columns fields done one casts new cast next is before none pushed =
     let own : (cast ≡ placed_cast columns one.field.now) × (field_fault ignore columns one.field.now ≡ None) =
     (subst (λ made. IfOk made (λ cast. cast ≡ placed_cast columns one.field.now)) is next.made.cast, subst (λ made. OnOk made (field_fault ignore columns one.field.now ≡ None)) is next.made.faultless) in
-    let ends : map field_of (done ++ one ∷ []) ≡ map field_of done ++ one.field.now ∷ [] = map-append field_of done (one ∷ []) in
-    (pushed ∙ ap (λ k. casts ++ k ∷ []) own.0 ∙ ap (λ k. k ++ placed_cast columns one.field.now ∷ []) before ∙ sym (map-append (placed_cast columns) (map field_of done) (one.field.now ∷ [])) ∙ ap (map (placed_cast columns)) (sym ends),
-     ap (first_fault ignore columns) ends ∙ faultless-behind ignore columns (map field_of done) one.field.now none own.1)
+    let ends : map field_of (done ++ one ∷ []) ≡ map field_of done ++ one.field.now ∷ [] = map-append field_of done (one ∷ []) in (
+      pushed ∙ ap (λ k. casts ++ k ∷ []) own.0 ∙ ap (λ k. k ++ placed_cast columns one.field.now ∷ []) before ∙ sym (map-append (placed_cast columns) (map field_of done) (one.field.now ∷ [])) ∙ ap (map (placed_cast columns)) (sym ends),
+      ap (first_fault ignore columns) ends ∙ faultless-behind ignore columns (map field_of done) one.field.now none own.1,
+    )
 
 nothing : {X : Type 0} (xs : List X) → length xs ≡ 0 → xs ≡ []
 nothing [] e = refl

@@ -1,13 +1,12 @@
 -- The batches of all calls are the whole read.
-use Rattle.std.proofs.Common.{◌≡◌, ℕ, zero, suc, ◌+◌, ◌-◌, ◌<◌, ◌≤◌, Bool, true, false, ◌||◌, ◌==◌, List, [], ◌∷◌, ◌++◌, map, length, take, drop, refl, sym, ◌∙◌, ap, subst, inl, inr, arith, append_assoc, append-nil, length-append}
-use Rattle.std.specs.Prelude.{◌⊎◌, Option, None, Some, pos, unwrap_or, nat_le}
-use Rattle.std.specs.List.{range_with_len}
+use Rattle.std.proofs.Common.{◌≡◌, ℕ, ◌+◌, ◌-◌, ◌<◌, Bool, true, false, ◌||◌, ◌==◌, List, [], ◌∷◌, ◌++◌, map, length, take, drop, refl, sym, ◌∙◌, ap, subst, inl, inr, arith, append_assoc, append-nil, length-append}
+use Rattle.std.specs.Prelude.{◌⊎◌, Option, None, Some, pos, unwrap_or}
 use Rattle.std.proofs.lemmas.Bool.Decides.{nat_tests}
 use Rattle.std.proofs.lemmas.List.{append_cancel_right, length-take-le, take-append-drop, map-append}
 use Rattle.pl_frame.specs.Dialect.{IsDialect}
 use Rattle.pl_frame.specs.declared.data_type.DataType.TheVariants as dtype
 use Rattle.pl_frame.specs.Frame.{Scalar, Number, ColumnValue}
-use Rattle.pl_frame.specs.FrameParts.{with_values, stacked, empty_columns}
+use Rattle.pl_frame.specs.FrameParts.{stacked, empty_columns}
 use Rattle.pl_frame.specs.RowIndex.{row_numbers}
 use Rattle.pl_frame.specs.Schema.{Entry}
 use Rattle.pl_frame.specs.declared.error.OpFault.TheVariants as op_fault
@@ -19,7 +18,7 @@ use Rattle.pl_infer.specs.declared.row_index.RowIndex.{RowIndex}
 use Rattle.pl_infer.specs.Causes.{IsFirstCause, Tells, first_some}
 use Rattle.pl_infer.specs.Text.{marks_of, comment_of}
 use Rattle.pl_rows.specs.Cells.{RowRules}
-use Rattle.pl_rows.specs.Columns.{column_cells, read_column, entries_in, frame_of_rows}
+use Rattle.pl_rows.specs.Columns.{read_column, entries_in, frame_of_rows}
 use Rattle.pl_rows.specs.Pieces.{left_limit}
 use Rattle.pl_rows.specs.Ranges.{limited}
 use Rattle.pl_table.specs.Rows.{Row, rows}
@@ -27,7 +26,6 @@ use Rattle.pl_read.specs.BatchJoining.{Call, AreCalls, joined, all_joined, empty
 use Rattle.pl_read.specs.Batches.{Batches, EndsAtItem, StandsInData, rows_behind, batch_rows, index_behind, frame_behind, AreFramesOf, is_reached, is_over, AreBatches, opened, opening_causes}
 use Rattle.pl_read.specs.Options.{data_of, rules_of, settled_schema}
 use Rattle.pl_read.specs.Projection.{projected}
-use Rattle.pl_read.specs.Refusals.{early_causes, late_causes}
 use Rattle.pl_read.specs.Rows.{rows_in, with_index}
 use Rattle.pl_read.proofs.BatchLaws.{rows_in-behind, rows_in-nil, StandsInData-fresh}
 

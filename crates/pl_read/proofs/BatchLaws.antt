@@ -1,17 +1,11 @@
 -- Where a reader of batches stands.
-use Rattle.std.proofs.Common.{◌≡◌, ℕ, zero, suc, ◌+◌, ◌-◌, ◌<◌, ◌≤◌, ◌^◌, Bool, true, false, ◌||◌, ◌==◌, List, [], ◌∷◌, ◌++◌, length, take, drop, refl, sym, ◌∙◌, ap, subst, inl, inr, arith, append_assoc, length-append, length-drop}
+use Rattle.std.proofs.Common.{◌≡◌, ℕ, zero, suc, ◌+◌, ◌-◌, ◌<◌, List, [], ◌∷◌, ◌++◌, length, take, drop, refl, sym, ◌∙◌, ap, inl, inr, arith, append_assoc, length-append}
 use Rattle.std.specs.Prelude.{◌⊎◌, Option, None, Some}
-use Rattle.std.specs.List.{last_or}
 use Rattle.std.proofs.lemmas.List.{take-append-drop, drop-drop, drop_all}
-use Rattle.pl_frame.specs.Dialect.{Marks, IsDialect}
+use Rattle.pl_frame.specs.Dialect.{IsDialect}
 use Rattle.pl_frame.specs.Schema.{Entry}
 use Rattle.pl_frame.specs.declared.error.ComputeFault.{ComputeFault}
 use Rattle.pl_frame.specs.declared.error.FaultKind.{FaultKind}
-use Rattle.pl_scan.specs.Closing.{is_open_item, ends_open}
-use Rattle.pl_scan.specs.Items.{ItemText, items}
-use Rattle.pl_scan.specs.Laws.{IsEnded}
-use Rattle.pl_scan.proofs.AppendLaws.{closing_items}
-use Rattle.pl_scan.proofs.ItemLaws.{items-nil}
 use Rattle.pl_infer.specs.declared.read_options.CsvReadOptions.{CsvReadOptions}
 use Rattle.pl_infer.specs.Text.{marks_of, comment_of}
 use Rattle.pl_rows.specs.Cells.{RowRules}
@@ -23,40 +17,11 @@ use Rattle.pl_rows.proofs.RangeLaws.{rows-nil, first_faulty-more, first_faulty-h
 use Rattle.pl_table.specs.Rows.{Row, rows}
 use Rattle.pl_table.proofs.PieceLaws.{rows-append}
 use Rattle.pl_read.specs.declared.preparing.Prepared.{Prepared}
+use Rattle.pl_read.proofs.NextTextLaws.{EndsAtItem-append, EndsAtItem-nil}
 use Rattle.pl_read.specs.BatchSteps.{held}
 use Rattle.pl_read.specs.Batches.{EndsAtItem, StandsInData, EndsBatches, rows_behind}
 use Rattle.pl_read.specs.Options.{rules_of}
 use Rattle.pl_read.specs.Rows.{columns_read, rows_in}
-
--- ---- a text with more behind it
-
-last-append : {X : Type 0} (before : Option X) (xs ys : List X) → last_or before (xs ++ ys) ≡ last_or (last_or before xs) ys
-last-append before [] ys = refl
-last-append before (x ∷ xs) ys = last-append (Some x) xs ys
-
--- what is closed stays so behind what is closed
-closed-behind : (m : Marks) (before : Option ItemText) (parts : List ItemText) → is_open_item m before ≡ false → is_open_item m (last_or None parts) ≡ false → is_open_item m (last_or before parts) ≡ false
-closed-behind m before [] closed others = closed
-closed-behind m before (part ∷ parts) closed others = others
-
--- a text that ends where an item does, behind another such text
-pub EndsAtItem-append : (o : CsvReadOptions) (front piece : List ℕ) → IsDialect (marks_of o.parse_options) (comment_of o.parse_options) → EndsAtItem o front → EndsAtItem o piece → EndsAtItem o (front ++ piece)
-EndsAtItem-append o front piece dialect before ends =
-    let m = marks_of o.parse_options in
-    let comment = comment_of o.parse_options in
-    let e = o.parse_options.eol_char in
-    record {
-      ended = last-append (Some e) front piece ∙ ap (λ l. last_or l piece) before.ended ∙ ends.ended;
-      closed = ap (λ l. is_open_item m (last_or None l)) (closing_items m comment front piece dialect.distinct dialect.prefix before.ended before.closed)
-          ∙ ap (is_open_item m) (last-append None (items m comment front) (items m comment piece))
-          ∙ closed-behind m (last_or None (items m comment front)) (items m comment piece) before.closed ends.closed;
-    }
-
-pub EndsAtItem-nil : (o : CsvReadOptions) → EndsAtItem o []
-EndsAtItem-nil o = record {
-  ended = refl;
-  closed = ap (λ l. is_open_item (marks_of o.parse_options) (last_or None l)) (items-nil (marks_of o.parse_options) (comment_of o.parse_options));
-}
 
 -- ---- rows with more behind them
 

@@ -1,27 +1,22 @@
 -- The steps of a reader of batches.
-use Rattle.std.proofs.Common.{◌≡◌, ℕ, zero, suc, ◌+◌, ◌-◌, ◌<◌, ◌≤◌, ◌^◌, Bool, true, false, cond, not, ◌||◌, ◌==◌, List, [], ◌∷◌, ◌++◌, length, take, drop, refl, sym, ◌∙◌, ap, subst, inl, inr, arith, length-append, length-drop}
-use Rattle.std.specs.Prelude.{◌⊎◌, Option, None, Some, unwrap_or}
-use Rattle.std.specs.List.{prefix_len}
+use Rattle.std.proofs.Common.{◌≡◌, ℕ, ◌+◌, ◌-◌, ◌<◌, ◌≤◌, ◌^◌, Bool, true, false, ◌||◌, ◌==◌, List, [], ◌++◌, length, take, drop, refl, sym, ◌∙◌, ap, subst, inl, inr, arith, length-append, length-drop}
+use Rattle.std.specs.Prelude.{Option, None, Some, unwrap_or}
 use Rattle.std.proofs.lemmas.Bool.Decides.{nat_tests}
 use Rattle.std.proofs.lemmas.List.{length-take, take_all, take-append-drop, drop-drop}
-use Rattle.pl_frame.specs.Dialect.{Marks, AreDistinct, IsDialect}
 use Rattle.pl_frame.specs.Schema.{Entry}
 use Rattle.pl_frame.specs.declared.error.ComputeFault.{ComputeFault}
 use Rattle.pl_frame.specs.declared.error.PolarsError.{PolarsError}
-use Rattle.pl_frame.specs.declared.error.PolarsError.TheVariants as error
-use Rattle.pl_scan.specs.Comment.{is_comment}
-use Rattle.pl_scan.specs.Fields.{extent}
 use Rattle.pl_infer.specs.declared.read_options.CsvReadOptions.{CsvReadOptions}
 use Rattle.pl_infer.specs.Causes.{IsFirstCause, IsFault}
 use Rattle.pl_infer.specs.Text.{marks_of, comment_of}
 use Rattle.pl_rows.specs.Ranges.{limited}
-use Rattle.pl_rows.proofs.RangeLaws.{rows-nil, rows-step, rows-comment}
+use Rattle.pl_rows.proofs.RangeLaws.{few_rows}
 use Rattle.pl_table.specs.Rows.{Row, rows}
 use Rattle.pl_read.specs.declared.next_frames.NextFrames.{NextFrames}
 use Rattle.pl_read.specs.declared.preparing.Prepared.{Prepared}
-use Rattle.pl_read.specs.Batches.{Batches, StandsInData, batch_rows, AreBatches, is_reached, is_over, opened, opening_causes, IsOpened, IsOpeningRefusal}
+use Rattle.pl_read.specs.Batches.{Batches, StandsInData, batch_rows, AreBatches, is_reached, is_over, IsOpened}
 use Rattle.pl_read.specs.BatchSteps.{held, MayReadOn, AreNext, IsOpeningFaultOf}
-use Rattle.pl_read.specs.Options.{data_of, settled_schema}
+use Rattle.pl_read.specs.Options.{settled_schema}
 use Rattle.pl_read.specs.Preparing.{IsPrepared}
 use Rattle.pl_read.specs.Refusals.{early_causes, late_causes}
 use Rattle.pl_read.specs.Rows.{rows_in}
@@ -105,20 +100,6 @@ not-over b n e =
     record { asked = grind (arith, nat_tests); below = second.0; some = grind (arith, nat_tests) }
 
 -- ---- how many rows
-
--- each row has a byte at least
-few_rows : (m : Marks) (comment : Option (List ℕ)) → AreDistinct m → (n : ℕ) (b : List ℕ) → length b ≤ n → length (rows m comment b) ≤ length b
-few_rows m comment distinct n [] few = omega (arith, ap length (rows-nil m comment))
-few_rows m comment distinct zero (x ∷ b) few = absurd (omega arith)
-few_rows m comment distinct (suc n) (x ∷ b) few = by (is_comment comment (x ∷ b)) refl (λ k. few_rows m comment distinct n (drop (k + 1) (x ∷ b)) (omega (arith, length-drop (k + 1) (x ∷ b))))
-  where
-    by : (t : Bool) → is_comment comment (x ∷ b) ≡ t → ((k : ℕ) → length (rows m comment (drop (k + 1) (x ∷ b))) ≤ length (drop (k + 1) (x ∷ b))) → length (rows m comment (x ∷ b)) ≤ length (x ∷ b)
-    by true starts others =
-        let k = prefix_len (λ y. not (y == m.line_end)) (x ∷ b) in
-        omega (arith, length-drop (k + 1) (x ∷ b), others k, ap length (rows-comment m comment (x ∷ b) (omega arith) starts))
-    by false plain others =
-        let k = extent m (x ∷ b) in
-        omega (arith, length-drop (k + 1) (x ∷ b), others k, ap length (rows-step m comment (x ∷ b) distinct (omega arith) plain))
 
 few_limited : (limit : Option ℕ) (xs : List Row) → length (limited limit xs) ≤ length xs
 few_limited None xs = omega arith

@@ -131,10 +131,12 @@ pub record HasCut (o : CsvReadOptions) (n : ℕ) (rest : List ℕ) (left end : �
   pub ends : (end ≡ length rest) ⊎ EndsAtItem o (take end rest)
   pub some : 0 < left + end
 
-EndsAtItem-none : (o : CsvReadOptions) → EndsAtItem o []
-EndsAtItem-none o = record { ended = refl; closed = ap (λ l. is_open_item (marks_of o.parse_options) (last_or None l)) (items-nil (marks_of o.parse_options) (comment_of o.parse_options)) }
+-- no text ends where an item does
+pub EndsAtItem-nil : (o : CsvReadOptions) → EndsAtItem o []
+EndsAtItem-nil o = record { ended = refl; closed = ap (λ l. is_open_item (marks_of o.parse_options) (last_or None l)) (items-nil (marks_of o.parse_options) (comment_of o.parse_options)) }
 
-EndsAtItem-append : (o : CsvReadOptions) (a b : List ℕ) → IsDialect (marks_of o.parse_options) (comment_of o.parse_options) → EndsAtItem o a → EndsAtItem o b → EndsAtItem o (a ++ b)
+-- a text that ends where an item does, behind another such text
+pub EndsAtItem-append : (o : CsvReadOptions) (a b : List ℕ) → IsDialect (marks_of o.parse_options) (comment_of o.parse_options) → EndsAtItem o a → EndsAtItem o b → EndsAtItem o (a ++ b)
 EndsAtItem-append o a b dialect first second = record {
   ended = ended-append o.parse_options.eol_char a b first.ended second.ended;
   closed = closed-append (marks_of o.parse_options) (comment_of o.parse_options) a b dialect.distinct dialect.prefix first.ended first.closed second.closed;
@@ -145,7 +147,7 @@ HasCut-start o n rest some = record {
   within = omega arith;
   size = sym (zero-add (pieces_length o n rest));
   close = refl;
-  ends = inr (EndsAtItem-none o);
+  ends = inr (EndsAtItem-nil o);
   some = omega arith;
 }
 

@@ -1,6 +1,6 @@
 -- How readers of batches are opened.
 use Rattle.std.proofs.Common.{◌≡◌, ℕ, List, sym, ◌∙◌, ap, subst, inl, inr, drop}
-use Rattle.std.specs.Prelude.{◌⊎◌, Option, None, Some, Result, Ok, Err, IsNone, IsSome, IfOk, IfErr, IfSome}
+use Rattle.std.specs.Prelude.{◌⊎◌, Option, None, Some, Result, Ok, Err, IsSome, IfOk, IfErr, IfSome}
 use Rattle.pl_frame.specs.Causes.{Rose}
 use Rattle.pl_frame.specs.declared.error.PolarsError.{PolarsError}
 use Rattle.pl_frame.specs.declared.error.PolarsError.TheVariants as error

@@ -1,10 +1,9 @@
 -- What is prepared for a read.
-use Rattle.std.proofs.Common.{◌≡◌, ℕ, ◌<◌, ◌≤◌, Bool, true, false, ◌&&◌, ◌==◌, List, [], ◌∷◌, length, drop, refl, sym, ◌∙◌, ap, subst, arith, nat_lt}
-use Rattle.std.specs.Prelude.{Option, None, Some}
-use Rattle.std.specs.Option.{option_copied, option_map}
+use Rattle.std.proofs.Common.{◌≡◌, ℕ, ◌≤◌, Bool, true, false, ◌&&◌, ◌==◌, List, length, drop, refl, sym, ◌∙◌, subst, arith, nat_lt}
+use Rattle.std.specs.Prelude.{None}
+use Rattle.std.specs.Option.{option_copied}
 use Rattle.std.proofs.lemmas.Bool.Decides.{nat_tests}
 use Rattle.pl_frame.specs.Schema.{Entry, HaveDistinctNames}
-use Rattle.pl_frame.specs.declared.error.PolarsError.{PolarsError}
 use Rattle.pl_frame.specs.declared.error.PolarsError.TheVariants as error
 use Rattle.pl_infer.specs.declared.read_options.CsvReadOptions.{CsvReadOptions}
 use Rattle.pl_infer.specs.Causes.{when}

@@ -56,7 +56,7 @@ rows-comment m comment b some starts =
     ∙ ap (λ k. rows m comment (drop (k + 1) b)) (length-prefix_len (λ x. not (x == m.line_end)) b)
 
 -- each row has a byte at least
-few_rows : (m : Marks) (comment : Option (List ℕ)) → AreDistinct m → (n : ℕ) (b : List ℕ) → length b ≤ n → length (rows m comment b) ≤ length b
+pub few_rows : (m : Marks) (comment : Option (List ℕ)) → AreDistinct m → (n : ℕ) (b : List ℕ) → length b ≤ n → length (rows m comment b) ≤ length b
 few_rows m comment distinct n [] few = omega (arith, ap length (rows-nil m comment))
 few_rows m comment distinct zero (x ∷ b) few = absurd (omega arith)
 few_rows m comment distinct (suc n) (x ∷ b) few = by (is_comment comment (x ∷ b)) refl (λ k. few_rows m comment distinct n (drop (k + 1) (x ∷ b)) (omega (arith, length-drop (k + 1) (x ∷ b))))

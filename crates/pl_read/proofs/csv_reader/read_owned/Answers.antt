@@ -1,8 +1,4 @@
-use Rattle.std.proofs.Common.{rules, sym, subst}
-use Rattle.std.specs.Prelude.{List, ℕ}
-use Rattle.pl_read.specs.CsvReader.{IsInput}
 use Rattle.pl_read.proofs.OpeningLaws.{unlent-of}
-use Rattle.pl_read.proofs.ReaderLaws.{is-input}
 use Rattle.pl_read.proofs.csv_reader.read_owned.Goals as goal
 
 pub returns-in-Err-clause-refused : goal.returns-in-Err-clause-refused

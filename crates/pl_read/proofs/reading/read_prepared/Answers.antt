@@ -1,4 +1,4 @@
-use Rattle.std.proofs.Common.{rules, ◌≡◌, ◌-◌, List, ℕ, length, take, drop, refl, sym, subst, arith}
+use Rattle.std.proofs.Common.{rules, ◌≡◌, List, ℕ, drop, refl, sym, subst, arith}
 use Rattle.std.specs.Prelude.{IfOk, OnOk, IfErr, None}
 use Rattle.pl_infer.specs.Causes.{IsFault}
 use Rattle.pl_read.specs.Rows.{data_frame}

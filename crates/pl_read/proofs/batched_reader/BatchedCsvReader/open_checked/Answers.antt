@@ -1,4 +1,4 @@
-use Rattle.std.proofs.Common.{◌≡◌, ◌<◌, ◌^◌, length, sym, ap, subst, arith}
+use Rattle.std.proofs.Common.{◌≡◌, ◌<◌, ◌^◌, length, ap, subst, arith}
 use Rattle.std.specs.Prelude.{ℕ, List, None}
 use Rattle.pl_infer.specs.Causes.{IsFault}
 use Rattle.pl_infer.specs.ReaderBytes.{bytes_in}

@@ -1,4 +1,4 @@
-use Rattle.std.proofs.Common.{◌≡◌, ◌+◌, ◌-◌, ◌<◌, ◌^◌, length, take, drop, sym, ap, subst, arith}
+use Rattle.std.proofs.Common.{length, drop, sym, ap, subst, arith}
 use Rattle.pl_infer.specs.ReaderBytes.{bytes_in}
 use Rattle.pl_read.specs.Steps.{CanReadData}
 use Rattle.pl_read.proofs.BatchStepLaws.{rows-fit, rest-is, rest-fewer}

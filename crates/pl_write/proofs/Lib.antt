@@ -2,7 +2,7 @@ mod BatchLaws
 mod BatchingLaws
 mod BlockLaws
 mod CountLaws
-mod DateLaws
+pub mod DateLaws
 mod DigitLaws
 mod DoubledLaws
 pub mod FormLaws
@@ -17,6 +17,6 @@ pub mod PutLaws
 pub mod SourceLaws
 mod SpecialLaws
 mod StackLaws
-mod TimeLaws
+pub mod TimeLaws
 mod WordLaws
 pub mod WriteLaws

@@ -1,0 +1,16 @@
+pub mod CalendarLaws
+pub mod ClockLaws
+pub mod DayLaws
+mod Known
+pub mod FieldLaws
+pub mod MomentLaws
+pub mod NumeralLaws
+pub mod PartLaws
+pub mod PlainLaws
+pub mod PointLaws
+pub mod TextLaws
+pub mod UndoubleLaws
+pub mod ValueLaws
+pub mod WholeLaws
+mod NullFieldLaws
+mod CutLaws

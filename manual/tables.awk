@@ -48,7 +48,7 @@ function print_word(   name, value) {
     print "word\t" name "\t" value "\t" fixed_texts(value) "\t" cells[3] "\t" cells[4]
 }
 
-function print_row(kind,   i, line) {
+function print_row(   i, line) {
     line = kind
     for (i = 1; i <= width; i++)
         line = line "\t" cells[i]
@@ -77,7 +77,7 @@ function take_row(   text, count, heads) {
     if (kind == "word")
         print_word()
     else
-        print_row(kind)
+        print_row()
 }
 
 /^```/ { fenced = !fenced; next }
@@ -99,9 +99,9 @@ fenced {
 END {
     if (refused)
         exit 1
-    for (heads in kinds)
-        if (!(kinds[heads] in met))
-            refuse("there is no table with the heads " heads)
+    for (all in kinds)
+        if (!(kinds[all] in met))
+            refuse("there is no table with the heads " all)
     if (!("example" in met))
         refuse("there are no examples")
 }

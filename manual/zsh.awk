@@ -1,6 +1,12 @@
 # Reads the lines of tables.awk, and prints the completions of zsh.
 
-BEGIN { FS = "\t" }
+BEGIN {
+    FS = "\t"
+    print "#compdef pl_csv"
+    print "# Completions of pl_csv for zsh, made by manual/make of docs/command-line.md."
+    print ""
+    print "_arguments \\"
+}
 
 # A text inside a specification of _arguments, within single quotes: a backslash stands before what would end its part.
 function escaped(text,   i, mark, made) {
@@ -14,13 +20,6 @@ function escaped(text,   i, mark, made) {
         made = made mark
     }
     return made
-}
-
-BEGIN {
-    print "#compdef pl_csv"
-    print "# Completions of pl_csv for zsh, made by manual/make of docs/command-line.md."
-    print ""
-    print "_arguments \\"
 }
 
 $1 == "word" {

@@ -1,6 +1,6 @@
 #!/bin/sh
 # install.sh           puts the program of release/, its manual page and its completions below PREFIX (/usr/local).
-# install.sh --remove  takes them away again, and their folders below share/ that are then empty.
+# install.sh --remove  takes them away again, and those of their folders that are then empty, but for bin and share/man.
 #
 # DESTDIR, where it is given, stands in front of PREFIX.
 

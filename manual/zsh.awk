@@ -1,0 +1,35 @@
+# Reads the lines of tables.awk, and prints the completions of zsh.
+
+BEGIN {
+    FS = "\t"
+    print "#compdef pl_csv"
+    print "# Completions of pl_csv for zsh, made by manual/make of docs/command-line.md."
+    print ""
+    print "_arguments \\"
+}
+
+# A text inside a specification of _arguments, within single quotes: a backslash stands before what would end its part.
+function escaped(text,   i, mark, made) {
+    gsub(/`/, "", text)
+    for (i = 1; i <= length(text); i++) {
+        mark = substr(text, i, 1)
+        if (index("\\[]:", mark))
+            mark = "\\" mark
+        else if (mark == "'")
+            mark = "'\\''"
+        made = made mark
+    }
+    return made
+}
+
+$1 == "word" {
+    text = "'" $2 ($3 == "" ? "" : "=") "[" escaped($5) "]"
+    if ($3 != "")
+        text = text ":" escaped($3) ":" ($4 == "" ? " " : "(" $4 ")")
+    lines[++count] = "    " text "'"
+}
+
+END {
+    for (i = 1; i <= count; i++)
+        print lines[i] (i < count ? " \\" : "")
+}

@@ -1,5 +1,5 @@
 -- A value that is printed is read as that value (docs/types.md, "Printed" and "Values").
-use Rattle.std.specs.Prelude.{◌≡◌, ◌≢◌, ◌⊎◌, ℕ, ◌<◌, ℤ, Bool, true, false, ◌&&◌, ◌||◌, ◌==◌, nat_eq, List, [], ◌∷◌, ◌++◌, length, Option, None, Some, Ok}
+use Rattle.std.specs.Prelude.{◌≡◌, ◌≢◌, ◌⊎◌, ℕ, ◌<◌, ℤ, Bool, true, false, not, ◌&&◌, ◌||◌, ◌==◌, nat_eq, List, [], ◌∷◌, ◌++◌, length, Option, None, Some, Ok}
 use Rattle.std.specs.Char.{is_ascii_alphanumeric}
 use Rattle.std.specs.List.{AllByRecursion, ends_with, join_with_byte, list_all}
 use Rattle.pl_frame.specs.declared.data_type.DataType.{DataType}
@@ -130,11 +130,15 @@ NullsReturn =
 
 -- ---- lines
 
--- the text of a field, as it stands in a line: a text between quotes with its quotes doubled; or one that does not begin with the
--- quote, and holds neither separator nor line end
+-- the byte is neither a mark of the dialect nor the quote
+abbrev pub is_inner : Marks → ℕ → ℕ → Bool
+is_inner m q x = is_plain_byte m x && not (x == q)
+
+-- the text of a field, as it stands in a line: a text between quotes with its quotes doubled, and then bytes that are no marks, such
+-- as a carriage return; or one that does not begin with the quote, and holds neither separator nor line end
 abbrev pub IsFieldText : Marks → List ℕ → Type 0
 IsFieldText m text =
-    ((q : ℕ) × (inner : List ℕ) × (m.quote ≡ Some q) × (text ≡ quoted q inner))
+    ((q : ℕ) × (inner : List ℕ) × (tail : List ℕ) × (m.quote ≡ Some q) × (text ≡ quoted q inner ++ tail) × (list_all (is_inner m q) tail ≡ true))
     ⊎ ((begins_quoted m.quote text ≡ false) × (list_all (is_plain_byte m) text ≡ true))
 
 -- a line ends here: nothing follows, or a line end

@@ -14,3 +14,4 @@ pub mod ValueLaws
 pub mod WholeLaws
 mod NullFieldLaws
 mod CutLaws
+mod CellTextLaws

@@ -150,3 +150,30 @@ abbrev pub LinesReturn : Type 0
 LinesReturn =
     (m : Marks) (texts : List (List ℕ)) (rest : List ℕ) → AreDistinct m → 0 < length texts → AllByRecursion (IsFieldText m) texts → EndsLine m rest
     → fields m (join_with_byte m.separator texts ++ rest) ≡ texts
+
+-- the marks by which written lines are cut: the separator and the quote that are written, and a line feed
+abbrev pub line_marks : WriteOptions → Marks
+line_marks o = record { separator = o.separator; quote = Some o.quote; line_end = 10 }
+
+-- what stands between the last cell of a line and its line feed: nothing, or a carriage return
+abbrev pub IsLineTail : List ℕ → Type 0
+IsLineTail tail = (tail ≡ []) ⊎ (tail ≡ 13 ∷ [])
+
+-- lines that are written can be cut: the marks differ, and neither is a carriage return, nor the separator a byte of a printed number
+pub record AreApart (o : WriteOptions) : Type 0 where
+  pub distinct : AreDistinct (line_marks o)
+  pub no_return : o.quote ≢ 13
+  pub separator_no_return : o.separator ≢ 13
+  pub separator_no_number : is_plain o.separator ≡ false
+
+-- what is written of a value is the text of a field, also at the end of a line
+abbrev pub ValuesAreFields : Type 0
+ValuesAreFields =
+    (o : WriteOptions) (is_null : NullTest) (type : DataType) (value : Scalar) (tail : List ℕ) → IsWritable o is_null type value → AreApart o → IsLineTail tail
+    → IsFieldText (line_marks o) (written_cell o type (Some value) ++ tail)
+
+-- and so is what is written of a null, where the null text holds neither mark nor quote
+abbrev pub NullsAreFields : Type 0
+NullsAreFields =
+    (o : WriteOptions) (type : DataType) (tail : List ℕ) → list_all (is_inner (line_marks o) o.quote) o.null ≡ true → AreApart o → IsLineTail tail
+    → IsFieldText (line_marks o) (written_cell o type None ++ tail)

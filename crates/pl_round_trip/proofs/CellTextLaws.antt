@@ -1,8 +1,7 @@
 -- What is written of a cell is the text of a field.
-use Rattle.std.proofs.Common.{◌≡◌, ◌≢◌, ℕ, ◌<◌, Bool, true, false, not, ◌&&◌, ◌||◌, ◌==◌, if◌then◌else◌, List, [], ◌∷◌, ◌++◌, length, Option, None, Some, ℤ, refl, sym, ◌∙◌, ap, subst, inl, inr, arith}
+use Rattle.std.proofs.Common.{◌≡◌, ℕ, Bool, true, false, not, ◌&&◌, ◌||◌, ◌==◌, if◌then◌else◌, List, [], ◌∷◌, ◌++◌, length, None, Some, refl, ◌∙◌, ap, subst, inl, inr, arith}
 use Rattle.std.specs.List.{list_all, list_any}
 use Rattle.std.proofs.lemmas.Bool.Decides.{nat_tests}
-use Rattle.pl_frame.specs.Dialect.{Marks}
 use Rattle.pl_frame.specs.declared.data_type.DataType.{DataType}
 use Rattle.pl_frame.specs.Frame.{Scalar, Truth, Number, Letters}
 use Rattle.pl_frame.specs.Printed.{printed}
@@ -11,8 +10,8 @@ use Rattle.pl_frame.specs.Types.{is_numeric, is_text}
 use Rattle.pl_scan.specs.Fields.{is_plain as is_plain_byte, begins_quoted}
 use Rattle.pl_scan.proofs.FieldLaws.{both_left, both_right}
 use Rattle.pl_cells.specs.NullTest.{NullTest}
-use Rattle.pl_round_trip.specs.RoundTrip.{IsWritable, AreApart, IsFieldText, IsLineTail, is_inner, is_plain, line_marks}
-use Rattle.pl_round_trip.proofs.FieldLaws.{lacks, lacks-first, lacks-none, lacks-plain, lacks-both, neither, some, doubled-lacks, text_type, number_type, truth_type}
+use Rattle.pl_round_trip.specs.RoundTrip.{IsWritable, AreApart, IsFieldText, IsLineTail, is_inner, line_marks}
+use Rattle.pl_round_trip.proofs.FieldLaws.{lacks, lacks-first, lacks-none, lacks-plain, lacks-both, neither, doubled-lacks, text_type, number_type, truth_type}
 use Rattle.pl_round_trip.proofs.PlainLaws.{printed-plain}
 
 all-append : (p : ℕ → Bool) (xs ys : List ℕ) → list_all p xs ≡ true → list_all p ys ≡ true → list_all p (xs ++ ys) ≡ true

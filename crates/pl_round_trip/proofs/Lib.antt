@@ -15,3 +15,4 @@ pub mod WholeLaws
 mod NullFieldLaws
 mod CutLaws
 mod CellTextLaws
+mod RowTextLaws

@@ -1,7 +1,7 @@
 -- A value that is printed is read as that value (docs/types.md, "Printed" and "Values").
-use Rattle.std.specs.Prelude.{◌≡◌, ◌≢◌, ◌⊎◌, ℕ, ◌<◌, ℤ, Bool, true, false, not, ◌&&◌, ◌||◌, ◌==◌, nat_eq, List, [], ◌∷◌, ◌++◌, length, Option, None, Some, Ok}
+use Rattle.std.specs.Prelude.{◌≡◌, ◌≢◌, ◌⊎◌, ℕ, ◌<◌, ℤ, Bool, true, false, not, ◌&&◌, ◌||◌, ◌==◌, nat_eq, List, [], ◌∷◌, ◌++◌, length, map, Option, None, Some, Ok}
 use Rattle.std.specs.Char.{is_ascii_alphanumeric}
-use Rattle.std.specs.List.{AllByRecursion, ends_with, join_with_byte, list_all}
+use Rattle.std.specs.List.{AllByRecursion, ends_with, flat_map, join_with_byte, list_all}
 use Rattle.pl_frame.specs.declared.data_type.DataType.{DataType}
 use Rattle.pl_frame.specs.declared.data_type.DataType.TheVariants as dtype
 use Rattle.pl_frame.specs.declared.data_type.TimeUnit.{TimeUnit}
@@ -12,6 +12,7 @@ use Rattle.pl_frame.specs.Printed.{printed}
 use Rattle.pl_frame.specs.Text.{WriteOptions, doubled, quoted, needs_quotes, written_cell}
 use Rattle.pl_frame.specs.Types.{is_readable, is_whole_number, is_text, is_within, signed_range}
 use Rattle.pl_scan.specs.Fields.{is_plain as is_plain_byte, begins_quoted, fields}
+use Rattle.pl_table.specs.Rows.{rows, ended_row}
 use Rattle.pl_cells.specs.Cells.{Reading, missing_value, text_cell, cell}
 use Rattle.pl_cells.specs.NullTest.{NullTest}
 use Rattle.pl_cells.specs.Quoting.{is_well_quoted, inside, undouble}
@@ -177,3 +178,15 @@ abbrev pub NullsAreFields : Type 0
 NullsAreFields =
     (o : WriteOptions) (type : DataType) (tail : List ℕ) → list_all (is_inner (line_marks o) o.quote) o.null ≡ true → AreApart o → IsLineTail tail
     → IsFieldText (line_marks o) (written_cell o type None ++ tail)
+
+-- a line of texts, with a separator between two of them and a line end behind the last
+abbrev pub line_of : Marks → List (List ℕ) → List ℕ
+line_of m texts = join_with_byte m.separator texts ++ m.line_end ∷ []
+
+-- a line has fields, each the text of one
+abbrev pub IsLine : Marks → List (List ℕ) → Type 0
+IsLine m texts = (0 < length texts) × AllByRecursion (IsFieldText m) texts
+
+-- lines of such fields are the rows of their text, comments being none: a row each, with these fields
+abbrev pub RowsReturn : Type 0
+RowsReturn = (m : Marks) (lines : List (List (List ℕ))) → AreDistinct m → AllByRecursion (IsLine m) lines → rows m None (flat_map (line_of m) lines) ≡ map ended_row lines

@@ -8,7 +8,7 @@ use Rattle.pl_frame.specs.Text.{doubled, quoted}
 use Rattle.pl_scan.specs.Fields.{is_plain, is_stop, begins_quoted, cut_field, behind, fields}
 use Rattle.pl_scan.proofs.Walk.{mark, is_even, onto, walk}
 use Rattle.pl_scan.proofs.FieldLaws.{cut_field-is, cut_field-plain, begins_quoted-stop, fields_last, fields_more, both_left, both_right}
-use Rattle.pl_round_trip.specs.RoundTrip.{IsFieldText, EndsLine}
+use Rattle.pl_round_trip.specs.RoundTrip.{is_inner, IsFieldText, EndsLine}
 
 -- ---- a field between quotes
 
@@ -31,6 +31,10 @@ walk-plain m n x rest plain = by (is_even n) (is_plain m x) plain
     by true false e = cc
     by false false e = refl
 
+not-true-false : (t : Bool) → not t ≡ true → t ≡ false
+not-true-false true e = cc
+not-true-false false e = refl
+
 flips : (n : ℕ) → is_even n ≡ false → is_even (n + 1) ≡ true
 flips n odd = let is : n % 2 ≡ 1 = grind (arith, nat_tests, odd) in let even : (n + 1) % 2 ≡ 0 = omega (arith, is) in grind (arith, nat_tests, even)
 
@@ -44,34 +48,50 @@ module _ (s e q : ℕ) (plain : is_plain (record { separator = s; quote = Some q
   marks : (n : ℕ) → n + mark m q ≡ n + 1
   marks n = let same : (q == q) ≡ true = grind (arith, nat_tests) in ap (λ (t : Bool). n + cond t 1 0) same
 
-  -- what stands behind the first quote, up to the last one
-  body : (n : ℕ) (text rest : List ℕ) → is_even n ≡ false → is_stop m rest ≡ true → walk m n (doubled q text ++ q ∷ rest) ≡ (doubled q text ++ q ∷ [], rest)
-  body n [] rest odd stop = walk-odd m n q rest odd ∙ ap (λ k. onto q (walk m k rest)) (marks n) ∙ ap (onto q) (walk-stop m (n + 1) rest (flips n odd) stop)
-  body n (x ∷ text) rest odd stop = by (x == q) refl (body n text rest odd stop) (body (n + 1 + 1) text rest (flips-back n odd) stop)
+  -- behind the last quote
+  walk-tail : (n : ℕ) (tail rest : List ℕ) → is_even n ≡ true → list_all (is_inner m q) tail ≡ true → is_stop m rest ≡ true → walk m n (tail ++ rest) ≡ (tail, rest)
+  walk-tail n [] rest even all stop = walk-stop m n rest even stop
+  walk-tail n (x ∷ tail) rest even all stop =
+      let here = both_left (is_inner m q x) (list_all (is_inner m q) tail) all in
+      let bare : (x == q) ≡ false = not-true-false (x == q) (both_right (is_plain m x) (not (x == q)) here) in
+      walk-plain m n x (tail ++ rest) (both_left (is_plain m x) (not (x == q)) here)
+      ∙ ap (λ (t : Bool). onto x (walk m (n + cond t 1 0) (tail ++ rest))) bare
+      ∙ ap (λ k. onto x (walk m k (tail ++ rest))) (omega arith)
+      ∙ ap (onto x) (walk-tail n tail rest even (both_right (is_inner m q x) (list_all (is_inner m q) tail) all) stop)
+
+  -- what stands behind the first quote
+  body : (n : ℕ) (text tail rest : List ℕ) → is_even n ≡ false → list_all (is_inner m q) tail ≡ true → is_stop m rest ≡ true → walk m n (doubled q text ++ q ∷ (tail ++ rest)) ≡ (doubled q text ++ q ∷ tail, rest)
+  body n [] tail rest odd all stop =
+      walk-odd m n q (tail ++ rest) odd ∙ ap (λ k. onto q (walk m k (tail ++ rest))) (marks n) ∙ ap (onto q) (walk-tail (n + 1) tail rest (flips n odd) all stop)
+  body n (x ∷ text) tail rest odd all stop = by (x == q) refl (body n text tail rest odd all stop) (body (n + 1 + 1) text tail rest (flips-back n odd) all stop)
     where
-      by : (t : Bool) → (x == q) ≡ t → walk m n (doubled q text ++ q ∷ rest) ≡ (doubled q text ++ q ∷ [], rest) → walk m (n + 1 + 1) (doubled q text ++ q ∷ rest) ≡ (doubled q text ++ q ∷ [], rest)
-          → walk m n (((if t then q ∷ q ∷ [] else x ∷ []) ++ doubled q text) ++ q ∷ rest) ≡ (((if t then q ∷ q ∷ [] else x ∷ []) ++ doubled q text) ++ q ∷ [], rest)
+      by : (t : Bool) → (x == q) ≡ t → walk m n (doubled q text ++ q ∷ (tail ++ rest)) ≡ (doubled q text ++ q ∷ tail, rest) → walk m (n + 1 + 1) (doubled q text ++ q ∷ (tail ++ rest)) ≡ (doubled q text ++ q ∷ tail, rest)
+          → walk m n (((if t then q ∷ q ∷ [] else x ∷ []) ++ doubled q text) ++ q ∷ (tail ++ rest)) ≡ (((if t then q ∷ q ∷ [] else x ∷ []) ++ doubled q text) ++ q ∷ tail, rest)
       by true is here later =
-          walk-odd m n q (q ∷ (doubled q text ++ q ∷ rest)) odd
-          ∙ ap (λ k. onto q (walk m k (q ∷ (doubled q text ++ q ∷ rest)))) (marks n)
-          ∙ ap (onto q) (walk-plain m (n + 1) q (doubled q text ++ q ∷ rest) plain ∙ ap (λ k. onto q (walk m k (doubled q text ++ q ∷ rest))) (marks (n + 1)) ∙ ap (onto q) later)
+          walk-odd m n q (q ∷ (doubled q text ++ q ∷ (tail ++ rest))) odd
+          ∙ ap (λ k. onto q (walk m k (q ∷ (doubled q text ++ q ∷ (tail ++ rest))))) (marks n)
+          ∙ ap (onto q) (walk-plain m (n + 1) q (doubled q text ++ q ∷ (tail ++ rest)) plain ∙ ap (λ k. onto q (walk m k (doubled q text ++ q ∷ (tail ++ rest)))) (marks (n + 1)) ∙ ap (onto q) later)
       by false is here later =
-          walk-odd m n x (doubled q text ++ q ∷ rest) odd
-          ∙ ap (λ (t : Bool). onto x (walk m (n + cond t 1 0) (doubled q text ++ q ∷ rest))) is
-          ∙ ap (λ k. onto x (walk m k (doubled q text ++ q ∷ rest))) (omega arith)
+          walk-odd m n x (doubled q text ++ q ∷ (tail ++ rest)) odd
+          ∙ ap (λ (t : Bool). onto x (walk m (n + cond t 1 0) (doubled q text ++ q ∷ (tail ++ rest)))) is
+          ∙ ap (λ k. onto x (walk m k (doubled q text ++ q ∷ (tail ++ rest)))) (omega arith)
           ∙ ap (onto x) here
 
-  first : (text rest : List ℕ) → is_stop m rest ≡ true → walk m 0 (quoted q text ++ rest) ≡ (quoted q text, rest)
-  first text rest stop =
-      ap (λ l. walk m 0 (q ∷ l)) (append_assoc (doubled q text) (q ∷ []) rest)
-      ∙ walk-plain m 0 q (doubled q text ++ q ∷ rest) plain ∙ ap (λ k. onto q (walk m k (doubled q text ++ q ∷ rest))) (marks 0) ∙ ap (onto q) (body 1 text rest refl stop)
+  first : (text tail rest : List ℕ) → list_all (is_inner m q) tail ≡ true → is_stop m rest ≡ true → walk m 0 ((quoted q text ++ tail) ++ rest) ≡ (quoted q text ++ tail, rest)
+  first text tail rest all stop =
+      let whole : (doubled q text ++ q ∷ []) ++ tail ≡ doubled q text ++ q ∷ tail = append_assoc (doubled q text) (q ∷ []) tail in
+      ap (λ l. walk m 0 (q ∷ (l ++ rest))) whole
+      ∙ ap (λ l. walk m 0 (q ∷ l)) (append_assoc (doubled q text) (q ∷ tail) rest)
+      ∙ walk-plain m 0 q (doubled q text ++ q ∷ (tail ++ rest)) plain ∙ ap (λ k. onto q (walk m k (doubled q text ++ q ∷ (tail ++ rest)))) (marks 0)
+      ∙ ap (onto q) (body 1 text tail rest refl all stop)
+      ∙ ap (λ l. (q ∷ l, rest)) (sym whole)
 
-  quoted-cut : (text rest : List ℕ) → is_stop m rest ≡ true → cut_field m (quoted q text ++ rest) ≡ (quoted q text, rest)
-  quoted-cut text rest stop =
+  quoted-cut : (text tail rest : List ℕ) → list_all (is_inner m q) tail ≡ true → is_stop m rest ≡ true → cut_field m ((quoted q text ++ tail) ++ rest) ≡ (quoted q text ++ tail, rest)
+  quoted-cut text tail rest all stop =
       let same : (q == q) ≡ true = grind (arith, nat_tests) in
-      cut_field-is m (quoted q text ++ rest)
-      ∙ ap (λ (t : Bool). walk (record { separator = s; quote = cond t (Some q) None; line_end = e }) 0 (quoted q text ++ rest)) same
-      ∙ first text rest stop
+      cut_field-is m ((quoted q text ++ tail) ++ rest)
+      ∙ ap (λ (t : Bool). walk (record { separator = s; quote = cond t (Some q) None; line_end = e }) 0 ((quoted q text ++ tail) ++ rest)) same
+      ∙ first text tail rest all stop
 
 -- ---- any other field
 
@@ -103,7 +123,7 @@ plain-cut m text rest distinct bare all stop =
 -- the text of a field is cut out whole, before a separator, a line end or the end
 field-cut : (m : Marks) (text rest : List ℕ) → AreDistinct m → IsFieldText m text → is_stop m rest ≡ true → cut_field m (text ++ rest) ≡ (text, rest)
 field-cut m text rest distinct (inr other) stop = plain-cut m text rest distinct other.0 other.1 stop
-field-cut m text rest distinct (inl (q, inner, is, same)) stop =
+field-cut m text rest distinct (inl (q, inner, tail, is, same, all)) stop =
     subst (λ t. cut_field m (t ++ rest) ≡ (t, rest)) (sym same) (whole m.quote is refl)
   where
     distinct_quote : (o : Option ℕ) → o ≡ Some q → AreDistinct (record { separator = m.separator; quote = o; line_end = m.line_end }) → is_plain (record { separator = m.separator; quote = Some q; line_end = m.line_end }) q ≡ true
@@ -114,13 +134,14 @@ field-cut m text rest distinct (inl (q, inner, is, same)) stop =
         let no_end : (q == m.line_end) ≡ false = grind (arith, nat_tests, d, same) in
         rw (no_separator, no_end) refl
 
-    whole : (o : Option ℕ) → o ≡ Some q → m.quote ≡ o → cut_field m (quoted q inner ++ rest) ≡ (quoted q inner, rest)
+    whole : (o : Option ℕ) → o ≡ Some q → m.quote ≡ o → cut_field m ((quoted q inner ++ tail) ++ rest) ≡ (quoted q inner ++ tail, rest)
     whole o e f =
         let quote : m.quote ≡ Some q = f ∙ e in
         let mine : record { separator = m.separator; quote = Some q; line_end = m.line_end } ≡ m = ap (λ p. record { separator = m.separator; quote = p; line_end = m.line_end }) (sym quote) in
         let here : is_stop (record { separator = m.separator; quote = Some q; line_end = m.line_end }) rest ≡ true = ap (λ (k : Marks). is_stop k rest) mine ∙ stop in
-        subst (λ (k : Marks). cut_field k (quoted q inner ++ rest) ≡ (quoted q inner, rest)) mine
-        (quoted-cut m.separator m.line_end q (distinct_quote m.quote quote distinct) inner rest here)
+        let inside : list_all (is_inner (record { separator = m.separator; quote = Some q; line_end = m.line_end }) q) tail ≡ true = ap (λ (k : Marks). list_all (is_inner k q) tail) mine ∙ all in
+        subst (λ (k : Marks). cut_field k ((quoted q inner ++ tail) ++ rest) ≡ (quoted q inner ++ tail, rest)) mine
+        (quoted-cut m.separator m.line_end q (distinct_quote m.quote quote distinct) inner tail rest inside here)
 
 ends-stop : (m : Marks) (rest : List ℕ) → EndsLine m rest → is_stop m rest ≡ true
 ends-stop m rest (inl none) = ap (is_stop m) none

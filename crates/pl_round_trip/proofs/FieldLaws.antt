@@ -24,7 +24,7 @@ use Rattle.pl_round_trip.proofs.ValueLaws.{cell-returns}
 
 -- ---- bytes that a text lacks
 
-lacks : ℕ → List ℕ → Bool
+pub lacks : ℕ → List ℕ → Bool
 lacks c [] = true
 lacks c (x ∷ xs) = not (x == c) && lacks c xs
 
@@ -32,20 +32,20 @@ not_false : (t : Bool) → not t ≡ true → t ≡ false
 not_false true h = cc
 not_false false h = refl
 
-lacks-both : (c x : ℕ) (xs : List ℕ) → (x == c) ≡ false → lacks c xs ≡ true → lacks c (x ∷ xs) ≡ true
+pub lacks-both : (c x : ℕ) (xs : List ℕ) → (x == c) ≡ false → lacks c xs ≡ true → lacks c (x ∷ xs) ≡ true
 unfolding lacks
 lacks-both c x xs e h = rw (e, h) refl
 
-lacks-first : (c x : ℕ) (xs : List ℕ) → lacks c (x ∷ xs) ≡ true → ((x == c) ≡ false) × (lacks c xs ≡ true)
+pub lacks-first : (c x : ℕ) (xs : List ℕ) → lacks c (x ∷ xs) ≡ true → ((x == c) ≡ false) × (lacks c xs ≡ true)
 unfolding lacks
 lacks-first c x xs h = let parts = and_true (not (x == c)) (lacks c xs) h in (not_false (x == c) parts.0, parts.1)
 
-lacks-none : (c : ℕ) → lacks c [] ≡ true
+pub lacks-none : (c : ℕ) → lacks c [] ≡ true
 unfolding lacks
 lacks-none c = refl
 
 -- a byte that is not plain is none of a plain text
-lacks-plain : (c : ℕ) (xs : List ℕ) → is_plain c ≡ false → are_plain xs ≡ true → lacks c xs ≡ true
+pub lacks-plain : (c : ℕ) (xs : List ℕ) → is_plain c ≡ false → are_plain xs ≡ true → lacks c xs ≡ true
 lacks-plain c [] e h = lacks-none c
 lacks-plain c (x ∷ xs) e h =
     let parts = and_true (is_plain x) (are_plain xs) h in
@@ -55,7 +55,7 @@ lacks-plain c (x ∷ xs) e h =
     by false k p = k
     by true k p = let is : x ≡ c = grind (arith, nat_tests, k) in let same = ap is_plain is in absurd (cc)
 
-neither : (a b : Bool) → (a || b) ≡ false → (a ≡ false) × (b ≡ false)
+pub neither : (a b : Bool) → (a || b) ≡ false → (a ≡ false) × (b ≡ false)
 neither true b h = cc
 neither false b h = (refl, h)
 
@@ -68,10 +68,10 @@ bare-lacks s q (x ∷ xs) h =
     let rest = bare-lacks s q xs parts.1 in
     (lacks-both q x xs last.1 rest.0, lacks-both 13 x xs return.1 rest.1)
 
-some : (xs : List ℕ) → (length xs == 0) ≡ false → 0 < length xs
+pub some : (xs : List ℕ) → (length xs == 0) ≡ false → 0 < length xs
 some xs h = grind (arith, nat_tests, h)
 
-doubled-lacks : (q : ℕ) (xs : List ℕ) → lacks q xs ≡ true → doubled q xs ≡ xs
+pub doubled-lacks : (q : ℕ) (xs : List ℕ) → lacks q xs ≡ true → doubled q xs ≡ xs
 doubled-lacks q [] h = refl
 doubled-lacks q (x ∷ xs) h = let parts = lacks-first q x xs h in doubled-other q x xs parts.0 ∙ ap (λ l. x ∷ l) (doubled-lacks q xs parts.1)
 
@@ -224,19 +224,19 @@ value-field reading is_null o numeric type value e h = by (is_bare o.style numer
     by false = quoted-returns reading is_null o type value h
 
 -- texts are values of the types of texts alone
-text_type : (type : DataType) (text : List ℕ) → IsReadable type (Letters text) → is_text type ≡ true
+pub text_type : (type : DataType) (text : List ℕ) → IsReadable type (Letters text) → is_text type ≡ true
 text_type dtype.String text h = refl
 text_type dtype.Categorical text h = refl
 text_type (dtype.Enum d) text h = refl
 text_type type text h = let no = (and_true (is_utf8 text) false h.held).1 in cc
 
-number_type : (type : DataType) (n : ℤ) → IsReadable type (Number n) → is_text type ≡ false
+pub number_type : (type : DataType) (n : ℤ) → IsReadable type (Number n) → is_text type ≡ false
 number_type dtype.String n h = let no = h.held in cc
 number_type dtype.Categorical n h = let no = h.held in cc
 number_type (dtype.Enum d) n h = let no = h.held in cc
 number_type type n h = refl
 
-truth_type : (type : DataType) (b : Bool) → IsReadable type (Truth b) → is_text type ≡ false
+pub truth_type : (type : DataType) (b : Bool) → IsReadable type (Truth b) → is_text type ≡ false
 truth_type dtype.String b h = let no = h.held in cc
 truth_type dtype.Categorical b h = let no = h.held in cc
 truth_type (dtype.Enum d) b h = let no = h.held in cc

@@ -14,3 +14,5 @@ pub mod ValueLaws
 pub mod WholeLaws
 mod NullFieldLaws
 mod CutLaws
+mod CellTextLaws
+mod RowTextLaws

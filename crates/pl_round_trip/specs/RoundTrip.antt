@@ -1,7 +1,7 @@
 -- A value that is printed is read as that value (docs/types.md, "Printed" and "Values").
-use Rattle.std.specs.Prelude.{◌≡◌, ◌≢◌, ◌⊎◌, ℕ, ◌<◌, ℤ, Bool, true, false, ◌&&◌, ◌||◌, ◌==◌, nat_eq, List, [], ◌∷◌, ◌++◌, length, Option, None, Some, Ok}
+use Rattle.std.specs.Prelude.{◌≡◌, ◌≢◌, ◌⊎◌, ℕ, ◌<◌, ℤ, Bool, true, false, not, ◌&&◌, ◌||◌, ◌==◌, nat_eq, List, [], ◌∷◌, ◌++◌, length, map, Option, None, Some, Ok}
 use Rattle.std.specs.Char.{is_ascii_alphanumeric}
-use Rattle.std.specs.List.{AllByRecursion, ends_with, join_with_byte, list_all}
+use Rattle.std.specs.List.{AllByRecursion, ends_with, flat_map, join_with_byte, list_all}
 use Rattle.pl_frame.specs.declared.data_type.DataType.{DataType}
 use Rattle.pl_frame.specs.declared.data_type.DataType.TheVariants as dtype
 use Rattle.pl_frame.specs.declared.data_type.TimeUnit.{TimeUnit}
@@ -12,6 +12,7 @@ use Rattle.pl_frame.specs.Printed.{printed}
 use Rattle.pl_frame.specs.Text.{WriteOptions, doubled, quoted, needs_quotes, written_cell}
 use Rattle.pl_frame.specs.Types.{is_readable, is_whole_number, is_text, is_within, signed_range}
 use Rattle.pl_scan.specs.Fields.{is_plain as is_plain_byte, begins_quoted, fields}
+use Rattle.pl_table.specs.Rows.{rows, ended_row}
 use Rattle.pl_cells.specs.Cells.{Reading, missing_value, text_cell, cell}
 use Rattle.pl_cells.specs.NullTest.{NullTest}
 use Rattle.pl_cells.specs.Quoting.{is_well_quoted, inside, undouble}
@@ -130,11 +131,15 @@ NullsReturn =
 
 -- ---- lines
 
--- the text of a field, as it stands in a line: a text between quotes with its quotes doubled; or one that does not begin with the
--- quote, and holds neither separator nor line end
+-- the byte is neither a mark of the dialect nor the quote
+abbrev pub is_inner : Marks → ℕ → ℕ → Bool
+is_inner m q x = is_plain_byte m x && not (x == q)
+
+-- the text of a field, as it stands in a line: a text between quotes with its quotes doubled, and then bytes that are no marks, such
+-- as a carriage return; or one that does not begin with the quote, and holds neither separator nor line end
 abbrev pub IsFieldText : Marks → List ℕ → Type 0
 IsFieldText m text =
-    ((q : ℕ) × (inner : List ℕ) × (m.quote ≡ Some q) × (text ≡ quoted q inner))
+    ((q : ℕ) × (inner : List ℕ) × (tail : List ℕ) × (m.quote ≡ Some q) × (text ≡ quoted q inner ++ tail) × (list_all (is_inner m q) tail ≡ true))
     ⊎ ((begins_quoted m.quote text ≡ false) × (list_all (is_plain_byte m) text ≡ true))
 
 -- a line ends here: nothing follows, or a line end
@@ -146,3 +151,42 @@ abbrev pub LinesReturn : Type 0
 LinesReturn =
     (m : Marks) (texts : List (List ℕ)) (rest : List ℕ) → AreDistinct m → 0 < length texts → AllByRecursion (IsFieldText m) texts → EndsLine m rest
     → fields m (join_with_byte m.separator texts ++ rest) ≡ texts
+
+-- the marks by which written lines are cut: the separator and the quote that are written, and a line feed
+abbrev pub line_marks : WriteOptions → Marks
+line_marks o = record { separator = o.separator; quote = Some o.quote; line_end = 10 }
+
+-- what stands between the last cell of a line and its line feed: nothing, or a carriage return
+abbrev pub IsLineTail : List ℕ → Type 0
+IsLineTail tail = (tail ≡ []) ⊎ (tail ≡ 13 ∷ [])
+
+-- lines that are written can be cut: the marks differ, and neither is a carriage return, nor the separator a byte of a printed number
+pub record AreApart (o : WriteOptions) : Type 0 where
+  pub distinct : AreDistinct (line_marks o)
+  pub no_return : o.quote ≢ 13
+  pub separator_no_return : o.separator ≢ 13
+  pub separator_no_number : is_plain o.separator ≡ false
+
+-- what is written of a value is the text of a field, also at the end of a line
+abbrev pub ValuesAreFields : Type 0
+ValuesAreFields =
+    (o : WriteOptions) (is_null : NullTest) (type : DataType) (value : Scalar) (tail : List ℕ) → IsWritable o is_null type value → AreApart o → IsLineTail tail
+    → IsFieldText (line_marks o) (written_cell o type (Some value) ++ tail)
+
+-- and so is what is written of a null, where the null text holds neither mark nor quote
+abbrev pub NullsAreFields : Type 0
+NullsAreFields =
+    (o : WriteOptions) (type : DataType) (tail : List ℕ) → list_all (is_inner (line_marks o) o.quote) o.null ≡ true → AreApart o → IsLineTail tail
+    → IsFieldText (line_marks o) (written_cell o type None ++ tail)
+
+-- a line of texts, with a separator between two of them and a line end behind the last
+abbrev pub line_of : Marks → List (List ℕ) → List ℕ
+line_of m texts = join_with_byte m.separator texts ++ m.line_end ∷ []
+
+-- a line has fields, each the text of one
+abbrev pub IsLine : Marks → List (List ℕ) → Type 0
+IsLine m texts = (0 < length texts) × AllByRecursion (IsFieldText m) texts
+
+-- lines of such fields are the rows of their text, comments being none: a row each, with these fields
+abbrev pub RowsReturn : Type 0
+RowsReturn = (m : Marks) (lines : List (List (List ℕ))) → AreDistinct m → AllByRecursion (IsLine m) lines → rows m None (flat_map (line_of m) lines) ≡ map ended_row lines

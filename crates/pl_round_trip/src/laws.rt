@@ -1,5 +1,5 @@
 //! Each law is the contract of a function that does nothing.
-ghost use Rattle.pl_round_trip.specs.RoundTrip.{QuotesUndouble, QuotedReturn, BooleansReturn, TextsReturn, WholesReturn, TimesReturn, DatesReturn, DatetimesReturn, DecimalsReturn, ValuesReturn, TextCellsReturn, PrintedArePlain, FieldsReturn, NullsReturn, LinesReturn};
+ghost use Rattle.pl_round_trip.specs.RoundTrip.{QuotesUndouble, QuotedReturn, BooleansReturn, TextsReturn, WholesReturn, TimesReturn, DatesReturn, DatetimesReturn, DecimalsReturn, ValuesReturn, TextCellsReturn, PrintedArePlain, FieldsReturn, NullsReturn, LinesReturn, ValuesAreFields, NullsAreFields, RowsReturn};
 
 /// A text whose quotes were doubled and then undoubled is the text.
 pub fn quotes_undouble()
@@ -74,4 +74,19 @@ pub fn nulls_return()
 /// Texts of fields that stand in a line with separators between them are the fields of the line, whatever line follows.
 pub fn lines_return()
     ensures { LinesReturn }
+{}
+
+/// What is written of a value is the text of a field in its line, in each style.
+pub fn values_are_fields()
+    ensures { ValuesAreFields }
+{}
+
+/// What is written of a null is the text of a field in its line, in each style.
+pub fn nulls_are_fields()
+    ensures { NullsAreFields }
+{}
+
+/// Lines of texts of fields are the rows of their text: a row each, with these fields.
+pub fn rows_return()
+    ensures { RowsReturn }
 {}

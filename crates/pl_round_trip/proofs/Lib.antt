@@ -16,3 +16,4 @@ mod NullFieldLaws
 mod CutLaws
 mod CellTextLaws
 mod RowTextLaws
+mod FrameRowLaws

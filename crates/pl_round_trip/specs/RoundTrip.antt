@@ -1,15 +1,15 @@
 -- A value that is printed is read as that value (docs/types.md, "Printed" and "Values").
-use Rattle.std.specs.Prelude.{◌≡◌, ◌≢◌, ◌⊎◌, ℕ, ◌<◌, ℤ, Bool, true, false, not, ◌&&◌, ◌||◌, ◌==◌, nat_eq, List, [], ◌∷◌, ◌++◌, length, map, Option, None, Some, Ok}
+use Rattle.std.specs.Prelude.{◌≡◌, ◌≢◌, ◌⊎◌, ℕ, ◌+◌, ◌<◌, ◌≤◌, ℤ, Bool, true, false, not, ◌&&◌, ◌||◌, ◌==◌, nat_eq, List, [], ◌∷◌, ◌++◌, length, map, Option, None, Some, Ok}
 use Rattle.std.specs.Char.{is_ascii_alphanumeric}
-use Rattle.std.specs.List.{AllByRecursion, ends_with, flat_map, join_with_byte, list_all}
+use Rattle.std.specs.List.{AllByRecursion, ends_with, flat_map, join_with_byte, list_all, range_with_len}
 use Rattle.pl_frame.specs.declared.data_type.DataType.{DataType}
 use Rattle.pl_frame.specs.declared.data_type.DataType.TheVariants as dtype
 use Rattle.pl_frame.specs.declared.data_type.TimeUnit.{TimeUnit}
 use Rattle.pl_frame.specs.Dialect.{Marks, AreDistinct}
 use Rattle.pl_frame.specs.Columns.{is_value_of}
-use Rattle.pl_frame.specs.Frame.{Scalar, Truth, Number, Letters}
+use Rattle.pl_frame.specs.Frame.{Scalar, Truth, Number, Letters, ColumnValue, cell_at}
 use Rattle.pl_frame.specs.Printed.{printed}
-use Rattle.pl_frame.specs.Text.{WriteOptions, doubled, quoted, needs_quotes, written_cell}
+use Rattle.pl_frame.specs.Text.{WriteOptions, doubled, quoted, needs_quotes, written_cell, row_lines}
 use Rattle.pl_frame.specs.Types.{is_readable, is_whole_number, is_text, is_within, signed_range}
 use Rattle.pl_scan.specs.Fields.{is_plain as is_plain_byte, begins_quoted, fields}
 use Rattle.pl_table.specs.Rows.{rows, ended_row}
@@ -190,3 +190,29 @@ IsLine m texts = (0 < length texts) × AllByRecursion (IsFieldText m) texts
 -- lines of such fields are the rows of their text, comments being none: a row each, with these fields
 abbrev pub RowsReturn : Type 0
 RowsReturn = (m : Marks) (lines : List (List (List ℕ))) → AreDistinct m → AllByRecursion (IsLine m) lines → rows m None (flat_map (line_of m) lines) ≡ map ended_row lines
+
+-- ---- the rows of a frame
+
+-- the last of some texts with bytes behind it
+abbrev pub with_tail : List ℕ → List (List ℕ) → List (List ℕ)
+with_tail tail [] = []
+with_tail tail (text ∷ []) = (text ++ tail) ∷ []
+with_tail tail (text ∷ next ∷ texts) = text ∷ with_tail tail (next ∷ texts)
+
+-- what is written of the cells of a row
+abbrev pub written_texts : WriteOptions → List ColumnValue → ℕ → List (List ℕ)
+written_texts o columns row = map (λ column. written_cell o column.dtype (cell_at column row)) columns
+
+-- a cell can be written so that it is a field: a value that is writable, or a null, whose text holds neither mark nor quote
+abbrev pub IsCellWritable : WriteOptions → NullTest → DataType → Option Scalar → Type 0
+IsCellWritable o is_null type None = list_all (is_inner (line_marks o) o.quote) o.null ≡ true
+IsCellWritable o is_null type (Some value) = IsWritable o is_null type value
+
+-- The lines that are written of some rows of a frame with columns are rows again, one for each, whose fields are what is written of
+-- its cells, the last with the carriage return that may stand before the line feed.
+abbrev pub FrameRowsReturn : Type 0
+FrameRowsReturn =
+    (o : WriteOptions) (is_null : ColumnValue → NullTest) (columns : List ColumnValue) (from count : ℕ) (tail : List ℕ)
+    → AreApart o → IsLineTail tail → o.terminator ≡ tail ++ 10 ∷ [] → 0 < length columns
+    → ((row : ℕ) → from ≤ row → row < from + count → AllByRecursion (λ column. IsCellWritable o (is_null column) column.dtype (cell_at column row)) columns)
+    → rows (line_marks o) None (row_lines o columns from count) ≡ map (λ row. ended_row (with_tail tail (written_texts o columns row))) (range_with_len from count)

@@ -1,5 +1,5 @@
 //! Each law is the contract of a function that does nothing.
-ghost use Rattle.pl_round_trip.specs.RoundTrip.{QuotesUndouble, QuotedReturn, BooleansReturn, TextsReturn, WholesReturn, TimesReturn, DatesReturn, DatetimesReturn, DecimalsReturn, ValuesReturn, TextCellsReturn, PrintedArePlain, FieldsReturn, NullsReturn, LinesReturn, ValuesAreFields, NullsAreFields, RowsReturn};
+ghost use Rattle.pl_round_trip.specs.RoundTrip.{QuotesUndouble, QuotedReturn, BooleansReturn, TextsReturn, WholesReturn, TimesReturn, DatesReturn, DatetimesReturn, DecimalsReturn, ValuesReturn, TextCellsReturn, PrintedArePlain, FieldsReturn, NullsReturn, LinesReturn, ValuesAreFields, NullsAreFields, RowsReturn, FrameRowsReturn};
 
 /// A text whose quotes were doubled and then undoubled is the text.
 pub fn quotes_undouble()
@@ -89,4 +89,9 @@ pub fn nulls_are_fields()
 /// Lines of texts of fields are the rows of their text: a row each, with these fields.
 pub fn rows_return()
     ensures { RowsReturn }
+{}
+
+/// The lines that are written of the rows of a frame are rows again, whose fields are what is written of the cells.
+pub fn frame_rows_return()
+    ensures { FrameRowsReturn }
 {}

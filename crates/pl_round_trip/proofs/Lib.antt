@@ -17,3 +17,4 @@ mod CutLaws
 mod CellTextLaws
 mod RowTextLaws
 mod FrameRowLaws
+mod TailLaws

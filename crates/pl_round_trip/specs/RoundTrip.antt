@@ -129,6 +129,12 @@ NullsReturn =
     (reading : Reading) (is_null : NullTest) (o : WriteOptions) (type : DataType) → IsNullWritable o reading is_null type
     → cell reading is_null (Some o.quote) type (written_cell o type None) ≡ Ok None
 
+-- a carriage return behind a field does not count, where the field does not end with one
+abbrev pub TailsReturn : Type 0
+TailsReturn =
+    (reading : Reading) (is_null : NullTest) (q : ℕ) (type : DataType) (field : List ℕ) → q ≢ 13 → ends_with nat_eq field (13 ∷ []) ≡ false
+    → cell reading is_null (Some q) type (field ++ 13 ∷ []) ≡ cell reading is_null (Some q) type field
+
 -- ---- lines
 
 -- the byte is neither a mark of the dialect nor the quote

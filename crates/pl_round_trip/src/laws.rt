@@ -1,5 +1,5 @@
 //! Each law is the contract of a function that does nothing.
-ghost use Rattle.pl_round_trip.specs.RoundTrip.{QuotesUndouble, QuotedReturn, BooleansReturn, TextsReturn, WholesReturn, TimesReturn, DatesReturn, DatetimesReturn, DecimalsReturn, ValuesReturn, TextCellsReturn, PrintedArePlain, FieldsReturn, NullsReturn, LinesReturn, ValuesAreFields, NullsAreFields, RowsReturn, FrameRowsReturn};
+ghost use Rattle.pl_round_trip.specs.RoundTrip.{QuotesUndouble, QuotedReturn, BooleansReturn, TextsReturn, WholesReturn, TimesReturn, DatesReturn, DatetimesReturn, DecimalsReturn, ValuesReturn, TextCellsReturn, PrintedArePlain, FieldsReturn, NullsReturn, LinesReturn, ValuesAreFields, NullsAreFields, RowsReturn, FrameRowsReturn, TailsReturn};
 
 /// A text whose quotes were doubled and then undoubled is the text.
 pub fn quotes_undouble()
@@ -94,4 +94,9 @@ pub fn rows_return()
 /// The lines that are written of the rows of a frame are rows again, whose fields are what is written of the cells.
 pub fn frame_rows_return()
     ensures { FrameRowsReturn }
+{}
+
+/// A carriage return behind a field that does not end with one changes nothing of its cell.
+pub fn tails_return()
+    ensures { TailsReturn }
 {}

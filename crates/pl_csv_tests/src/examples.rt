@@ -13,6 +13,7 @@ use pl_frame::sink::MemSink;
 use pl_frame::source::MemSource;
 use pl_infer::column_lists::ColumnNames;
 use pl_infer::read_options::CsvReadOptions;
+use pl_read::batched_reader::OwnedBatchedCsvReader;
 use pl_read::csv_reader::{CsvReader, SerReader};
 use pl_read::reader_makers::ReaderMakers;
 use pl_write::csv_writer::{CsvWriter, SerWriter};
@@ -109,6 +110,35 @@ fn two_columns_are_read(rt: HostRuntime) {
     let frame = frame.expect(&rt, "a frame");
     assert!(rt; have_names(frame.columns(), &["id", "amount"]));
     assert!(rt; frame.width() == 2);
+}
+
+// A reader of the orders of a text in batches.
+fn orders_in_batches(alloc: Global, text: &[u8]) -> PolarsResult<OwnedBatchedCsvReader> {
+    let options = orders(alloc)?.with_chunk_size(65536);
+    let mut reader = options.into_reader_with_file_handle(alloc, MemSource::new(text));
+    reader.batched(None)
+}
+
+// The number of rows in all batches that are left.
+fn count_in_batches<W: Threads + Wait + Sync>(
+    rt: &W,
+    batches: &mut OwnedBatchedCsvReader,
+) -> PolarsResult<usize> {
+    let mut rows: usize = 0;
+    while let Some(frames) = batches.next_batches(rt, 8)? {
+        let heights = frames.iter().map(|frame| frame.height());
+        rows = heights.fold(rows, |rows, height| rows.saturating_add(height));
+    }
+    Ok(rows)
+}
+
+#[test]
+fn rows_are_counted_in_batches(rt: HostRuntime) {
+    let text = b"id,name,amount\n1,Anna,2.50\n2,,-3\n";
+    let mut batches = orders_in_batches(rt.alloc(), text).expect(&rt, "a reader");
+    let rows = count_in_batches(&rt, &mut batches);
+    drop(batches);
+    assert!(rt; matches!(rows, Ok(2)));
 }
 
 // Writes a frame with semicolons.

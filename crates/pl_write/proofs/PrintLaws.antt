@@ -2,6 +2,7 @@
 use Rattle.std.proofs.Common.{◌≡◌, ℕ, zero, suc, ◌+◌, ◌-◌, ◌<◌, ◌≤◌, false, List, [], ◌∷◌, ◌++◌, length, take, drop, get_or, refl, sym, ◌∙◌, ap, append_assoc, arith, ◌⊎◌, inl, inr}
 use Rattle.std.specs.Prelude.{Option, All}
 use Rattle.std.specs.Io.KnownBytes.{Appends}
+use Rattle.std.proofs.lemmas.Grind.{flat_map-append}
 use Rattle.std.proofs.lemmas.List.{take-append-drop}
 use Rattle.std.proofs.lemmas.List.Elements.{All-nil, All-cons, All-head, All-tail}
 use Rattle.pl_frame.specs.Frame.{ColumnValue, HaveHeight}
@@ -31,13 +32,6 @@ pub row_lines-between : (o : WriteOptions) (columns : List ColumnValue) (first m
 row_lines-between o columns first mid end up inside =
     let here : first + (mid - first) ≡ mid = omega (arith, up) in
     row_lines-step o columns first (mid - first) end (omega (arith, up, inside)) ∙ ap (λ k. row_lines o columns first (mid - first) ++ row_lines o columns k (end - k)) here
-
--- a prefix of the lines of some rows is one of those of more rows
-pub AppendsPrefix-rows : (old now : Option (List ℕ)) (text : List ℕ) (o : WriteOptions) (columns : List ColumnValue) (first mid end : ℕ) → text ≡ row_lines o columns first (mid - first) → first ≤ mid → mid ≤ end
-    → AppendsPrefix old now text → AppendsPrefix old now (row_lines o columns first (end - first))
-AppendsPrefix-rows old now text o columns first mid end is up inside appended =
-    AppendsPrefix-longer old now text (row_lines o columns mid (end - mid)) (row_lines o columns first (end - first))
-    (ap (λ l. l ++ row_lines o columns mid (end - mid)) is ∙ sym (row_lines-between o columns first mid end up inside)) appended
 
 -- one share more
 pub FollowOn-push : (first mid : ℕ) (shares : List ShareValue) (share : ShareValue) → FollowOn first mid shares → share.first ≡ mid → mid ≤ share.end → FollowOn first share.end (shares ++ share ∷ [])
@@ -91,9 +85,9 @@ texts-next (share ∷ shares) (suc i) d inside =
     let behind : suc (i + 1) ≡ suc i + 1 = omega arith in
     texts-next shares i d (omega (arith, inside)) ∙ ap (λ k. (get_or shares i d).text ++ texts_of (drop k (share ∷ shares))) behind
 
--- behind the last share nothing is left
-pub texts-none : (shares : List ShareValue) (i : ℕ) → length shares ≤ i → texts_of (drop i shares) ≡ []
-texts-none [] zero past = refl
-texts-none [] (suc i) past = refl
-texts-none (share ∷ shares) zero past = absurd (omega (arith, past))
-texts-none (share ∷ shares) (suc i) past = texts-none shares i (omega (arith, past))
+-- a share that has printed nothing, behind others
+pub texts-push : (shares : List ShareValue) (share : ShareValue) → texts_of shares ≡ [] → share.text ≡ [] → texts_of (shares ++ share ∷ []) ≡ []
+texts-push shares share none here =
+    flat_map-append (λ (s : ShareValue). s.text) shares (share ∷ [])
+    ∙ ap (λ l. l ++ texts_of (share ∷ [])) none
+    ∙ ap (λ text. text ++ []) here

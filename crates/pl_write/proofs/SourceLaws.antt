@@ -3,7 +3,7 @@ use Rattle.std.proofs.Common.{◌≡◌, ℕ, ℤ, zero, suc, ◌<◌, true, fal
 use Rattle.std.specs.Option.{option_map, option_map_or}
 use Rattle.std.specs.Prelude.{Option, None, Some, IfSome, unwrap_or, slice_get}
 use Rattle.pl_frame.specs.Columns.{number_cells, text_cells}
-use Rattle.pl_frame.specs.Frame.{Scalar, Number, Letters, ColumnValue, cell_at}
+use Rattle.pl_frame.specs.Frame.{Number, Letters, ColumnValue, cell_at}
 use Rattle.pl_frame.specs.Printed.{number_text}
 use Rattle.pl_frame.specs.Text.{WriteOptions, written_cell, written_value}
 use Rattle.pl_frame.specs.Types.{Range, is_numeric, is_within}

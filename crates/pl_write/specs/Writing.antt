@@ -1,9 +1,7 @@
 -- How frames are written to a sink: by which writer, how far, and why not (docs/quoting.md).
-use Rattle.std.specs.Prelude.{◌≡◌, ℕ, ◌<◌, ◌≤◌, zero, suc, List, [], ◌∷◌, ◌++◌, length, take, Option}
+use Rattle.std.specs.Prelude.{◌≡◌, ℕ, ◌<◌, ◌≤◌, zero, suc, List, [], ◌∷◌, ◌++◌, take, Option}
 use Rattle.std.specs.Io.KnownBytes.{Appends}
-use Rattle.std.specs.List.{AllByRecursion}
 use Rattle.pl_frame.specs.Causes.{Rose}
-use Rattle.pl_frame.specs.Frame.{ColumnValue}
 use Rattle.pl_frame.specs.declared.error.ComputeFault.TheVariants as compute_fault
 use Rattle.pl_frame.specs.declared.error.OpFault.TheVariants as op_fault
 use Rattle.pl_frame.specs.declared.error.PolarsError.{PolarsError}

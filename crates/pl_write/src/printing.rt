@@ -1,6 +1,7 @@
 //! The rows of a frame, printed by several workers side by side and written in order.
-ghost use Rattle.std.specs.Prelude.{◌≡◌, ◌⊎◌, ℕ, ◌-◌, ◌<◌, ◌≤◌, false, All, length, slice_index_or, IfOk, OnOk, IsErrOf};
+ghost use Rattle.std.specs.Prelude.{◌≡◌, ◌⊎◌, ℕ, ◌-◌, ◌<◌, ◌≤◌, false, [], All, length, slice_index_or, IfOk, OnOk, IsErrOf};
 ghost use Rattle.std.specs.Bool.{OnTrue};
+ghost use Rattle.std.specs.Thread.{IsSync};
 ghost use Rattle.std.specs.Io.KnownBytes.{Appends};
 ghost use Rattle.pl_frame.specs.Causes.{Rose};
 ghost use Rattle.pl_frame.specs.Frame.{HaveHeight};
@@ -17,8 +18,8 @@ use crate::share::Share;
 use pl_frame::column::Column;
 use pl_frame::sink::{Sink, SinkFault, write_all};
 use std::alloc::{AllocError, Global};
-use std::thread;
 use std::thread::Threads;
+use std::{mem, thread};
 
 // So many batches are a share, or fewer.
 const BATCHES: usize = 8;
@@ -29,7 +30,8 @@ const CELLS: usize = 1 << 17;
 // So many shares of no rows. Refuses only want of memory.
 fn new_shares(alloc: Global, workers: usize) -> Result<Vec<Share>, AllocError>
     requires { 0 < workers }
-    ensures { IfOk result (λ shares. 0 < length shares.items) }
+    ensures some { IfOk result (λ shares. 0 < length shares.items) }
+    ensures empty { IfOk result (λ shares. texts_of shares.items ≡ []) }
 {
     let mut shares = Vec::new(alloc);
     shares.push(Share::new(alloc)?)?;
@@ -136,13 +138,46 @@ fn write_each<Si: Sink>(shares: &[Share], sink: &mut Si) -> Result<(), SinkFault
     Ok(())
 }
 
-// Prints a share of the rows from one on with each worker, so many rows each or fewer, and appends their lines to a sink in
-// order. Answers the row behind the last.
-//
-// Refuses a fault of the device, and want of memory, of a worker or in the sink. A prefix of the lines was then appended.
-fn write_round<W: Threads + Sync, Si: Sink>(
+// Gives the shares the rows from one on, so many each or fewer, and prints them side by side. Answers the row behind the last.
+// Refuses only want of memory, of a worker too.
+fn print_round<W: Threads + Sync>(
     rt: &W,
     workers: usize,
+    shares: &mut [Share],
+    columns: &[Column],
+    sources: &[CellSource<'_>],
+    options: &SerializeOptions,
+    first: usize,
+    height: usize,
+    count: usize,
+) -> Result<usize, AllocError>
+    requires workers { 0 < workers }
+    requires shares { 0 < length shares.old }
+    requires columns { HaveHeight height columns.now }
+    requires sources { HaveSources (cell_options options.now) columns.now sources.now }
+    requires first { first < height }
+    requires count { 0 < count }
+    ensures further { IfOk result (λ end. first < end) }
+    ensures inside { IfOk result (λ end. end ≤ height) }
+    ensures text { IfOk result (λ end. texts_of shares.new ≡ row_lines (cell_options options.now) columns.now first (end - first)) }
+{
+    let end = set_rows(shares, first, height, count);
+    print_each(rt, workers, shares, columns, sources, options);
+    if are_printed(shares) {
+        Ok(end)
+    } else {
+        Err(AllocError)
+    }
+}
+
+// Prints a share of the rows from one on with each worker, so many rows each or fewer, while the texts of other shares are
+// appended to a sink. Answers the row behind the last.
+//
+// Refuses a fault of the device, and want of memory, of a worker or in the sink. A prefix of those texts was then appended.
+fn print_beside<W: Threads + Sync, Si: Sink>(
+    rt: &W,
+    workers: usize,
+    ready: &[Share],
     shares: &mut [Share],
     columns: &[Column],
     sources: &[CellSource<'_>],
@@ -160,24 +195,40 @@ fn write_round<W: Threads + Sync, Si: Sink>(
     requires count { 0 < count }
     ensures further { IfOk result (λ end. first < end) }
     ensures inside { IfOk result (λ end. end ≤ height) }
-    ensures text { IfOk result (λ end. Appends (Si.received sink.old) (Si.received sink.new) (row_lines (cell_options options.now) columns.now first (end - first))) }
-    ensures prefix { AppendsPrefix (Si.received sink.old) (Si.received sink.new) (row_lines (cell_options options.now) columns.now first (height - first)) }
+    ensures next { IfOk result (λ end. texts_of shares.new ≡ row_lines (cell_options options.now) columns.now first (end - first)) }
+    ensures text { OnOk result (Appends (Si.received sink.old) (Si.received sink.new) (texts_of ready.now)) }
+    ensures prefix { AppendsPrefix (Si.received sink.old) (Si.received sink.new) (texts_of ready.now) }
     ensures later { Si.faults sink.old ≤ Si.faults sink.new }
     ensures later_wants { Si.wants sink.old ≤ Si.wants sink.new }
     ensures device { IsErrOf result SinkFault.Device → Rose (Si.faults sink.old) (Si.faults sink.new) }
 {
-    let end = set_rows(shares, first, height, count);
-    print_each(rt, workers, shares, columns, sources, options);
-    if !are_printed(shares) {
-        return Err(SinkFault::OutOfMemory);
-    }
-    match write_each(shares, sink) {
-        Ok(()) => Ok(end),
-        Err(fault) => Err(fault),
+    let mut print = ||
+        requires sync { IsSync W.row }
+        requires workers { 0 < workers }
+        requires shares { 0 < length shares.now }
+        requires columns { HaveHeight height columns.now }
+        requires sources { HaveSources (cell_options options.now) columns.now sources.now }
+        requires first { first < height }
+        requires count { 0 < count }
+        ensures further { IfOk result (λ end. first < end) }
+        ensures inside { IfOk result (λ end. end ≤ height) }
+        ensures text { IfOk result (λ end. texts_of shares.exit.now ≡ row_lines (cell_options options.entry.now) columns.entry.now first (end - first)) }
+    {
+        print_round(
+            rt, workers, shares, columns, sources, options, first, height, count,
+        )
+    };
+    let mut write = || write_each(ready, sink);
+    let (printed, written) = thread::join_mut(rt, &mut print, &mut write);
+    match (written, printed) {
+        (Ok(()), Ok(end)) => Ok(end),
+        (Ok(()), Err(_)) => Err(SinkFault::OutOfMemory),
+        (Err(fault), _) => Err(fault),
     }
 }
 
-/// Appends the lines of the rows to a sink, printed by so many workers.
+/// Appends the lines of the rows to a sink, printed by so many workers: while they print some rows, the lines of those before are
+/// appended.
 ///
 /// Refuses a fault of the device, and want of memory, here, of a worker or in the sink. A prefix of the lines was then
 /// appended.
@@ -200,28 +251,23 @@ pub(crate) fn write_by_workers<W: Threads + Sync, Si: Sink>(
     ensures later_wants { Si.wants sink.old ≤ Si.wants sink.new }
     ensures device { IsErrOf result SinkFault.Device → Rose (Si.faults sink.old) (Si.faults sink.new) }
 {
-    let Ok(mut shares) = new_shares(alloc, workers) else {
+    let Ok(mut ready) = new_shares(alloc, workers) else {
         return Err(SinkFault::OutOfMemory);
     };
-    let shares = shares.as_mut_slice();
+    let Ok(mut next) = new_shares(alloc, workers) else {
+        return Err(SinkFault::OutOfMemory);
+    };
     let mut row = 0;
     while row < height {
         let count = share_size(options.batch_size, columns.len(), height - row, workers);
-        match write_round(
-            rt,
-            workers,
-            shares,
-            columns,
-            sources,
-            &options.serialize_options,
-            row,
-            height,
-            count,
-            sink,
+        let options = &options.serialize_options;
+        match print_beside(
+            rt, workers, &ready, &mut next, columns, sources, options, row, height, count, sink,
         ) {
             Ok(end) => row = end,
             Err(fault) => return Err(fault),
         }
+        mem::swap(&mut ready, &mut next);
     }
-    Ok(())
+    write_each(&ready, sink)
 }

@@ -1,5 +1,5 @@
 //! A share of the rows of a frame, printed by one worker.
-ghost use Rattle.std.specs.Prelude.{◌≡◌, ◌-◌, ◌<◌, ◌++◌, false, length, IfOk, OnOk};
+ghost use Rattle.std.specs.Prelude.{◌≡◌, ◌-◌, ◌<◌, ◌++◌, [], false, length, IfOk, OnOk};
 ghost use Rattle.pl_frame.specs.Text.{row_lines};
 ghost use Rattle.pl_write.specs.CellSources.{HaveSources};
 ghost use Rattle.pl_write.specs.Lines.{HaveRows};
@@ -71,7 +71,9 @@ fn append_between(
 
 impl Share {
     /// A share of no rows. Refuses only want of memory.
-    pub(crate) fn new(alloc: Global) -> Result<Share, AllocError> {
+    pub(crate) fn new(alloc: Global) -> Result<Share, AllocError>
+        ensures { IfOk result (λ share. share.text ≡ []) }
+    {
         Ok(Share {
             block: Block::new(alloc),
             lines: new_lines(alloc)?,

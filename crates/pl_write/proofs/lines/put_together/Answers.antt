@@ -1,4 +1,4 @@
-use Rattle.std.proofs.Common.{◌≡◌, ◌<◌, ◌+◌, length, [], get_or, sym, subst, arith}
+use Rattle.std.proofs.Common.{◌<◌, ◌+◌, length, [], get_or, sym, subst, arith}
 use Rattle.pl_frame.specs.Frame.{ColumnValue}
 use Rattle.pl_write.specs.CellSources.{IsSourceOf}
 use Rattle.pl_write.specs.Options.{cell_options}

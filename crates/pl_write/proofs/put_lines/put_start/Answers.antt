@@ -1,5 +1,5 @@
-use Rattle.std.proofs.Common.{◌≡◌, length, take, arith}
-use Rattle.std.proofs.lemmas.List.{length-take-le, take-take}
+use Rattle.std.proofs.Common.{arith}
+use Rattle.std.proofs.lemmas.List.{length-take-le}
 use Rattle.pl_write.proofs.PutLaws.{put-first}
 use Rattle.pl_write.proofs.put_lines.put_start.Goals as goal
 

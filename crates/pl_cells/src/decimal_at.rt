@@ -30,6 +30,23 @@ fn scaled_at(upto: &[u8], from: usize, scale: usize) -> Option<u64>
     Some(number)
 }
 
+// The same with an optional minus in front. It is not put where it is called, so that the loop that calls it stays short.
+#[inline(never)]
+fn signed_at(upto: &[u8], start: usize, precision: Option<u32>, scale: u32) -> Option<i128>
+    requires { is_readable_decimal precision (Some scale) ≡ true }
+    ensures value { IfSome result (λ n. decimal_value precision scale (drop start upto.now) ≡ Some n) }
+    ensures within { IfSome result (λ n. is_within (decimal_range precision) n ≡ true) }
+    ensures front { IfSome result (λ _. begins_number (drop start upto.now) ≡ true) }
+    ensures back { IfSome result (λ _. strip (drop start upto.now) ≡ drop start upto.now) }
+{
+    if start >= upto.len() {
+        return None;
+    }
+    let (negative, from) = digits_from(upto, start);
+    let number = scaled_at(upto, from, scale as usize)?;
+    with_sign(negative, u128::from(number), limit_of(precision, scale))
+}
+
 /// The number that the bytes write times ten to the scale: an optional minus and up to sixteen digits with a point among them,
 /// behind which stand as many as the scale says, at least one on each side. Other texts are not seen.
 ///
@@ -47,10 +64,9 @@ pub(crate) fn decimal_at(
     ensures front { IfSome result (λ _. begins_number (drop start upto.now) ≡ true) }
     ensures back { IfSome result (λ _. strip (drop start upto.now) ≡ drop start upto.now) }
 {
-    if start >= upto.len() {
-        return None;
+    // Most numbers have no sign.
+    match scaled_at(upto, start, scale as usize) {
+        Some(number) => with_sign(false, u128::from(number), limit_of(precision, scale)),
+        None => signed_at(upto, start, precision, scale),
     }
-    let (negative, from) = digits_from(upto, start);
-    let number = scaled_at(upto, from, scale as usize)?;
-    with_sign(negative, u128::from(number), limit_of(precision, scale))
 }

@@ -1,7 +1,6 @@
 //! The next batches of a reader: frames of the rows that come next in what is left.
 ghost use Rattle.std.specs.Prelude.{◌≡◌, ◌<◌, ◌≤◌, ◌+◌, ◌^◌, ◌⊎◌, ℕ, false, None, Some, IfOk, OnOk, IfErr, IfSome, length, map, take, drop, slice_index_or};
 ghost use Rattle.pl_frame.specs.declared.error.PolarsError.TheVariants as error;
-ghost use Rattle.pl_rows.specs.Pieces.{plan_behind};
 ghost use Rattle.pl_rows.specs.Ranges.{IsRangeRead};
 ghost use Rattle.pl_rows.specs.Rows.{first_faulty};
 ghost use Rattle.pl_read.specs.declared.batch_parts.Part.{Part};
@@ -21,6 +20,7 @@ use pl_frame::error::{ComputeFault, PolarsError, PolarsResult};
 use pl_frame::frame::DataFrame;
 use pl_frame::schema::Schema;
 use pl_infer::read_options::CsvReadOptions;
+use pl_rows::pieces::plan_behind;
 use pl_rows::plan::RangePlan;
 use pl_rows::range::RangeEnd;
 use std::alloc::{AllocError, Global};
@@ -44,23 +44,6 @@ struct Behind<'a> {
     schema: &'a Schema,
     plan: RangePlan<'a>,
     rows: usize,
-}
-
-// A plan behind so many rows.
-fn plan_behind<'a>(plan: &RangePlan<'a>, rows: usize) -> RangePlan<'a>
-    ensures { result ≡ plan_behind plan.now rows plan.now.last }
-{
-    let limit = match plan.limit {
-        Some(limit) => Some(limit.saturating_sub(rows)),
-        None => None,
-    };
-    RangePlan {
-        dialect: plan.dialect,
-        projection: plan.projection,
-        options: plan.options,
-        limit,
-        last: plan.last,
-    }
 }
 
 impl<'b> Behind<'b> {
@@ -250,7 +233,7 @@ pub(crate) fn next_frames<W: Threads + Wait + Sync>(
         return Err(PolarsError::OutOfMemory);
     };
     let end = cut.end;
-    let plan = plan_behind(plan, rows);
+    let plan = plan_behind(plan, rows, plan.last);
     let behind = Behind {
         options,
         schema,

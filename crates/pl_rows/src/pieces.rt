@@ -114,8 +114,8 @@ pub(crate) fn read_piece<'a>(
     })
 }
 
-// How what is left is read behind so many rows.
-pub(crate) fn plan_behind<'a>(plan: &RangePlan<'a>, rows: usize, last: bool) -> RangePlan<'a>
+/// How what is left is read behind so many rows, as the last of the input or not: the limit of rows is so many lower. Takes no memory.
+pub fn plan_behind<'a>(plan: &RangePlan<'a>, rows: usize, last: bool) -> RangePlan<'a>
     ensures { result ≡ plan_behind plan.now rows last }
 {
     let limit = match plan.limit {

@@ -129,7 +129,7 @@ mark-cut o columns fits = by o.include_bom refl
 
     unmarked : o.include_bom ≡ false → starts_with nat_eq (body o columns) byte_order_mark ≡ false
     unmarked off = ap (λ (t : Bool). starts_with nat_eq (((if t then byte_order_mark else []) ++ (if o.include_header then header_line o (names_of columns) else [])) ++ row_lines o columns 0 (height_of columns)) byte_order_mark) (sym off)
-        ∙ fits.unmarked off
+        ∙ fits.start.unmarked off
 
     by : (t : Bool) → o.include_bom ≡ t
         → cut_mark (((if t then byte_order_mark else []) ++ (if o.include_header then header_line o (names_of columns) else [])) ++ row_lines o columns 0 (height_of columns)) ≡ body o columns

@@ -24,3 +24,4 @@ mod MeantLaws
 pub mod FitCellLaws
 pub mod FitRowLaws
 pub mod HeadTextLaws
+mod FitTestLaws

@@ -52,11 +52,15 @@ pub record FitsColumn (o : WriteOptions) (column : ColumnValue) : Type 0 where
 abbrev pub FitsName : WriteOptions → List ℕ → Type 0
 FitsName o name = o.style ≡ 3 → has_special o name ≡ false
 
--- A frame comes back from its text: the way of writing, each column and, where they are written, the names do; and the text does not
--- begin with the mark of a compressed stream, nor with a byte order mark, unless one was asked.
+-- a text begins neither with the mark of a compressed stream nor, unless one was asked, with a byte order mark
+pub record IsUnmarked (o : WriteOptions) (text : List ℕ) : Type 0 where
+  pub uncompressed : is_compressed text ≡ false
+  pub unmarked : o.include_bom ≡ false → starts_with nat_eq text byte_order_mark ≡ false
+
+-- A frame comes back from its text: the way of writing fits, each column and, where they are written, each name, and the text begins with
+-- no mark.
 pub record Fits (o : WriteOptions) (columns : List ColumnValue) : Type 0 where
   pub options : FitsOptions o
   pub each : AllByRecursion (FitsColumn o) columns
   pub names : o.include_header ≡ true → AllByRecursion (FitsName o) (names_of columns)
-  pub uncompressed : is_compressed (text_of_frame o columns) ≡ false
-  pub unmarked : o.include_bom ≡ false → starts_with nat_eq (text_of_frame o columns) byte_order_mark ≡ false
+  pub start : IsUnmarked o (text_of_frame o columns)

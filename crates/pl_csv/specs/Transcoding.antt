@@ -1,5 +1,5 @@
 -- An input that is read, and its frame that is written (docs/command-line.md, "Statuses").
-use Rattle.std.specs.Prelude.{◌≡◌, ◌⊎◌, ℕ, ◌<◌, Bool, not, nat_lt, List, ◌∷◌, ◌++◌, Option, Some}
+use Rattle.std.specs.Prelude.{◌≡◌, ◌⊎◌, ℕ, ◌<◌, Bool, not, nat_lt, List, ◌∷◌, ◌++◌, Option, Some, Result, Ok}
 use Rattle.std.specs.Io.KnownBytes.{Appends}
 use Rattle.pl_frame.specs.Causes.{Rose}
 use Rattle.pl_frame.specs.declared.error.PolarsError.{PolarsError}
@@ -7,11 +7,13 @@ use Rattle.pl_frame.specs.declared.error.PolarsError.TheVariants as error
 use Rattle.pl_frame.specs.declared.error.ComputeFault.TheVariants as compute_fault
 use Rattle.pl_frame.specs.Frame.{ColumnValue}
 use Rattle.pl_frame.specs.Schema.{Entry}
-use Rattle.pl_frame.specs.Text.{text_of_frame}
+use Rattle.pl_frame.specs.Text.{WriteOptions, text_of_frame}
 use Rattle.pl_infer.specs.declared.read_options.CsvReadOptions.{CsvReadOptions}
 use Rattle.pl_infer.specs.Causes.{when, IsFirstCause}
+use Rattle.pl_read.specs.CsvReader.{AnswersUnlessFailed}
 use Rattle.pl_read.specs.Options.{settled_schema}
 use Rattle.pl_read.specs.Reading.{IsRead}
+use Rattle.pl_read.specs.RoundTrip.{ComesBack}
 use Rattle.pl_read.specs.Refusals.{early_causes, late_causes}
 use Rattle.pl_write.specs.Options.{frame_options}
 use Rattle.pl_write.specs.Writing.{AppendsPrefix}
@@ -65,6 +67,15 @@ abbrev pub IsTranscodeFault : CsvReadOptions → CsvWriterOptions → List ℕ �
 IsTranscodeFault read write input before now error.IO = Rose before.faults now.faults × IsCutShort read write input before.received now.received
 IsTranscodeFault read write input before now error.OutOfMemory = (now ≡ before) ⊎ IsCutShort read write input before.received now.received
 IsTranscodeFault read write input before now fault = IsCause read (settled_schema read input) input write fault × (now ≡ before)
+
+-- ---- what is written is read again
+
+-- where the input is the text of a frame that fits the way in which it was written, and the options match, the answer is that frame, up
+-- to want of memory and a fault of the sink, whose count rose
+abbrev pub ReturnsFrame : CsvReadOptions → CsvWriterOptions → List ℕ → (result : Result (List ColumnValue) PolarsError) → (before now : ℕ) → Type 0
+ReturnsFrame read write input result before now =
+    (written : WriteOptions) (columns : List ColumnValue) → ComesBack read written columns → HasAsciiQuote write → input ≡ text_of_frame written columns
+    → AnswersUnlessFailed result (Ok columns) before now
 
 -- ---- laws
 

@@ -10,6 +10,10 @@ mod examples;
 #[cfg(test)]
 mod file_readers;
 #[cfg(test)]
+mod lost;
+#[cfg(test)]
+mod round_trip;
+#[cfg(test)]
 mod run;
 #[cfg(test)]
 mod transcode;

@@ -22,3 +22,5 @@ pub mod NextTextLaws
 pub mod NextPartLaws
 pub mod NextLaws
 pub mod NextFrameLaws
+pub mod ReturningLaws
+pub mod ComesBackLaws

@@ -15,7 +15,7 @@ use Rattle.pl_cells.specs.InitBuffers as cells
 use Rattle.pl_schema.specs.Schemas.{types_of, first_unreadable}
 
 -- none of the numbers passes
-find-range : (p : ℕ → Bool) (a n : ℕ) → ((k : ℕ) → k < n → p (a + k) ≡ false) → find p (range_with_len a n) ≡ None
+pub find-range : (p : ℕ → Bool) (a n : ℕ) → ((k : ℕ) → k < n → p (a + k) ≡ false) → find p (range_with_len a n) ≡ None
 find-range p a zero each = refl
 find-range p a (suc n) each =
     let start : a ≡ a + 0 = omega arith in

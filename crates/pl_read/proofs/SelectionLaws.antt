@@ -59,7 +59,7 @@ positive : (n : ℕ) → 0 < n → nat_lt 0 n ≡ true
 positive n h = grind (arith, nat_tests)
 
 -- where all columns are asked, all are read
-all-projected : (o : CsvReadOptions) (schema : List Entry) → projected (unprojected o) schema ≡ range_with_len 0 (length schema)
+pub all-projected : (o : CsvReadOptions) (schema : List Entry) → projected (unprojected o) schema ≡ range_with_len 0 (length schema)
 all-projected o schema =
     filter-all (λ place. nat_lt 0 (times_asked (range_with_len 0 (length schema)) place)) 0 (length schema)
     (λ k low high. positive (times_asked (range_with_len 0 (length schema)) k) (times-some k 0 (length schema) low high))
@@ -205,7 +205,7 @@ columns_at-kept h width p a (suc n) l = by (p a) (columns_at-kept h width p (a +
     by true later = ap (λ found. option_to_list found ++ columns_at (filter p (range_with_len (a + 1) n)) (map h (range_with_len 0 width))) here ∙ ap (λ l. h a ∷ l) later
     by false later = later
 
-frame-places : (rules : RowRules) (given : List Row) (schema : List Entry) (places : List ℕ) → frame_of_rows rules (entries_in schema places) given ≡ map (λ place. read_column rules given (place, entry_at schema place)) places
+pub frame-places : (rules : RowRules) (given : List Row) (schema : List Entry) (places : List ℕ) → frame_of_rows rules (entries_in schema places) given ≡ map (λ place. read_column rules given (place, entry_at schema place)) places
 frame-places rules given schema [] = refl
 frame-places rules given schema (place ∷ places) = ap (λ l. read_column rules given (place, entry_at schema place) ∷ l) (frame-places rules given schema places)
 
@@ -235,7 +235,7 @@ pub each-none : (xs : List (Option PolarsError)) → first_some xs ≡ None → 
 each-none [] none = tt
 each-none (x ∷ xs) none = (first_some-front x xs none, each-none xs (first_some-rest x xs none))
 
-none-first : (xs : List (Option PolarsError)) → AreNone xs → first_some xs ≡ None
+pub none-first : (xs : List (Option PolarsError)) → AreNone xs → first_some xs ≡ None
 none-first [] none = refl
 none-first (x ∷ xs) none = first_some-behind x xs none.0 ∙ none-first xs none.1
 

@@ -18,3 +18,4 @@ pub mod BatchJoining
 pub mod NextFrames
 pub mod RowTest
 pub mod Workers
+pub mod RoundTrip

@@ -12,6 +12,7 @@ ghost use Rattle.pl_read.specs.BytesReader.{input_of};
 ghost use Rattle.pl_read.specs.CsvReader.{Reader, IsInput, OfInput, IsUnlentFault, IsFinishFault, IsMeaning, AnswersUnlessFailed};
 ghost use Rattle.pl_read.specs.Options.{settled_schema};
 ghost use Rattle.pl_read.specs.Reading.{IsRead};
+ghost use Rattle.pl_read.specs.RoundTrip.{ReturnsFrames};
 ghost use Rattle.pl_read.specs.RowTest.{IsTested, tested};
 
 use crate::batched_reader::{BatchedCsvReader, OwnedBatchedCsvReader};
@@ -62,6 +63,10 @@ pub trait SerReader<R: MmapBytesReader> {
             → input_of (R.lent (state self.old).source) (R.left (state self.old).source) ≡ Some input
             → IsMeaning (state self.old).options input meaning
             → AnswersUnlessFailed result meaning (R.faults (state self.old).source) (R.faults (state self.new).source) }
+
+        // What is written is read again: the text of a frame that fits is answered by that frame, up to the same.
+        ensures round_trip { ReturnsFrames (state self.old).options (input_of (R.lent (state self.old).source) (R.left (state self.old).source)) result
+            (R.faults (state self.old).source) (R.faults (state self.new).source) }
 
         // A source that lends its bytes is not read.
         ensures lent { IsSome (R.lent (state self.old).source) → (state self.new).source ≡ (state self.old).source }
@@ -118,6 +123,7 @@ impl<R: MmapBytesReader> CsvReader<R> {
             → input_of (R.lent self.old.source) (R.left self.old.source) ≡ Some input
             → IsMeaning self.old.options input meaning
             → AnswersUnlessFailed result meaning (R.faults self.old.source) (R.faults self.new.source) }
+        ensures round_trip { ReturnsFrames self.old.options (input_of (R.lent self.old.source) (R.left self.old.source)) result (R.faults self.old.source) (R.faults self.new.source) }
         ensures lent { IsSome (R.lent self.old.source) → self.new.source ≡ self.old.source }
         ensures later { R.faults self.old.source ≤ R.faults self.new.source }
         ensures options { self.new.options ≡ self.old.options }

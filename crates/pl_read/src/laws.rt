@@ -1,6 +1,7 @@
 //! What holds of every input, as contracts of functions that do nothing.
 ghost use Rattle.pl_read.specs.Slices.{PartsAreTheSlice};
 ghost use Rattle.pl_read.specs.BatchJoining.{BatchesJoinToTheWholeRead};
+ghost use Rattle.pl_read.specs.RoundTrip.{FramesReturn};
 ghost use Rattle.pl_read.specs.Laws.{LimitTakesFirstRows, ProjectionSelects, LimitedReadDependsOnPrefix, SchemaIsEmptyWithoutRecord};
 
 /// However the rows are divided into files: the parts that `split_slice_at_file` tells, joined, are the slice of all rows.
@@ -33,4 +34,10 @@ pub fn schema_is_empty_without_record()
 /// and the last call gives no batch.
 pub fn batches_join_to_the_whole_read()
     ensures { BatchesJoinToTheWholeRead }
+{}
+
+/// What is written is read again: the text of a frame that fits the way in which it was written means that frame, under options that
+/// match (docs/quoting.md, "What comes back").
+pub fn frames_return()
+    ensures { FramesReturn }
 {}

@@ -24,7 +24,7 @@ module _ (o : WriteOptions) (apart : AreApart o) where
   abbrev inner : ℕ → Bool
   inner = is_inner (line_marks o) o.quote
 
-  inner-plain : (xs : List ℕ) → list_all inner xs ≡ true → list_all (is_plain_byte (line_marks o)) xs ≡ true
+  pub inner-plain : (xs : List ℕ) → list_all inner xs ≡ true → list_all (is_plain_byte (line_marks o)) xs ≡ true
   inner-plain [] h = refl
   inner-plain (x ∷ xs) h =
       rw (both_left (is_plain_byte (line_marks o) x) (not (x == o.quote)) (both_left (inner x) (list_all inner xs) h)) (inner-plain xs (both_right (inner x) (list_all inner xs) h))
@@ -33,30 +33,30 @@ module _ (o : WriteOptions) (apart : AreApart o) where
   opposite true e = cc
   opposite false e = refl
 
-  inner-begins : (xs : List ℕ) → list_all inner xs ≡ true → begins_quoted (Some o.quote) xs ≡ false
+  pub inner-begins : (xs : List ℕ) → list_all inner xs ≡ true → begins_quoted (Some o.quote) xs ≡ false
   inner-begins [] h = refl
   inner-begins (x ∷ xs) h = opposite (x == o.quote) (both_right (is_plain_byte (line_marks o) x) (not (x == o.quote)) (both_left (inner x) (list_all inner xs) h))
 
-  tail-inner : (tail : List ℕ) → IsLineTail tail → list_all inner tail ≡ true
+  pub tail-inner : (tail : List ℕ) → IsLineTail tail → list_all inner tail ≡ true
   tail-inner tail (inl none) = ap (list_all inner) none
   tail-inner tail (inr is) =
       let other : (13 == o.separator) ≡ false = grind (arith, nat_tests, apart.separator_no_return) in
       let bare : (13 == o.quote) ≡ false = grind (arith, nat_tests, apart.no_return) in
       ap (list_all inner) is ∙ ap (λ (t : Bool). (not (t || false) && not (13 == o.quote)) && true) other ∙ ap (λ (t : Bool). not t && true) bare
 
-  bare-field : (text tail : List ℕ) → list_all inner text ≡ true → IsLineTail tail → IsFieldText (line_marks o) (text ++ tail)
+  pub bare-field : (text tail : List ℕ) → list_all inner text ≡ true → IsLineTail tail → IsFieldText (line_marks o) (text ++ tail)
   bare-field text tail h ends =
       let all = all-append inner text tail h (tail-inner tail ends) in
       inr (inner-begins (text ++ tail) all, inner-plain (text ++ tail) all)
 
-  quoted-field : (text tail : List ℕ) → IsLineTail tail → IsFieldText (line_marks o) (quoted o.quote text ++ tail)
+  pub quoted-field : (text tail : List ℕ) → IsLineTail tail → IsFieldText (line_marks o) (quoted o.quote text ++ tail)
   quoted-field text tail ends = inl (o.quote, text, tail, refl, refl, tail-inner tail ends)
 
   inner-here : (x : ℕ) (xs : List ℕ) → (x == o.separator) ≡ false → (x == 10) ≡ false → (x == o.quote) ≡ false → list_all inner xs ≡ true → list_all inner (x ∷ xs) ≡ true
   inner-here x xs e f g h = rw (e, f, g) h
 
   -- a text that needs no quotes
-  needless : (xs : List ℕ) → list_any (is_special o.separator o.quote) xs ≡ false → list_all inner xs ≡ true
+  pub needless : (xs : List ℕ) → list_any (is_special o.separator o.quote) xs ≡ false → list_all inner xs ≡ true
   needless [] h = refl
   needless (x ∷ xs) h =
       let parts = neither (is_special o.separator o.quote x) (list_any (is_special o.separator o.quote) xs) h in

@@ -59,7 +59,7 @@ pub neither : (a b : Bool) → (a || b) ≡ false → (a ≡ false) × (b ≡ fa
 neither true b h = cc
 neither false b h = (refl, h)
 
-bare-lacks : (s q : ℕ) (xs : List ℕ) → list_any (is_special s q) xs ≡ false → (lacks q xs ≡ true) × (lacks 13 xs ≡ true)
+pub bare-lacks : (s q : ℕ) (xs : List ℕ) → list_any (is_special s q) xs ≡ false → (lacks q xs ≡ true) × (lacks 13 xs ≡ true)
 bare-lacks s q [] h = (lacks-none q, lacks-none 13)
 bare-lacks s q (x ∷ xs) h =
     let parts = neither (is_special s q x) (list_any (is_special s q) xs) h in
@@ -80,7 +80,7 @@ doubled-lacks q (x ∷ xs) h = let parts = lacks-first q x xs h in doubled-other
 other_end : (c x : ℕ) (xs : List ℕ) → (x == c) ≡ false → pointwise nat_eq (c ∷ []) (x ∷ xs) ≡ false
 other_end c x xs e = let turned : (c == x) ≡ false = grind (arith, nat_tests, e) in rw turned refl
 
-no_end : (c k : ℕ) (xs : List ℕ) → lacks c xs ≡ true → pointwise nat_eq (c ∷ []) (drop k xs) ≡ false
+pub no_end : (c k : ℕ) (xs : List ℕ) → lacks c xs ≡ true → pointwise nat_eq (c ∷ []) (drop k xs) ≡ false
 no_end c zero [] h = refl
 no_end c (suc k) [] h = refl
 no_end c zero (x ∷ xs) h = other_end c x xs (lacks-first c x xs h).0
@@ -148,7 +148,7 @@ quoted-field reading is_null q type value h mark other meant =
     ∙ tested-quoted reading is_null q type body value meant (inside-cell reading q type value h mark)
 
 -- a field as it is
-not_quoted : (q : ℕ) (p : List ℕ) → lacks q p ≡ true → begins_quoted (Some q) p ≡ false
+pub not_quoted : (q : ℕ) (p : List ℕ) → lacks q p ≡ true → begins_quoted (Some q) p ≡ false
 not_quoted q [] h = refl
 not_quoted q (x ∷ p) h = (lacks-first q x p h).0
 

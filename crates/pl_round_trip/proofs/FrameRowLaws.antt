@@ -11,14 +11,14 @@ use Rattle.pl_round_trip.proofs.CellTextLaws.{values-are-fields, nulls-are-field
 use Rattle.pl_round_trip.proofs.RowTextLaws.{rows-return}
 
 -- a line with a tail is the line of its texts, the last with that tail
-join-tail : (s : ℕ) (tail : List ℕ) (texts : List (List ℕ)) → 0 < length texts → join_with_byte s texts ++ tail ≡ join_with_byte s (with_tail tail texts)
+pub join-tail : (s : ℕ) (tail : List ℕ) (texts : List (List ℕ)) → 0 < length texts → join_with_byte s texts ++ tail ≡ join_with_byte s (with_tail tail texts)
 join-tail s tail [] some = absurd (omega (arith, some))
 join-tail s tail (text ∷ []) some = refl
 join-tail s tail (text ∷ next ∷ []) some = append_assoc text (s ∷ next) tail
 join-tail s tail (text ∷ next ∷ third ∷ texts) some =
     append_assoc text (s ∷ join_with_byte s (next ∷ third ∷ texts)) tail ∙ ap (λ l. text ++ (s ∷ l)) (join-tail s tail (next ∷ third ∷ texts) (omega arith))
 
-length-tail : (tail : List ℕ) (texts : List (List ℕ)) → length (with_tail tail texts) ≡ length texts
+pub length-tail : (tail : List ℕ) (texts : List (List ℕ)) → length (with_tail tail texts) ≡ length texts
 length-tail tail [] = refl
 length-tail tail (text ∷ []) = refl
 length-tail tail (text ∷ next ∷ texts) = omega (arith, length-tail tail (next ∷ texts))
@@ -39,7 +39,7 @@ module _ (o : WriteOptions) (is_null : ColumnValue → NullTest) (tail : List �
     fields-are (next ∷ columns) all.1,
   )
 
-  length-texts : (columns : List ColumnValue) → length (written_texts o columns row) ≡ length columns
+  pub length-texts : (columns : List ColumnValue) → length (written_texts o columns row) ≡ length columns
   length-texts [] = refl
   length-texts (column ∷ columns) = omega (arith, length-texts columns)
 

@@ -18,3 +18,10 @@ mod CellTextLaws
 mod RowTextLaws
 mod FrameRowLaws
 mod TailLaws
+mod StepLaws
+pub mod WrittenLaws
+mod MeantLaws
+pub mod FitCellLaws
+pub mod FitRowLaws
+pub mod HeadTextLaws
+mod FitTestLaws

@@ -1,1 +1,3 @@
 pub mod RoundTrip
+pub mod Fits
+pub mod Returning

@@ -1,5 +1,6 @@
 //! Each law is the contract of a function that does nothing.
 ghost use Rattle.pl_round_trip.specs.RoundTrip.{QuotesUndouble, QuotedReturn, BooleansReturn, TextsReturn, WholesReturn, TimesReturn, DatesReturn, DatetimesReturn, DecimalsReturn, ValuesReturn, TextCellsReturn, PrintedArePlain, FieldsReturn, NullsReturn, LinesReturn, ValuesAreFields, NullsAreFields, RowsReturn, FrameRowsReturn, TailsReturn};
+ghost use Rattle.pl_round_trip.specs.Returning.{CellsReturn, DataReturn, FittingRowsReturn};
 
 /// A text whose quotes were doubled and then undoubled is the text.
 pub fn quotes_undouble()
@@ -99,4 +100,19 @@ pub fn frame_rows_return()
 /// A carriage return behind a field that does not end with one changes nothing of its cell.
 pub fn tails_return()
     ensures { TailsReturn }
+{}
+
+/// The field of a cell that fits, a null too, is read as that cell, also at the end of a line.
+pub fn cells_return()
+    ensures { CellsReturn }
+{}
+
+/// The data of the text of a frame that fits begin behind its byte order mark and its header.
+pub fn data_return()
+    ensures { DataReturn }
+{}
+
+/// The rows of these data are the rows of the frame.
+pub fn fitting_rows_return()
+    ensures { FittingRowsReturn }
 {}

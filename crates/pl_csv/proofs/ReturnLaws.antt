@@ -1,6 +1,6 @@
 -- What is written, read again and written once more.
 use Rattle.std.proofs.Common.{◌≡◌, ℕ, List, refl, sym, ◌∙◌, ap, subst, inl, inr}
-use Rattle.std.specs.Prelude.{Result, Ok, Err, IfOk, IfErr}
+use Rattle.std.specs.Prelude.{Result, Ok, Err, IsErr, IfErr}
 use Rattle.pl_frame.specs.Causes.{Rose}
 use Rattle.pl_frame.specs.declared.error.PolarsError.{PolarsError}
 use Rattle.pl_frame.specs.declared.error.PolarsError.TheVariants as error
@@ -45,3 +45,8 @@ fault_returned read write input before now fault wrong written columns back smal
     by (error.OutOfBounds index length) own wrong = absurd (no_cause read (settled_schema read input) input write columns (error.OutOfBounds index length) own wrong.0)
     by (error.Duplicate name at) own wrong = absurd (no_cause read (settled_schema read input) input write columns (error.Duplicate name at) own wrong.0)
     by error.EmptyProjection own wrong = absurd (no_cause read (settled_schema read input) input write columns error.EmptyProjection own wrong.0)
+
+pub err_returned : (read : CsvReadOptions) (write : CsvWriterOptions) (input : List ℕ) (before now : SinkView) (result : Result (List ColumnValue) PolarsError) → IsErr result
+    → IfErr result (IsTranscodeFault read write input before now) → ReturnsFrame read write input result before.faults now.faults
+err_returned read write input before now (Ok frame) failed wrong written columns back small is = let no = failed in cc
+err_returned read write input before now (Err fault) failed wrong written columns back small is = fault_returned read write input before now fault wrong written columns back small is

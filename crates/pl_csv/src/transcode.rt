@@ -1,7 +1,7 @@
 //! From the bytes of an input to the text of its frame.
 ghost use Rattle.std.specs.Prelude.{◌≡◌, ◌≤◌, IfOk, OnOk, IfErr, MatchResult};
 ghost use Rattle.pl_read.specs.Options.{settled_schema};
-ghost use Rattle.pl_csv.specs.Transcoding.{IsValidRead, IsUnread, IsTranscoded, IsTranscodeFault};
+ghost use Rattle.pl_csv.specs.Transcoding.{IsValidRead, IsUnread, IsTranscoded, IsTranscodeFault, ReturnsFrame};
 ghost use Rattle.pl_csv.specs.Views.{sink_view};
 
 use pl_frame::error::{ComputeFault, PolarsError, PolarsResult};
@@ -46,6 +46,9 @@ fn read_valid<W: Threads + Wait + Sync>(
 /// Refuses, before any byte is written, the first cause against the frame (docs/refusals.md), a quote for the output that is
 /// not ASCII standing behind wrong options and before a compressed input. Refuses a fault of the sink (`IO`), which then
 /// received a prefix of the text; and want of memory, with such a prefix or nothing received.
+///
+/// Where the input is the text of a frame that fits the way in which it was written, and the options match, the answer is that frame
+/// (docs/quoting.md, "What comes back"), up to want of memory and a fault of the sink.
 #[tactic(auto, using(crate::proofs::TranscodeLaws::fault_unread))]
 pub fn transcode<W: Threads + Wait + Sync, S: Sink>(
     rt: &W,
@@ -59,6 +62,7 @@ pub fn transcode<W: Threads + Wait + Sync, S: Sink>(
     ensures refused { IfErr result (IsTranscodeFault read.now write.now input.now
         (sink_view (S.received sink.old) (S.faults sink.old) (S.wants sink.old))
         (sink_view (S.received sink.new) (S.faults sink.new) (S.wants sink.new))) }
+    ensures round_trip { ReturnsFrame read.now write.now input.now result (S.faults sink.old) (S.faults sink.new) }
     ensures later { S.faults sink.old ≤ S.faults sink.new }
     ensures later_wants { S.wants sink.old ≤ S.wants sink.new }
 {

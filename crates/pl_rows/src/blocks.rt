@@ -15,14 +15,8 @@ use pl_cells::buffer::Buffer;
 use pl_table::table::Table;
 use std::alloc::Global;
 
-// So many bytes are cut at a time, or more where there are many columns.
+// So many bytes are cut at a time.
 const BLOCK: usize = 1 << 16;
-
-// So many for each column, so that a column has some cells in a block each time that its buffer is touched.
-const COLUMN: usize = 1 << 8;
-
-// No more are cut at a time, so that a block stays near while its columns are read.
-const WIDE: usize = 1 << 18;
 
 // Twice as many are cut where a record has more, but no more than twice these.
 const LONGEST: usize = 1 << 28;
@@ -185,13 +179,6 @@ fn read_block(
     }
 }
 
-// How many bytes are cut at a time where records have so many columns.
-fn block_size(columns: usize) -> usize
-    ensures { result ≤ 2 ^ 29 }
-{
-    columns.saturating_mul(COLUMN).clamp(BLOCK, WIDE)
-}
-
 /// Reads rows of a range into the buffers, a block at a time, as long as none has a fault: those up to its last line end, where
 /// nothing is in the way. A range with comments is left as it is.
 pub(crate) fn read_blocks<'a>(
@@ -211,7 +198,7 @@ pub(crate) fn read_blocks<'a>(
         return at;
     }
     let mut table = Table::new(alloc);
-    let mut longest = block_size(plan.projection.width);
+    let mut longest = BLOCK;
     for _ in 0..usize::MAX {
         if !is_below(plan.limit, at.row) {
             break;

@@ -1,6 +1,7 @@
 pub mod CountingLaws
 pub mod DueLaws
 pub mod FaultLaws
+pub mod MatchingLaws
 pub mod OutcomeLaws
 pub mod ReturnLaws
 pub mod RunLaws

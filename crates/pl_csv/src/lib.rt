@@ -4,6 +4,7 @@
 pub mod adapters;
 pub mod counting;
 pub mod laws;
+pub mod matching;
 pub mod read_all;
 pub mod run;
 mod telling;

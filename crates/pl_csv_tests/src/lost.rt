@@ -139,7 +139,15 @@ fn types_and_beginnings_that_do_not_fit(rt: HostRuntime) {
     assert!(rt; gives(&rt, alloc, late, &usual, "value"));
     let nulls = Column::nulls(name(&rt, alloc, "c"), 1).expect(&rt, "a column");
     assert!(rt; gives(&rt, alloc, nulls, &usual, "type"));
-    assert!(rt; gives(&rt, alloc, whole(&rt, alloc, "x\u{1}", 1), &usual, "compressed"));
+    assert!(rt;
+        gives(
+            &rt,
+            alloc,
+            whole(&rt, alloc, "x\u{1}", 1),
+            &usual,
+            "compressed"
+        )
+    );
     let mut write = null_as(&rt, alloc, "");
     write.include_header = false;
     let marked = texts(&rt, alloc, "c", &[Some("\u{feff}a")]);

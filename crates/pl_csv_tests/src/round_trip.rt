@@ -3,16 +3,14 @@ ghost use Rattle.std.specs.Prelude.{◌≡◌, true};
 ghost use Rattle.pl_frame.specs.Columns.{is_number};
 ghost use Rattle.pl_frame.specs.Types.{is_readable};
 
-use pl_cells::null_values::NullValues;
+use pl_csv::matching::matching_options;
 use pl_frame::column::Column;
 use pl_frame::data_type::DataType;
 use pl_frame::error::PolarsResult;
 use pl_frame::frame::DataFrame;
 use pl_frame::name::PlSmallStr;
-use pl_frame::schema::Schema;
 use pl_frame::sink::MemSink;
 use pl_frame::source::MemSource;
-use pl_infer::parse_options::CsvParseOptions;
 use pl_infer::read_options::CsvReadOptions;
 use pl_read::csv_reader::{CsvReader, SerReader};
 use pl_round_trip::fits::fits;
@@ -82,15 +80,6 @@ pub fn text_of<W: Abort + Threads + Wait + Sync>(
     sink
 }
 
-// The null text alone means null, where it is not empty.
-fn null_values(rt: &impl Abort, null: &PlSmallStr) -> Option<NullValues> {
-    if null.as_str().is_empty() {
-        return None;
-    }
-    let null = null.try_clone().expect(rt, "a text");
-    Some(NullValues::AllColumnsSingle(null))
-}
-
 // Options that match the way in which a frame is written.
 pub fn matching(
     rt: &impl Abort,
@@ -98,21 +87,7 @@ pub fn matching(
     frame: &DataFrame,
     write: &CsvWriterOptions,
 ) -> CsvReadOptions {
-    let mut schema = Schema::new(alloc);
-    for column in frame.columns() {
-        let dtype = column.dtype().try_clone().expect(rt, "a type");
-        let added = schema.with_column(name(rt, alloc, column.name()), dtype);
-        added.expect(rt, "a column");
-    }
-    let cells = &write.serialize_options;
-    let parse = CsvParseOptions::new()
-        .with_separator(cells.separator)
-        .with_quote_char(Some(cells.quote_char))
-        .with_null_values(null_values(rt, &cells.null));
-    CsvReadOptions::new(alloc)
-        .with_schema(Some(schema))
-        .with_has_header(write.include_header)
-        .with_parse_options(parse)
+    matching_options(alloc, frame, write).expect(rt, "options")
 }
 
 // What is read back of a text.

@@ -195,16 +195,37 @@ module _ (read : CsvReadOptions) (write : WriteOptions) (columns : List ColumnVa
           ap (λ (t : Bool). when t (error.InvalidOperation op_fault.Option)) (options-right workers piece),
           (
             ap (λ (t : Bool). when t (error.ComputeError compute_fault.Compressed)) fits.start.uncompressed,
-            (refl, (refl, (few-overrides, (can-read, (known, (
-                ap (λ (d : Option (List ℕ)). when (is_none d) (error.NoData no_data.Skip)) data-is,
-                (within, (once, (
-                    ap (option_and_then (nothing_read o schema)) data-is ∙ some-read,
+            (
+              refl,
+              (
+                refl,
+                (
+                  few-overrides,
+                  (
+                    can-read,
                     (
-                      ap (option_and_then (faulty_record o schema)) data-is ∙ sound,
-                      (ap (option_and_then (λ records. index_past o.row_index (length (rows_in o records)) (data_columns o schema records))) data-is ∙ numbered, tt),
+                      known,
+                      (
+                        ap (λ (d : Option (List ℕ)). when (is_none d) (error.NoData no_data.Skip)) data-is,
+                        (
+                          within,
+                          (
+                            once,
+                            (
+                              ap (option_and_then (nothing_read o schema)) data-is ∙ some-read,
+                              (
+                                ap (option_and_then (faulty_record o schema)) data-is ∙ sound,
+                                (ap (option_and_then (λ records. index_past o.row_index (length (rows_in o records)) (data_columns o schema records))) data-is ∙ numbered, tt),
+                              ),
+                            ),
+                          ),
+                        ),
+                      ),
                     ),
-                ))),
-            )))))),
+                  ),
+                ),
+              ),
+            ),
           ),
         ),
       )

@@ -1,0 +1,71 @@
+//! The options under which a frame that is written is read again.
+ghost use Rattle.std.specs.Prelude.{◌≡◌, IfOk, IsOkUnless};
+ghost use Rattle.pl_frame.specs.Frame.{IsFrame};
+ghost use Rattle.pl_frame.specs.FrameParts.{schema_of};
+ghost use Rattle.pl_frame.specs.declared.error.PolarsError.TheVariants as error;
+ghost use Rattle.pl_read.specs.RoundTrip.{null_values_of, Matches};
+ghost use Rattle.pl_write.specs.Options.{frame_options};
+
+use pl_cells::null_values::NullValues;
+use pl_frame::column::Column;
+use pl_frame::error::PolarsResult;
+use pl_frame::frame::DataFrame;
+use pl_frame::name::PlSmallStr;
+use pl_frame::schema::Schema;
+use pl_infer::parse_options::CsvParseOptions;
+use pl_infer::read_options::CsvReadOptions;
+use pl_write::options::CsvWriterOptions;
+use std::alloc::Global;
+
+// The names and types of columns. Refuses only want of memory.
+fn schema_of(alloc: Global, columns: &[Column]) -> PolarsResult<Schema>
+    requires { IsFrame columns.now }
+    ensures schema { IfOk result (λ schema. schema ≡ schema_of columns.now) }
+    ensures refused { IsOkUnless result error.OutOfMemory }
+{
+    let mut schema = Schema::new(alloc);
+    for column in columns {
+        let name = PlSmallStr::from_str(alloc, column.name())?;
+        let dtype = column.dtype().try_clone()?;
+        schema.with_column(name, dtype)?;
+    }
+    Ok(schema)
+}
+
+// The null text alone means null, where it is not empty. Refuses only want of memory.
+fn null_values_of(null: &PlSmallStr) -> PolarsResult<Option<NullValues>>
+    ensures values { IfOk result (λ values. values ≡ null_values_of null.now) }
+    ensures refused { IsOkUnless result error.OutOfMemory }
+{
+    if null.as_str().is_empty() {
+        return Ok(None);
+    }
+    let null = null.try_clone()?;
+    Ok(Some(NullValues::AllColumnsSingle(null)))
+}
+
+/// Options under which the text of a frame is read as that frame, where it fits the way in which it is written, as `fits` of
+/// `pl_round_trip` tells (docs/quoting.md, "What comes back"). What they do not have to set is as by default. Refuses only want of
+/// memory.
+pub fn matching_options(
+    alloc: Global,
+    frame: &DataFrame,
+    write: &CsvWriterOptions,
+) -> PolarsResult<CsvReadOptions>
+    ensures matches { IfOk result (λ read. Matches read (frame_options write.now) frame.now) }
+    ensures refused { IsOkUnless result error.OutOfMemory }
+{
+    let cells = &write.serialize_options;
+    let null_values = null_values_of(&cells.null)?;
+    let schema = schema_of(alloc, frame.columns())?;
+    let parse_options = CsvParseOptions::new()
+        .with_separator(cells.separator)
+        .with_quote_char(Some(cells.quote_char))
+        .with_null_values(null_values);
+    Ok(
+        CsvReadOptions::new(alloc)
+            .with_schema(Some(schema))
+            .with_has_header(write.include_header)
+            .with_parse_options(parse_options),
+    )
+}

@@ -10,6 +10,8 @@ mod examples;
 #[cfg(test)]
 mod file_readers;
 #[cfg(test)]
+mod make_input;
+#[cfg(test)]
 mod run;
 #[cfg(test)]
 mod transcode;

@@ -26,7 +26,8 @@ _pl_csv() {
     # Values of the user's own.
     --schema | --overwrite | --dtypes | --sep | --eol | --comment | --skip-lines | --skip-rows | \
         --skip-after | --limit | --columns | --projection | --row-index | --row-offset | --workers | \
-        --piece | --null | --nulls | --null-of | --out-sep | --out-quote | --out-null | --batch) ;;
+        --piece | --null | --nulls | --null-of | --out-sep | --out-quote | --out-null | --batch | \
+        --make) ;;
     *)
         [[ $prefix || $before == = ]] && return
         # No name stands twice.
@@ -36,7 +37,7 @@ _pl_csv() {
             --skip-lines --skip-rows --skip-after --limit --columns --projection --row-index
             --row-offset --workers --piece --no-header --null --nulls --null-of --lossy
             --keep-missing --truncate --ignore-errors --out-sep --out-quote --out-null --out-eol
-            --style --out-no-header --out-bom --batch
+            --style --out-no-header --out-bom --batch --make
         )
         ;;
     esac

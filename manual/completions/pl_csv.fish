@@ -37,3 +37,4 @@ complete -c pl_csv -l style -x -a 'necessary always nonnumeric never' -d 'when a
 complete -c pl_csv -l out-no-header -d 'the line of the names is left out'
 complete -c pl_csv -l out-bom -d 'a byte order mark stands in front'
 complete -c pl_csv -l batch -x -d 'how many rows are a batch, 0 counting as 1; the output is the same whatever the number'
+complete -c pl_csv -l make -x -d 'an input of so many rows, up to 1000000, is made and converted, and one line tells its size; beside it only --workers and --piece may stand'

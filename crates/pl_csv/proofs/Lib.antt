@@ -1,6 +1,10 @@
 pub mod CountingLaws
 pub mod DueLaws
 pub mod FaultLaws
+pub mod MadeCellLaws
+pub mod MadeInputLaws
+pub mod MadeReadLaws
+pub mod MakingLaws
 pub mod MatchingLaws
 pub mod OutcomeLaws
 pub mod ReturnLaws

@@ -1,5 +1,7 @@
 pub mod Views
 pub mod Transcoding
 pub mod Telling
+pub mod MadeInput
+pub mod Making
 pub mod Run
 pub mod Counting

@@ -1,25 +1,39 @@
 -- What a run has done, by its status (docs/command-line.md).
-use Rattle.std.specs.Prelude.{◌≡◌, ℕ, ◌^◌, ◌<◌, ◌≤◌, ◌⊎◌, List, length, Option, None, Some, IsSome}
+use Rattle.std.specs.Prelude.{◌≡◌, ℕ, ◌^◌, ◌<◌, ◌≤◌, ◌⊎◌, List, length, Option, None, Some}
 use Rattle.std.specs.Io.KnownBytes.{Consumes, IsAtEnd}
 use Rattle.pl_frame.specs.Came.{Came}
 use Rattle.pl_frame.specs.Causes.{Rose}
 use Rattle.pl_frame.specs.Frame.{ColumnValue}
 use Rattle.pl_frame.specs.declared.error.PolarsError.{PolarsError}
 use Rattle.pl_frame.specs.declared.error.PolarsError.TheVariants as error
+use Rattle.pl_frame.specs.declared.error.OpFault.TheVariants as op_fault
 use Rattle.pl_read.specs.Options.{settled_schema}
-use Rattle.pl_words.specs.declared.conversion.Conversion.{Conversion}
-use Rattle.pl_words.specs.Words.{conversion_of_words}
+use Rattle.pl_words.specs.declared.job.Job.TheVariants as job
+use Rattle.pl_words.specs.Words.{Conversion, converting, job_of_words}
+use Rattle.pl_csv.specs.Making.{IsMade, IsMadePart, IsZero, making_status}
 use Rattle.pl_csv.specs.declared.run.Refusal.{Refusal}
 use Rattle.pl_csv.specs.declared.run.Refusal.TheVariants as refusal
+use Rattle.pl_csv.specs.declared.run.Work.{Work}
+use Rattle.pl_csv.specs.declared.run.Work.TheVariants as work
 use Rattle.pl_csv.specs.Telling.{status_of, status_of_fault, fault_line, IsTold}
 use Rattle.pl_csv.specs.Transcoding.{IsValidRead, IsCause, IsTranscoded, IsCutShort}
 use Rattle.pl_csv.specs.Views.{SourceView, SinkView, Views}
+
+-- ---- what the words mean
+
+-- a conversion
+abbrev pub Converts : List (List ℕ) → Type 0
+Converts words = (conversion : Conversion) × (job_of_words words ≡ Some (converting conversion))
+
+-- a making job of so many rows, by so many workers in pieces of so many bytes
+abbrev pub Makes : List (List ℕ) → ℕ → ℕ → ℕ → Type 0
+Makes words rows workers piece = job_of_words words ≡ Some (job.Make rows workers piece)
 
 -- ---- what was read and written
 
 -- the words mean a conversion, and the source gave this input of at most 2 ^ 36 bytes and was read to its end
 pub record HasRead (words : List (List ℕ)) (before now : Option (List ℕ)) (conversion : Conversion) (input : List ℕ) : Type 0 where
-  pub meaning : conversion_of_words words ≡ Some conversion
+  pub meaning : job_of_words words ≡ Some (converting conversion)
   pub came : Consumes before now input
   pub end : IsAtEnd now
   pub within : length input ≤ 2 ^ 36
@@ -46,6 +60,31 @@ pub record HasCause (words : List (List ℕ)) (left left_now : Option (List ℕ)
   pub read : HasRead words left left_now conversion input
   pub is : IsCause conversion.read (settled_schema conversion.read input) input conversion.write first
 
+-- The words mean a making job, and the sink received exactly its summary line.
+pub record Made (words : List (List ℕ)) (received received_now : Option (List ℕ)) : Type 0 where
+  pub rows : ℕ
+  pub workers : ℕ
+  pub piece : ℕ
+  pub meaning : Makes words rows workers piece
+  pub is : IsMade rows workers piece received received_now
+
+-- the words mean a making job, and the sink received a prefix of its summary line
+pub record MadePart (words : List (List ℕ)) (received received_now : Option (List ℕ)) : Type 0 where
+  pub rows : ℕ
+  pub workers : ℕ
+  pub piece : ℕ
+  pub meaning : Makes words rows workers piece
+  pub is : IsMadePart rows workers piece received received_now
+
+-- the words mean a making job without workers or in pieces of no bytes, and this is the refusal of a wrong option
+pub record HasWrongOption (words : List (List ℕ)) (first : PolarsError) : Type 0 where
+  pub rows : ℕ
+  pub workers : ℕ
+  pub piece : ℕ
+  pub meaning : Makes words rows workers piece
+  pub zero : IsZero workers piece
+  pub is : first ≡ error.InvalidOperation op_fault.Option
+
 -- more than 2 ^ 36 bytes came
 abbrev pub IsTooLong : Option (List ℕ) → Option (List ℕ) → Type 0
 IsTooLong left left_now = Came left left_now (λ bytes. 2 ^ 36 < length bytes)
@@ -56,15 +95,21 @@ HasFailed before now = Rose before.faults now.faults × Came before.left now.lef
 
 -- ---- refusals
 
+-- part of the text of a conversion, or of the line of a making job, was written
+abbrev pub PartWritten : List (List ℕ) → Views → Views → Type 0
+PartWritten words before now =
+    ConvertedPart words before.source.left now.source.left before.out.received now.out.received
+    ⊎ MadePart words before.out.received now.out.received
+
 -- The cause of a refusal, and what then came of source and sink: words without a meaning leave both as they were, and only a
 -- fault of the sink and want of memory may leave part of the text in the sink.
 abbrev pub IsRefused : List (List ℕ) → Views → Views → Refusal → Type 0
-IsRefused words before now refusal.Words = (conversion_of_words words ≡ None) × (now ≡ before)
-IsRefused words before now refusal.Source = IsSome (conversion_of_words words) × HasFailed before.source now.source × (now.out ≡ before.out)
-IsRefused words before now refusal.TooLong = IsSome (conversion_of_words words) × IsTooLong before.source.left now.source.left × (now.out ≡ before.out)
-IsRefused words before now (refusal.Polars error.IO) = Rose before.out.faults now.out.faults × ConvertedPart words before.source.left now.source.left before.out.received now.out.received
-IsRefused words before now (refusal.Polars error.OutOfMemory) = (now.out ≡ before.out) ⊎ ConvertedPart words before.source.left now.source.left before.out.received now.out.received
-IsRefused words before now (refusal.Polars first) = HasCause words before.source.left now.source.left first × (now.out ≡ before.out)
+IsRefused words before now refusal.Words = (job_of_words words ≡ None) × (now ≡ before)
+IsRefused words before now refusal.Source = Converts words × HasFailed before.source now.source × (now.out ≡ before.out)
+IsRefused words before now refusal.TooLong = Converts words × IsTooLong before.source.left now.source.left × (now.out ≡ before.out)
+IsRefused words before now (refusal.Polars error.IO) = Rose before.out.faults now.out.faults × PartWritten words before now
+IsRefused words before now (refusal.Polars error.OutOfMemory) = (now.out ≡ before.out) ⊎ PartWritten words before now
+IsRefused words before now (refusal.Polars first) = (HasCause words before.source.left now.source.left first ⊎ HasWrongOption words first) × (now.out ≡ before.out)
 
 -- a refusal with this status holds, and its fault line was told
 pub record IsRefusedWith (words : List (List ℕ)) (before now : Views) (err err_now : SinkView) (status : ℕ) : Type 0 where
@@ -73,19 +118,29 @@ pub record IsRefusedWith (words : List (List ℕ)) (before now : Views) (err err
   pub holds : IsRefused words before now given
   pub told : IsTold (fault_line given) err err_now
 
--- why no input was read
-abbrev pub IsNotRead : List (List ℕ) → SourceView → SourceView → Refusal → Type 0
-IsNotRead words before now refusal.Words = (conversion_of_words words ≡ None) × (now ≡ before)
-IsNotRead words before now refusal.Source = IsSome (conversion_of_words words) × HasFailed before now
-IsNotRead words before now refusal.TooLong = IsSome (conversion_of_words words) × IsTooLong before.left now.left
-IsNotRead words before now (refusal.Polars fault) = fault ≡ error.OutOfMemory
+-- what is to be done: the words mean a conversion of the input that the source gave, or a making job, for which nothing was read
+abbrev pub IsWork : List (List ℕ) → Option (List ℕ) → Option (List ℕ) → Work → Type 0
+IsWork words left left_now (work.Convert conversion input) = HasRead words left left_now (record { read = conversion.read; write = conversion.write }) input.items
+IsWork words left left_now (work.Make rows workers piece) = Makes words rows workers piece
+
+-- it has at most 1000000 rows
+abbrev pub HasFewRows : Work → Type 0
+HasFewRows (work.Make rows workers piece) = rows ≤ 1000000
+HasFewRows _ = Unit {0}
+
+-- why there is nothing to do
+abbrev pub IsNoWork : List (List ℕ) → SourceView → SourceView → Refusal → Type 0
+IsNoWork words before now refusal.Words = (job_of_words words ≡ None) × (now ≡ before)
+IsNoWork words before now refusal.Source = Converts words × HasFailed before now
+IsNoWork words before now refusal.TooLong = Converts words × IsTooLong before.left now.left
+IsNoWork words before now (refusal.Polars fault) = fault ≡ error.OutOfMemory
 
 -- ---- the status
 
 -- the words mean a conversion by which an input of at most 2 ^ 36 bytes has a reference read, which can be written
 pub record IsValid (words : List (List ℕ)) (input : List ℕ) : Type 0 where
   pub conversion : Conversion
-  pub meaning : conversion_of_words words ≡ Some conversion
+  pub meaning : job_of_words words ≡ Some (converting conversion)
   pub within : length input ≤ 2 ^ 36
   pub frame : List ColumnValue
   pub read : IsValidRead conversion.read (settled_schema conversion.read input) input conversion.write frame
@@ -94,18 +149,28 @@ pub record IsValid (words : List (List ℕ)) (input : List ℕ) : Type 0 where
 -- this cause
 pub record IsInvalid (words : List (List ℕ)) (input : List ℕ) (first : PolarsError) : Type 0 where
   pub conversion : Conversion
-  pub meaning : conversion_of_words words ≡ Some conversion
+  pub meaning : job_of_words words ≡ Some (converting conversion)
   pub within : length input ≤ 2 ^ 36
   pub is : IsCause conversion.read (settled_schema conversion.read input) input conversion.write first
 
+-- the words mean a making job to which this status is due, whatever the input
+pub record IsDueMade (words : List (List ℕ)) (status : ℕ) : Type 0 where
+  pub rows : ℕ
+  pub workers : ℕ
+  pub piece : ℕ
+  pub meaning : Makes words rows workers piece
+  pub is : status ≡ making_status workers piece
+
 -- The status that is due to words and a whole input: 2 where the words have no meaning, 6 where the input is too long,
--- 0 where it has a reference read that can be written, and else that of the first cause for which it has none.
+-- 0 where it has a reference read that can be written, and else that of the first cause for which it has none; and that of a
+-- making job.
 abbrev pub IsDue : List (List ℕ) → List ℕ → ℕ → Type 0
 IsDue words input status =
-    ((conversion_of_words words ≡ None) × (status ≡ 2))
-    ⊎ (IsSome (conversion_of_words words) × (2 ^ 36 < length input) × (status ≡ 6))
+    ((job_of_words words ≡ None) × (status ≡ 2))
+    ⊎ (Converts words × (2 ^ 36 < length input) × (status ≡ 6))
     ⊎ (IsValid words input × (status ≡ 0))
     ⊎ ((first : PolarsError) × IsInvalid words input first × (status ≡ status_of_fault first))
+    ⊎ IsDueMade words status
 
 -- the status that is due, or want of memory, or a fault of the source, or of the sink where a text is due; of the two only
 -- one whose count rose
@@ -115,6 +180,11 @@ EndsAsDue due status before now =
     ⊎ (status ≡ 5)
     ⊎ ((status ≡ 3) × HasFailed before.source now.source)
     ⊎ ((status ≡ 4) × (due ≡ 0) × Rose before.out.faults now.out.faults)
+
+-- the status that is due to a making job, or want of memory, or a fault of the sink, whose count rose, where a line is due
+abbrev pub EndsAsMade : ℕ → ℕ → ℕ → ℕ → ℕ → Type 0
+EndsAsMade workers piece status faults faults_now =
+    (status ≡ making_status workers piece) ⊎ (status ≡ 5) ⊎ ((status ≡ 4) × (making_status workers piece ≡ 0) × Rose faults faults_now)
 
 -- words and an input have one status that is due
 abbrev pub HasOneDue : List (List ℕ) → List ℕ → Type 0

@@ -2,8 +2,11 @@
 #![tactic(auto)]
 
 pub mod adapters;
+mod conversion;
 pub mod counting;
 pub mod laws;
+pub mod make_input;
+mod making;
 pub mod matching;
 pub mod read_all;
 pub mod run;

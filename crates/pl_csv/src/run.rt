@@ -1,21 +1,36 @@
 //! The top call: CSV from a source to a sink, by the words of a command line.
 ghost use Rattle.std.specs.Prelude.{◌≡◌, ◌≢◌, ◌≤◌, ◌⊎◌, ℕ, List, map, string_bytes, IfOk, IfErr, OnOk, None, Some};
-ghost use Rattle.pl_words.specs.Words.{conversion_of_words};
-ghost use Rattle.pl_csv.specs.Run.{HasRead, IsNotRead, Converted, IsRefused, IsRefusedWith, IsDue, EndsAsDue};
+ghost use Rattle.pl_words.specs.Words.{job_of_words};
+ghost use Rattle.pl_csv.specs.Run.{Makes, IsWork, HasFewRows, IsNoWork, Converted, Made, IsRefused, IsRefusedWith, IsDue, EndsAsDue, EndsAsMade};
 ghost use Rattle.pl_csv.specs.Telling.{status_of, status_of_fault};
 ghost use Rattle.pl_csv.specs.Views.{source_view, sink_view, views};
 
+use crate::conversion::Conversion;
+use crate::making::make;
 use crate::read_all::{LIMIT, ReadAllFault, read_all};
 use crate::telling::tell_refusal;
 use crate::transcode::transcode;
 use pl_frame::error::{ComputeFault, NamePlace, NoDataFault, OpFault, PolarsError};
 use pl_frame::sink::Sink;
 use pl_frame::source::Source;
-use pl_words::conversion::Conversion;
+use pl_words::job::Job;
 use pl_words::words::{WordsFault, parse_words};
 use std::alloc::Global;
 use std::sync::Wait;
 use std::thread::Threads;
+
+// What a run is to do.
+#[derive(Drop)]
+enum Work {
+    // This input is converted.
+    Convert(Conversion, Vec<u8>),
+    // An input of so many rows is made.
+    Make {
+        rows: u64,
+        workers: usize,
+        piece: usize,
+    },
+}
 
 /// Why a run ends with a status other than 0.
 #[derive(Debug, Drop)]
@@ -76,54 +91,78 @@ impl Refusal {
     }
 }
 
-// What the words mean, and the input that the source gives.
-fn read_input<So: Source>(
-    alloc: Global,
-    words: &[String],
-    source: &mut So,
-) -> Result<(Conversion, Vec<u8>), Refusal>
-    ensures read { IfOk result (λ read. HasRead (map string_bytes words.now) (So.left source.old) (So.left source.new) read.0 read.1.items) }
-    ensures refused { IfErr result (IsNotRead (map string_bytes words.now) (source_view (So.left source.old) (So.faults source.old)) (source_view (So.left source.new) (So.faults source.new))) }
+// What is to be done: what the words mean, and for a conversion the input that the source gives.
+fn read_work<So: Source>(alloc: Global, words: &[String], source: &mut So) -> Result<Work, Refusal>
+    ensures work { IfOk result (IsWork (map string_bytes words.now) (So.left source.old) (So.left source.new)) }
+    ensures few { IfOk result HasFewRows }
+    ensures refused { IfErr result (IsNoWork (map string_bytes words.now) (source_view (So.left source.old) (So.faults source.old)) (source_view (So.left source.new) (So.faults source.new))) }
+    ensures unread { (rows workers piece : ℕ) → Makes (map string_bytes words.now) rows workers piece → source.new ≡ source.old }
     ensures later { So.faults source.old ≤ So.faults source.new }
 {
     let conversion = match parse_words(alloc, words) {
-        Ok(conversion) => conversion,
+        Ok(Job::Convert(read, write)) => Conversion { read, write },
+        Ok(
+            Job::Make {
+                rows,
+                workers,
+                piece,
+            },
+        ) => return Ok(Work::Make {
+            rows,
+            workers,
+            piece,
+        }),
         Err(WordsFault::Words) => return Err(Refusal::Words),
         Err(WordsFault::OutOfMemory) => return Err(Refusal::Polars(PolarsError::OutOfMemory)),
     };
     match read_all(alloc, source, LIMIT) {
-        Ok(input) => Ok((conversion, input)),
+        Ok(input) => Ok(Work::Convert(conversion, input)),
         Err(ReadAllFault::Source) => Err(Refusal::Source),
         Err(ReadAllFault::TooLong) => Err(Refusal::TooLong),
         Err(ReadAllFault::OutOfMemory) => Err(Refusal::Polars(PolarsError::OutOfMemory)),
     }
 }
 
-// Reads the source and writes the text of its frame to the sink.
-fn convert<W: Threads + Wait + Sync, So: Source, Si: Sink>(
+// Writes the text of the frame of the source, or the summary line of a made input, to the sink.
+fn do_work<W: Threads + Wait + Sync, So: Source, Si: Sink>(
     rt: &W,
     alloc: Global,
     words: &[String],
     source: &mut So,
     out: &mut Si,
 ) -> Result<(), Refusal>
-    ensures converted { OnOk result (Converted (map string_bytes words.now) (So.left source.old) (So.left source.new) (Si.received out.old) (Si.received out.new)) }
+    ensures done { OnOk result (Converted (map string_bytes words.now) (So.left source.old) (So.left source.new) (Si.received out.old) (Si.received out.new)
+        ⊎ Made (map string_bytes words.now) (Si.received out.old) (Si.received out.new)) }
     ensures refused { IfErr result (IsRefused (map string_bytes words.now)
         (views (So.left source.old) (So.faults source.old) (Si.received out.old) (Si.faults out.old) (Si.wants out.old))
         (views (So.left source.new) (So.faults source.new) (Si.received out.new) (Si.faults out.new) (Si.wants out.new))) }
+    ensures unread { (rows workers piece : ℕ) → Makes (map string_bytes words.now) rows workers piece → source.new ≡ source.old }
     ensures source_later { So.faults source.old ≤ So.faults source.new }
     ensures sink_later { Si.faults out.old ≤ Si.faults out.new }
 {
-    let (conversion, input) = read_input(alloc, words, source)?;
-    match transcode(rt, alloc, &input, &conversion.read, &conversion.write, out) {
-        Ok(_) => Ok(()),
-        Err(fault) => Err(Refusal::Polars(fault)),
+    match read_work(alloc, words, source)? {
+        Work::Convert(conversion, input) => {
+            match transcode(rt, alloc, &input, &conversion.read, &conversion.write, out) {
+                Ok(_) => Ok(()),
+                Err(fault) => Err(Refusal::Polars(fault)),
+            }
+        }
+        Work::Make {
+            rows,
+            workers,
+            piece,
+        } => match make(rt, alloc, rows, workers, piece, out) {
+            Ok(()) => Ok(()),
+            Err(fault) => Err(Refusal::Polars(fault)),
+        },
     }
 }
 
 /// Reads CSV from a source under the schema that the words give, or else under the one that is inferred from the input, writes
 /// the text of its frame to `out` as they say, and answers the status: 0 only where the reference read of the input exists,
-/// and `out` then received exactly the text of its frame.
+/// and `out` then received exactly the text of its frame. Where the words ask for a made input, nothing is read, and at status
+/// 0 `out` received the line that tells how many rows that input has, how many bytes, and how many bytes the text of its frame
+/// (docs/command-line.md, "A made input").
 ///
 /// docs/command-line.md has the words. Another status has its cause: 2 words without a meaning; 3 a fault
 /// of the source; 4 one of `out`, which then received a prefix of the text; 5 want of memory, with a prefix of the text
@@ -138,8 +177,10 @@ pub fn run<W: Threads + Wait + Sync, So: Source, Si: Sink, Se: Sink>(
     out: &mut Si,
     err: &mut Se,
 ) -> u8
-    // Status 0: the input means a frame, the sink received exactly its text, and the sink of errors nothing.
-    ensures converted { result ≡ 0 → Converted (map string_bytes words.now) (So.left source.old) (So.left source.new) (Si.received out.old) (Si.received out.new) }
+    // Status 0: the words mean a conversion, the input means a frame, and the sink received exactly its text; or they mean a
+    // making job, and the sink received exactly its summary line. The sink of errors received nothing.
+    ensures done { result ≡ 0 → Converted (map string_bytes words.now) (So.left source.old) (So.left source.new) (Si.received out.old) (Si.received out.new)
+        ⊎ Made (map string_bytes words.now) (Si.received out.old) (Si.received out.new) }
     ensures silent { result ≡ 0 → sink_view (Se.received err.new) (Se.faults err.new) (Se.wants err.new) ≡ sink_view (Se.received err.old) (Se.faults err.old) (Se.wants err.old) }
 
     // Each other status comes only by its cause, and its fault line was told.
@@ -151,16 +192,20 @@ pub fn run<W: Threads + Wait + Sync, So: Source, Si: Sink, Se: Sink>(
         result }
 
     // The status that is due to the words and the input comes, up to want of memory and a count that rose.
-    ensures no_meaning { conversion_of_words (map string_bytes words.now) ≡ None → (result ≡ 2) ⊎ (result ≡ 5) }
+    ensures no_meaning { job_of_words (map string_bytes words.now) ≡ None → (result ≡ 2) ⊎ (result ≡ 5) }
     ensures due { (input : List ℕ) (status : ℕ) → So.left source.old ≡ Some input → IsDue (map string_bytes words.now) input status → EndsAsDue status result
         (views (So.left source.old) (So.faults source.old) (Si.received out.old) (Si.faults out.old) (Si.wants out.old))
         (views (So.left source.new) (So.faults source.new) (Si.received out.new) (Si.faults out.new) (Si.wants out.new)) }
+
+    // A making job reads nothing, and its status is the due one, up to want of memory and a count of the sink that rose.
+    ensures unread { (rows workers piece : ℕ) → Makes (map string_bytes words.now) rows workers piece → source.new ≡ source.old }
+    ensures made { (rows workers piece : ℕ) → Makes (map string_bytes words.now) rows workers piece → EndsAsMade workers piece result (Si.faults out.old) (Si.faults out.new) }
 
     // No count falls.
     ensures source_later { So.faults source.old ≤ So.faults source.new }
     ensures sink_later { Si.faults out.old ≤ Si.faults out.new }
 {
-    match convert(rt, alloc, words, source, out) {
+    match do_work(rt, alloc, words, source, out) {
         Ok(()) => 0,
         Err(refusal) => {
             tell_refusal(err, &refusal);

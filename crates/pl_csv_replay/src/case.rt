@@ -97,11 +97,11 @@ impl<'a> Case<'a> {
     }
 
     /// Whether the case can be replayed in a way: not where the words of that way are there already, nor where the words mean
-    /// nothing.
+    /// nothing, nor would then mean nothing.
     pub fn takes(&self, way: Way) -> bool {
         match way.words() {
             [] => true,
-            [name, _] => self.wanted.status != 2 && !self.has(name),
+            [name, _] => self.wanted.status != 2 && !self.has(name) && !self.has("--make"),
             [first, _, second, ..] => {
                 self.wanted.status != 2 && !self.has(first) && !self.has(second)
             }

@@ -12,6 +12,8 @@ mod file_readers;
 #[cfg(test)]
 mod lost;
 #[cfg(test)]
+mod make_input;
+#[cfg(test)]
 mod round_trip;
 #[cfg(test)]
 mod run;

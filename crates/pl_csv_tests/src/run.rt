@@ -68,6 +68,31 @@ fn names_and_types_are_inferred_without_words(rt: HostRuntime) {
 }
 
 #[test]
+fn inputs_are_made(rt: HostRuntime) {
+    let alloc = rt.alloc();
+    let none = b"".as_slice();
+    for (words, line) in [
+        ("--make 0", "rows 0 in 19 out 19\n"),
+        ("--make 4 --workers 1 --piece 1", "rows 4 in 110 out 110\n"),
+        ("--make=10", "rows 10 in 239 out 239\n"),
+    ] {
+        let ok = converts(&rt, alloc, words, b"not read", line.as_bytes(), none);
+        assert!(rt; ok == (0, true), "{words}");
+    }
+    let zero = converts(
+        &rt,
+        alloc,
+        "--make 4 --workers 0",
+        none,
+        none,
+        b"refusal 2 option\n",
+    );
+    assert!(rt; zero == (12, true));
+    let other = converts(&rt, alloc, "--make 4 --null NA", none, none, b"words\n");
+    assert!(rt; other == (2, true));
+}
+
+#[test]
 fn batches_and_workers_give_one_text(rt: HostRuntime) {
     let alloc = rt.alloc();
     for batch in [1, 2, 1024] {
@@ -120,6 +145,22 @@ fn sink_that_fails_at_each_call(rt: HostRuntime) {
     }
     let done = converts_failing(&rt, rt.alloc(), &[], &[11], b"");
     assert!(rt; done == (0, 11, true));
+}
+
+#[test]
+fn sink_that_fails_in_the_summary_line(rt: HostRuntime) {
+    let alloc = rt.alloc();
+    let words = words_for(&rt, alloc, "--make 4");
+    let line = b"rows 4 in 110 out 110\n".as_slice();
+    for call in 0..22 {
+        let (mut source, mut err) = (PipeSource::new(b"x", 1, &[0]), MemSink::new(alloc));
+        let fails = [call];
+        let mut sink = PipeSink::new(alloc, 1, &fails);
+        let status = run(&rt, alloc, &words, &mut source, &mut sink, &mut err);
+        let received = sink.received();
+        assert!(rt; status == 4 && received.len() == call, "at call {call}");
+        assert!(rt; line.starts_with(received) && err.received() == b"sink\n".as_slice());
+    }
 }
 
 #[test]

@@ -1,6 +1,7 @@
 pub mod ColumnWords
 pub mod Defaults
 pub mod Lists
+pub mod MakeWords
 pub mod NullWords
 pub mod OptionValues
 pub mod Parts

@@ -62,6 +62,7 @@ options =
     ∷ codes "--out-eol"
     ∷ codes "--style"
     ∷ codes "--batch"
+    ∷ codes "--make"
     ∷ []
 
 -- the value of an option that stands in a word of its own is not empty and does not begin with a minus

@@ -2,8 +2,9 @@
 #![tactic(auto)]
 
 mod column_words;
-pub mod conversion;
 mod from_text;
+pub mod job;
+mod make_words;
 mod null_words;
 mod option_values;
 mod parts;

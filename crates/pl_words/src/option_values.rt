@@ -56,8 +56,8 @@ pub(crate) fn parse_quote(text: &str) -> Option<Option<u8>>
     }
 }
 
-// The number that 1 to 18 digits write.
-fn parse_count(text: &str) -> Option<usize>
+/// The number that 1 to 18 digits write.
+pub(crate) fn parse_count(text: &str) -> Option<usize>
     ensures { result ≡ count_of text.now }
 {
     if text.len() > 18 {

@@ -79,6 +79,7 @@ fn is_option(name: &str) -> bool
             | "--out-eol"
             | "--style"
             | "--batch"
+            | "--make"
     )
 }
 

@@ -1,7 +1,7 @@
 //! Tests of `pl_words::words`.
 
 use pl_infer::read_options::CsvReadOptions;
-use pl_words::conversion::Conversion;
+use pl_words::job::Job;
 use pl_words::words::{WordsFault, parse_words};
 use std::alloc::Global;
 use std::process::Abort;
@@ -37,15 +37,15 @@ fn assert_read(rt: &impl Abort, read: &CsvReadOptions) {
 }
 
 // What they mean.
-fn assert_meaning(rt: &impl Abort, parsed: &Result<Conversion, WordsFault>) {
+fn assert_meaning(rt: &impl Abort, parsed: &Result<Job, WordsFault>) {
     match parsed {
-        Ok(Conversion { read, write }) => {
+        Ok(Job::Convert(read, write)) => {
             assert_columns(rt, read);
             assert_read(rt, read);
             assert!(rt; write.serialize_options.separator == b'|');
             assert!(rt; write.batch_size == 0);
         }
-        Err(_) => panic!(rt; "these words have a meaning"),
+        _ => panic!(rt; "these words mean a conversion"),
     }
 }
 
@@ -79,6 +79,37 @@ fn words_have_a_meaning(rt: HostRuntime) {
     assert_meaning(&rt, &parse_words(rt.alloc(), &words));
 }
 
+// Whether words mean a making job of these numbers.
+fn make(
+    rt: &impl Abort,
+    alloc: Global,
+    texts: &[&str],
+    rows: u64,
+    workers: usize,
+    piece: usize,
+) -> bool {
+    let words = words_of(rt, alloc, texts);
+    match parse_words(alloc, &words) {
+        Ok(
+            Job::Make {
+                rows: r,
+                workers: w,
+                piece: p,
+            },
+        ) => (r, w, p) == (rows, workers, piece),
+        _ => false,
+    }
+}
+
+#[test]
+fn words_mean_a_making_job(rt: HostRuntime) {
+    let alloc = rt.alloc();
+    assert!(rt; make(&rt, alloc, &["--make", "7"], 7, 4, 262144));
+    assert!(rt; make(&rt, alloc, &["--make=0010", "--workers=0"], 10, 0, 262144));
+    let all = ["--piece", "1", "--make", "1000000", "--workers", "8"];
+    assert!(rt; make(&rt, alloc, &all, 1000000, 8, 1));
+}
+
 // Whether words are refused.
 fn are_refused(rt: &impl Abort, alloc: Global, texts: &[&str]) -> bool {
     let words = words_of(rt, alloc, texts);
@@ -92,6 +123,9 @@ fn words_have_no_meaning(rt: HostRuntime) {
         ["--schema=a:int64", "--schema=a:int64"],
         ["--infer=ALL", "--allow-empty"],
         ["--no-header", "--batch=all"],
+        ["--make", "1000001"],
+        ["--make=4", "--dates"],
+        ["--null=NA", "--make=4"],
     ] {
         assert!(rt; are_refused(&rt, rt.alloc(), &texts), "{texts:?}");
     }

@@ -114,6 +114,9 @@ fn ledger(rt: &impl Abort, alloc: Global) -> DataFrame {
     columns.push(notes).expect(rt, "a column");
     columns.push(days).expect(rt, "a column");
     columns.push(amounts).expect(rt, "a column");
+    if !DataFrame::have_one_height(&columns) {
+        panic!(rt; "the columns have one height");
+    }
     DataFrame::new(alloc, columns).expect(rt, "a frame")
 }
 

@@ -66,17 +66,28 @@ pub fn frame_of(rt: &impl Abort, alloc: Global, column: Column) -> DataFrame {
     DataFrame::new(alloc, columns).expect(rt, "a frame")
 }
 
+// Writes a frame.
+fn write<W: Abort + Threads + Wait + Sync>(
+    rt: &W,
+    alloc: Global,
+    sink: &mut MemSink,
+    frame: &DataFrame,
+    options: &CsvWriterOptions,
+) {
+    let writer = CsvWriter::new(alloc, sink).expect(rt, "a writer");
+    let mut writer = writer.with_options(options).expect(rt, "options");
+    writer.finish(rt, frame).expect(rt, "a text");
+}
+
 // The text of a frame.
 pub fn text_of<W: Abort + Threads + Wait + Sync>(
     rt: &W,
     alloc: Global,
     frame: &DataFrame,
-    write: &CsvWriterOptions,
+    options: &CsvWriterOptions,
 ) -> MemSink {
     let mut sink = MemSink::new(alloc);
-    let writer = CsvWriter::new(alloc, &mut sink).expect(rt, "a writer");
-    let mut writer = writer.with_options(write).expect(rt, "options");
-    writer.finish(rt, frame).expect(rt, "a text");
+    write(rt, alloc, &mut sink, frame, options);
     sink
 }
 

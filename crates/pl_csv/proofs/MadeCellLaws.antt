@@ -1,8 +1,8 @@
 -- The fields of a made input, each the text of a field, and a cell without a fault.
-use Rattle.std.proofs.Common.{◌≡◌, ℕ, zero, suc, ◌+◌, ◌-◌, ◌*◌, ◌/◌, ◌%◌, ◌^◌, ◌<◌, ◌≤◌, nat_le, Bool, true, false, ◌&&◌, ◌||◌, List, [], ◌∷◌, ◌++◌, length, replicate, take, drop, Option, None, Some, ℤ, pos, refl, sym, ◌∙◌, ap, subst, append-nil, append_assoc, length-append, inl, inr, arith}
-use Rattle.std.specs.Prelude.{◌==◌, if◌then◌else◌, decimal, codes, slice_index, Result, Ok, Err}
+use Rattle.std.proofs.Common.{◌≡◌, ℕ, zero, suc, ◌+◌, ◌-◌, ◌*◌, ◌/◌, ◌%◌, ◌<◌, ◌≤◌, nat_le, Bool, true, false, ◌&&◌, ◌||◌, List, [], ◌∷◌, ◌++◌, length, replicate, take, drop, Option, None, Some, pos, refl, sym, ◌∙◌, ap, subst, append-nil, append_assoc, length-append, inl, inr, arith}
+use Rattle.std.specs.Prelude.{◌==◌, if◌then◌else◌, decimal, codes, Ok}
 use Rattle.std.specs.Char.{is_ascii_digit}
-use Rattle.std.specs.List.{list_any, AllByRecursion}
+use Rattle.std.specs.List.{list_any}
 use Rattle.std.specs.Str.{all_ascii_digits, is_utf8, chars, IsAscii}
 use Rattle.std.specs.Char.{encode_utf8}
 use Rattle.std.proofs.lemmas.Bool.Decides.{nat_tests}
@@ -13,16 +13,16 @@ use Rattle.std.proofs.Math.Seq.{drop-append_seam, take-append_seam}
 use Rattle.jiff_core.proofs.SignedLemmas.{signed_arith}
 use Rattle.pl_frame.specs.Dialect.{Marks, marks}
 use Rattle.pl_frame.specs.Frame.{Scalar, Number, Letters}
-use Rattle.pl_frame.specs.Printed.{date_text, decimal_text, padded, point_text}
-use Rattle.pl_frame.specs.Text.{WriteOptions, quoted, needs_quotes, is_special, written_cell, written_text}
-use Rattle.pl_frame.specs.Types.{is_within, day_range, decimal_range, signed_range}
+use Rattle.pl_frame.specs.Printed.{decimal_text, padded, point_text}
+use Rattle.pl_frame.specs.Text.{WriteOptions, quoted, is_special, written_cell, written_text}
+use Rattle.pl_frame.specs.Types.{is_within, decimal_range}
 use Rattle.pl_frame.specs.declared.data_type.DataType.{DataType}
 use Rattle.pl_frame.specs.declared.data_type.DataType.TheVariants as dtype
 use Rattle.pl_cells.proofs.IntegerLaws.{and_true}
-use Rattle.pl_cells.specs.Cells.{Reading, Cell, cell}
+use Rattle.pl_cells.specs.Cells.{Reading, cell}
 use Rattle.pl_cells.specs.NullTest.{NullTest}
 use Rattle.pl_cells.specs.declared.utf8.CsvEncoding.TheVariants as encoding
-use Rattle.pl_csv.specs.MadeInput.{quoted_name, name_field, day_field, amount_field, made_fields}
+use Rattle.pl_csv.specs.MadeInput.{quoted_name, name_field, day_field, amount_field}
 use Rattle.pl_round_trip.proofs.NumeralLaws.{decimal-writes}
 use Rattle.pl_round_trip.specs.RoundTrip.{IsReadable, IsWritable, FieldsReturn, ValuesAreFields, IsFieldText, AreApart}
 

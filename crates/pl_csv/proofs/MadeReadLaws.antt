@@ -1,18 +1,16 @@
 -- A made input has a reference read: no cause stands against it.
-use Rattle.std.proofs.Common.{◌≡◌, ℕ, zero, suc, ◌+◌, ◌-◌, ◌<◌, ◌≤◌, Bool, true, false, List, [], ◌∷◌, ◌++◌, length, map, take, drop, Option, None, Some, refl, sym, ◌∙◌, ap, inr, arith}
-use Rattle.std.specs.Prelude.{◌⊎◌, ◌==◌, ◌||◌, is_none, sum_by}
-use Rattle.std.specs.List.{AllByRecursion, filter_map, flat_map, join_with_byte, range_with_len}
+use Rattle.std.proofs.Common.{◌≡◌, ℕ, zero, suc, ◌+◌, ◌-◌, ◌<◌, ◌≤◌, true, false, List, [], ◌∷◌, ◌++◌, length, map, take, drop, Option, None, Some, refl, sym, ◌∙◌, ap, inr, arith}
+use Rattle.std.specs.Prelude.{◌==◌, ◌||◌, is_none, sum_by}
+use Rattle.std.specs.List.{AllByRecursion, filter_map, flat_map, range_with_len}
 use Rattle.std.specs.Option.{option_map, option_and_then}
 use Rattle.std.proofs.lemmas.Bool.Decides.{nat_tests}
 use Rattle.pl_frame.specs.Dialect.{AreDistinct, IsDialect}
-use Rattle.pl_frame.specs.Frame.{ColumnValue, Scalar}
 use Rattle.pl_frame.specs.declared.data_type.DataType.{DataType}
 use Rattle.pl_frame.specs.declared.data_type.DataType.TheVariants as dtype
 use Rattle.pl_frame.specs.declared.error.FaultKind.{FaultKind}
 use Rattle.pl_frame.specs.declared.error.ComputeFault.TheVariants as compute_fault
 use Rattle.pl_frame.specs.declared.error.NoDataFault.TheVariants as no_data
 use Rattle.pl_frame.specs.declared.error.OpFault.TheVariants as op_fault
-use Rattle.pl_frame.specs.declared.error.PolarsError.{PolarsError}
 use Rattle.pl_frame.specs.declared.error.PolarsError.TheVariants as error
 use Rattle.pl_scan.specs.Fields.{fields, extent}
 use Rattle.pl_scan.specs.Start.{data_left}
@@ -20,16 +18,15 @@ use Rattle.pl_table.specs.Rows.{Row, rows, ended_row}
 use Rattle.pl_cells.specs.Cells.{cell, fault_of}
 use Rattle.pl_rows.specs.Cells.{RowRules}
 use Rattle.pl_rows.specs.Plan.{Columns}
-use Rattle.pl_rows.specs.Rows.{column_fault, first_fault, first_faulty, first_or, excess_fault}
+use Rattle.pl_rows.specs.Rows.{column_fault, first_fault, first_faulty, first_or}
 use Rattle.pl_infer.specs.Causes.{when, first_some}
-use Rattle.pl_infer.specs.declared.read_options.CsvReadOptions.{CsvReadOptions}
 use Rattle.pl_csv.specs.MadeInput.{made_names, made_fields, made_line, made_lines, made_input}
 use Rattle.pl_csv.specs.Making.{made_schema, made_options, MadeInputIsRead}
 use Rattle.pl_read.specs.Options.{data_of}
-use Rattle.pl_read.specs.Reading.{IsRead, frame_of}
+use Rattle.pl_read.specs.Reading.{frame_of}
 use Rattle.pl_read.specs.Refusals.{has_wrong_option, nothing_read, faulty_record, index_past, read_causes}
 use Rattle.pl_read.specs.Rows.{rows_in, data_columns}
-use Rattle.pl_round_trip.specs.RoundTrip.{FieldsReturn, ValuesAreFields, RowsReturn, LinesReturn, IsFieldText, IsLine, line_of}
+use Rattle.pl_round_trip.specs.RoundTrip.{FieldsReturn, ValuesAreFields, RowsReturn, LinesReturn, IsLine, line_of}
 use Rattle.pl_csv.proofs.MadeCellLaws.{comma_marks, plain_reading, never_null, IsSound, IsSoundRow, sound_row}
 
 apart : AreDistinct comma_marks

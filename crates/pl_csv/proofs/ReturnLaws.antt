@@ -1,7 +1,6 @@
 -- What is written, read again and written once more.
 use Rattle.std.proofs.Common.{◌≡◌, ℕ, List, refl, sym, ◌∙◌, ap, subst, inl, inr}
 use Rattle.std.specs.Prelude.{Result, Ok, Err, IsErr, IfErr}
-use Rattle.pl_frame.specs.Causes.{Rose}
 use Rattle.pl_frame.specs.declared.error.PolarsError.{PolarsError}
 use Rattle.pl_frame.specs.declared.error.PolarsError.TheVariants as error
 use Rattle.pl_frame.specs.Frame.{ColumnValue}
@@ -12,7 +11,7 @@ use Rattle.pl_read.specs.Options.{settled_schema}
 use Rattle.pl_read.specs.RoundTrip.{ComesBack}
 use Rattle.pl_read.proofs.ComesBackLaws.{frames-return}
 use Rattle.pl_write.specs.declared.options.CsvWriterOptions.{CsvWriterOptions}
-use Rattle.pl_csv.specs.Transcoding.{HasAsciiQuote, IsValidRead, IsTranscoded, IsTranscodeFault, ReturnsFrame}
+use Rattle.pl_csv.specs.Transcoding.{HasAsciiQuote, IsValidRead, IsTranscodeFault, ReturnsFrame}
 use Rattle.pl_csv.specs.Views.{SinkView}
 use Rattle.pl_csv.proofs.RunLaws.{no_cause}
 

@@ -22,8 +22,8 @@ use Rattle.pl_words.specs.Words.{Conversion, converting, job_of_words}
 use Rattle.pl_write.specs.declared.options.CsvWriterOptions.{CsvWriterOptions}
 use Rattle.pl_csv.specs.declared.run.Refusal.{Refusal}
 use Rattle.pl_csv.specs.declared.run.Refusal.TheVariants as refusal
-use Rattle.pl_csv.specs.Making.{IsMadePart, IsMakingFault, IsZero, making_status}
-use Rattle.pl_csv.specs.Run.{Converts, Makes, HasRead, HasCause, HasWrongOption, IsRefused, IsDue, IsDueMade, EndsAsDue, EndsAsMade, Converted, Made, MadePart, PartWritten}
+use Rattle.pl_csv.specs.Making.{IsMakingFault, IsZero, making_status}
+use Rattle.pl_csv.specs.Run.{Converts, Makes, HasRead, HasCause, HasWrongOption, IsRefused, IsDue, EndsAsDue, EndsAsMade, Converted, Made, MadePart, PartWritten}
 use Rattle.pl_csv.specs.Telling.{status_of, status_of_fault}
 use Rattle.pl_csv.specs.Transcoding.{all_causes, HasAsciiQuote, IsCause, IsValidRead, IsTranscodeFault}
 use Rattle.pl_csv.specs.Views.{Views}

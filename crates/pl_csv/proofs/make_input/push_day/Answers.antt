@@ -1,4 +1,4 @@
-use Rattle.std.proofs.Common.{◌≡◌, pos, ◌+ℤ◌, ◌+◌, arith}
+use Rattle.std.proofs.Common.{◌≡◌, pos, ◌+◌, arith}
 use Rattle.jiff_core.proofs.SignedLemmas.{signed_arith}
 use Rattle.jiff_core.specs.Calendar.{days_from_civil}
 use Rattle.pl_frame.specs.Printed.{date_text, padded}

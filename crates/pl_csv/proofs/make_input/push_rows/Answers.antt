@@ -1,5 +1,5 @@
-use Rattle.std.proofs.Common.{◌≡◌, ◌++◌, ap, ◌∙◌, sym, append_assoc, append-nil}
-use Rattle.pl_csv.specs.MadeInput.{made_names, made_line, made_fields, made_lines}
+use Rattle.std.proofs.Common.{◌++◌, ap, ◌∙◌, sym, append_assoc, append-nil}
+use Rattle.pl_csv.specs.MadeInput.{made_line, made_fields, made_lines}
 use Rattle.pl_csv.proofs.MadeInputLaws.{lines-more, lines-all}
 use Rattle.pl_csv.proofs.make_input.push_rows.Goals as goal
 

@@ -1,5 +1,5 @@
 use Rattle.std.proofs.Common.{◌≡◌, ◌++◌}
-use Rattle.pl_csv.specs.MadeInput.{made_names, made_line, made_lines}
+use Rattle.pl_csv.specs.MadeInput.{made_lines}
 use Rattle.pl_csv.proofs.make_input.push_rows.Given as goal
 
 abbrev pub invariant-loop-row : goal.invariant-loop-row

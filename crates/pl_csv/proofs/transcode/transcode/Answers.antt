@@ -1,6 +1,5 @@
-use Rattle.std.proofs.Common.{arith, rules}
+use Rattle.std.proofs.Common.{arith}
 use Rattle.std.specs.Prelude.{IfErr}
-use Rattle.std.proofs.lemmas.Grind.{common_steps}
 use Rattle.pl_csv.specs.Transcoding.{IsTranscodeFault}
 use Rattle.pl_csv.specs.Views.{SinkView, sink_view}
 use Rattle.pl_csv.proofs.ReturnLaws.{same_frame, err_returned}

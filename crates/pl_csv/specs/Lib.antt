@@ -1,5 +1,6 @@
 pub mod Views
 pub mod Transcoding
+pub mod Converting
 pub mod Telling
 pub mod MadeInput
 pub mod Making

@@ -55,6 +55,10 @@ pub record IsTranscoded (read : CsvReadOptions) (write : CsvWriterOptions) (inpu
   pub is : IsValidRead read (settled_schema read input) input write frame
   pub written : Appends received received_now (text_of_frame (frame_options write) frame)
 
+-- the input means a frame that can be written, and the sink received exactly its text
+abbrev pub IsConverted : CsvReadOptions → CsvWriterOptions → List ℕ → (received received_now : Option (List ℕ)) → Type 0
+IsConverted read write input received received_now = (frame : List ColumnValue) × IsTranscoded read write input received received_now frame
+
 -- the input means a frame that can be written, and the sink received a prefix of its text
 pub record IsCutShort (read : CsvReadOptions) (write : CsvWriterOptions) (input : List ℕ) (received received_now : Option (List ℕ)) : Type 0 where
   pub frame : List ColumnValue

@@ -3,12 +3,14 @@
 
 pub mod adapters;
 mod conversion;
+pub mod convert;
 pub mod counting;
 pub mod laws;
 pub mod make_input;
 mod making;
 pub mod matching;
 pub mod read_all;
+mod regions;
 pub mod run;
 mod telling;
 pub mod transcode;

@@ -6,10 +6,10 @@ ghost use Rattle.pl_csv.specs.Telling.{status_of, status_of_fault};
 ghost use Rattle.pl_csv.specs.Views.{source_view, sink_view, views};
 
 use crate::conversion::Conversion;
+use crate::convert::convert;
 use crate::making::make;
 use crate::read_all::{LIMIT, ReadAllFault, read_all};
 use crate::telling::tell_refusal;
-use crate::transcode::transcode;
 use pl_frame::error::{ComputeFault, NamePlace, NoDataFault, OpFault, PolarsError};
 use pl_frame::sink::Sink;
 use pl_frame::source::Source;
@@ -142,8 +142,8 @@ fn do_work<W: Threads + Wait + Sync, So: Source, Si: Sink>(
 {
     match read_work(alloc, words, source)? {
         Work::Convert(conversion, input) => {
-            match transcode(rt, alloc, &input, &conversion.read, &conversion.write, out) {
-                Ok(_) => Ok(()),
+            match convert(rt, alloc, &input, &conversion.read, &conversion.write, out) {
+                Ok(()) => Ok(()),
                 Err(fault) => Err(Refusal::Polars(fault)),
             }
         }

@@ -32,11 +32,12 @@ use Rattle.pl_infer.specs.declared.read_options.CsvReadOptions.{CsvReadOptions}
 use Rattle.pl_infer.specs.declared.row_index.RowIndex.{RowIndex}
 use Rattle.pl_rows.specs.declared.columns.RangeColumns.{RangeColumns}
 use Rattle.pl_rows.specs.declared.plan.RangePlan.{RangePlan}
+use Rattle.pl_rows.specs.declared.range.RangeEnd.{RangeEnd}
 use Rattle.pl_rows.specs.declared.range.RangeEnd.TheVariants as end
 use Rattle.pl_rows.specs.Cells.{RowRules}
 use Rattle.pl_rows.specs.Columns.{entries_in, columns_in, frame_of_rows}
 use Rattle.pl_rows.specs.Plan.{rules_of as plan_rules}
-use Rattle.pl_rows.specs.Ranges.{limited, judged_rows, has_unjudged, sound_rows, IsRangeRead}
+use Rattle.pl_rows.specs.Ranges.{limited, judged_rows, has_unjudged, sound_rows, range_end, range_frame, IsRangeRead}
 use Rattle.pl_rows.specs.Rows.{first_faulty}
 use Rattle.pl_table.specs.Rows.{Row, rows}
 use Rattle.pl_rows.proofs.FrameLaws.{IsFrame-rows}
@@ -72,29 +73,42 @@ faulty-is plan o schema records is =
     ∙ ap (λ p. first_faulty (rules_of o schema) (columns_in schema p) 0 (judged_rows plan records)) is.places_are
     ∙ ap (first_faulty (rules_of o schema) (columns_read o schema) 0) (rows-are plan o schema records is)
 
--- where the range ended at a fault, that is the first cause against the data
-pub faulty-cause : (plan : RangePlan) (o : CsvReadOptions) (schema : List Entry) (records : List ℕ) (read : RangeColumns) (row column : ℕ) (kind : FaultKind)
-    → IsPlanOf plan o schema → IsRangeRead plan schema records read → read.end ≡ end.Fault row column kind
+-- where the range ends at a fault, that is the first cause against the data
+pub fault-at : (plan : RangePlan) (o : CsvReadOptions) (schema : List Entry) (records : List ℕ) (row column : ℕ) (kind : FaultKind)
+    → IsPlanOf plan o schema → range_end plan (columns_in schema plan.projection.places.now) records ≡ end.Fault row column kind
     → data_cause o schema records ≡ Some (error.ComputeError (compute_fault.Record row column kind))
-faulty-cause plan o schema records read row column kind is range ended =
+fault-at plan o schema records row column kind is ended =
     let found : first_faulty (rules_of o schema) (columns_read o schema) 0 (rows_in o records) ≡ Some (row, (column, kind)) =
-    sym (faulty-is plan o schema records is) ∙ fault-first _ (has_unjudged plan records) row column kind (sym ended ∙ range.end_is) in
+    sym (faulty-is plan o schema records is) ∙ fault-first _ (has_unjudged plan records) row column kind (sym ended) in
     first_some-here (faulty_record o schema records) _ _ (ap (option_map (λ found. error.ComputeError (compute_fault.Record found.0 found.1.0 found.1.1))) found)
 
 -- else no row has a fault
-pub no-fault : (plan : RangePlan) (o : CsvReadOptions) (schema : List Entry) (records : List ℕ) (read : RangeColumns) → IsPlanOf plan o schema → IsRangeRead plan schema records read
-    → (read.end ≡ end.Closed) ⊎ (read.end ≡ end.Open) → first_faulty (rules_of o schema) (columns_read o schema) 0 (rows_in o records) ≡ None
-no-fault plan o schema records read is range ended = sym (faulty-is plan o schema records is) ∙ none-first _ (has_unjudged plan records) read.end range.end_is ended
+pub no-fault-at : (plan : RangePlan) (o : CsvReadOptions) (schema : List Entry) (records : List ℕ) (e : RangeEnd) → IsPlanOf plan o schema → e ≡ range_end plan (columns_in schema plan.projection.places.now) records
+    → (e ≡ end.Closed) ⊎ (e ≡ end.Open) → first_faulty (rules_of o schema) (columns_read o schema) 0 (rows_in o records) ≡ None
+no-fault-at plan o schema records e is end_is ended = sym (faulty-is plan o schema records is) ∙ none-first _ (has_unjudged plan records) e end_is ended
 
 -- and the columns are those of all rows
-pub columns-are : (plan : RangePlan) (o : CsvReadOptions) (schema : List Entry) (records : List ℕ) (read : RangeColumns) → IsPlanOf plan o schema → IsRangeRead plan schema records read
-    → (read.end ≡ end.Closed) ⊎ (read.end ≡ end.Open) → read.columns.items ≡ data_columns o schema records
-columns-are plan o schema records read is range ended =
-    range.columns
-    ∙ ap (λ r. frame_of_rows r (entries_in schema plan.projection.places.now) (sound_rows r (columns_in schema plan.projection.places.now) (judged_rows plan records))) is.rules_are
+pub columns-at : (plan : RangePlan) (o : CsvReadOptions) (schema : List Entry) (records : List ℕ) (e : RangeEnd) → IsPlanOf plan o schema → e ≡ range_end plan (columns_in schema plan.projection.places.now) records
+    → (e ≡ end.Closed) ⊎ (e ≡ end.Open) → range_frame plan schema records ≡ data_columns o schema records
+columns-at plan o schema records e is end_is ended =
+    ap (λ r. frame_of_rows r (entries_in schema plan.projection.places.now) (sound_rows r (columns_in schema plan.projection.places.now) (judged_rows plan records))) is.rules_are
     ∙ ap (λ p. frame_of_rows (rules_of o schema) (entries_in schema p) (sound_rows (rules_of o schema) (columns_in schema p) (judged_rows plan records))) is.places_are
     ∙ ap (λ rs. frame_of_rows (rules_of o schema) (entries_in schema (projected o schema)) (sound_rows (rules_of o schema) (columns_read o schema) rs)) (rows-are plan o schema records is)
-    ∙ ap (frame_of_rows (rules_of o schema) (entries_in schema (projected o schema))) (sound-all (rules_of o schema) (columns_read o schema) 0 (rows_in o records) (no-fault plan o schema records read is range ended))
+    ∙ ap (frame_of_rows (rules_of o schema) (entries_in schema (projected o schema))) (sound-all (rules_of o schema) (columns_read o schema) 0 (rows_in o records) (no-fault-at plan o schema records e is end_is ended))
+
+-- the same of a range that was read
+pub faulty-cause : (plan : RangePlan) (o : CsvReadOptions) (schema : List Entry) (records : List ℕ) (read : RangeColumns) (row column : ℕ) (kind : FaultKind)
+    → IsPlanOf plan o schema → IsRangeRead plan schema records read → read.end ≡ end.Fault row column kind
+    → data_cause o schema records ≡ Some (error.ComputeError (compute_fault.Record row column kind))
+faulty-cause plan o schema records read row column kind is range ended = fault-at plan o schema records row column kind is (sym range.end_is ∙ ended)
+
+pub no-fault : (plan : RangePlan) (o : CsvReadOptions) (schema : List Entry) (records : List ℕ) (read : RangeColumns) → IsPlanOf plan o schema → IsRangeRead plan schema records read
+    → (read.end ≡ end.Closed) ⊎ (read.end ≡ end.Open) → first_faulty (rules_of o schema) (columns_read o schema) 0 (rows_in o records) ≡ None
+no-fault plan o schema records read is range ended = no-fault-at plan o schema records read.end is range.end_is ended
+
+pub columns-are : (plan : RangePlan) (o : CsvReadOptions) (schema : List Entry) (records : List ℕ) (read : RangeColumns) → IsPlanOf plan o schema → IsRangeRead plan schema records read
+    → (read.end ≡ end.Closed) ⊎ (read.end ≡ end.Open) → read.columns.items ≡ data_columns o schema records
+columns-are plan o schema records read is range ended = range.columns ∙ columns-at plan o schema records read.end is range.end_is ended
 
 -- ---- how many rows
 

@@ -12,7 +12,7 @@ pub mod laws;
 pub mod named_columns;
 mod next_frames;
 mod nulls;
-mod preparing;
+pub mod preparing;
 mod projecting;
 pub mod reader_makers;
 pub mod reading;

@@ -23,17 +23,17 @@ use std::alloc::Global;
 /// What the rows of an input are read by: how many workers read, the settled schema, the null values of its columns, the places of
 /// the columns that are read, and where the data begins.
 #[derive(Drop)]
-pub(crate) struct Prepared {
-    pub(crate) n_threads: Option<usize>,
-    pub(crate) schema: Schema,
-    pub(crate) null_values: Option<NullValuesCompiled>,
-    pub(crate) places: Vec<usize>,
-    pub(crate) start: usize,
+pub struct Prepared {
+    pub n_threads: Option<usize>,
+    pub schema: Schema,
+    pub null_values: Option<NullValuesCompiled>,
+    pub places: Vec<usize>,
+    pub start: usize,
 }
 
 /// What the rows of an input are read by, where the options may stand: `check_options` tells. Refuses the first cause against the
 /// input that stands before those of its rows (docs/refusals.md), and want of memory.
-pub(crate) fn prepare(
+pub fn prepare(
     alloc: Global,
     input: &[u8],
     options: &CsvReadOptions,

@@ -63,8 +63,9 @@ pub fn read_checked<W: Threads + Wait + Sync, G: Gate + Sync>(
     }
 }
 
-// The frame of an input, of which it is known what its rows are read by.
-fn read_prepared<W: Threads + Wait + Sync, G: Gate + Sync>(
+/// The frame of an input, of which it is known what its rows are read by: `prepare` tells. Refuses the first cause against its rows
+/// (docs/refusals.md), and want of memory.
+pub fn read_prepared<W: Threads + Wait + Sync, G: Gate + Sync>(
     rt: &W,
     alloc: Global,
     gate: &G,
@@ -86,7 +87,7 @@ fn read_prepared<W: Threads + Wait + Sync, G: Gate + Sync>(
 }
 
 /// How the columns that are read are read, with the null values of the schema's columns.
-pub(crate) fn plan_of<'a>(options: &'a CsvReadOptions, prepared: &'a Prepared) -> RangePlan<'a>
+pub fn plan_of<'a>(options: &'a CsvReadOptions, prepared: &'a Prepared) -> RangePlan<'a>
     requires places { prepared.now.places.items ≡ projected options.now prepared.now.schema }
     requires nulls { prepared.now.null_values ≡ option_map (λ values. compiled_for values prepared.now.schema) options.now.parse_options.null_values }
     ensures plan { IsPlanOf result options.now prepared.now.schema }

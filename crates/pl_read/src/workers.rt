@@ -296,9 +296,9 @@ fn read_on_board<
 // Where so many columns are read, or more, pieces are longer.
 const COLUMNS: usize = 128;
 
-// How long pieces are where so many columns are read: the more there are, the longer, since each piece has a buffer of its own
-// for each.
-fn size_for(piece_size: usize, columns: usize) -> usize
+/// How long pieces are where so many columns are read, in bytes: the more there are, the longer, since each piece has a buffer of its
+/// own for each.
+pub fn piece_size_for(piece_size: usize, columns: usize) -> usize
     requires { 0 < piece_size }
     ensures some { 0 < result }
     ensures few { columns < 128 → result ≡ piece_size }
@@ -308,7 +308,7 @@ fn size_for(piece_size: usize, columns: usize) -> usize
 
 /// Reads the records of a range by so many workers into columns of a schema: what one pass over the range gives, however
 /// many there are and however the range is cut. Refuses only want of memory, of a worker too.
-pub(crate) fn read_by_workers<W: Threads + Wait + Sync, G: Gate + Sync>(
+pub fn read_by_workers<W: Threads + Wait + Sync, G: Gate + Sync>(
     rt: &W,
     alloc: Global,
     gate: &G,
@@ -327,7 +327,7 @@ pub(crate) fn read_by_workers<W: Threads + Wait + Sync, G: Gate + Sync>(
     requires texts { HaveTexts plan.now.options.null_values (length schema.now) }
     ensures { IfOk result (IsRangeRead plan.now schema.now range.now) }
 {
-    let piece_size = size_for(piece_size, plan.projection.places.len());
+    let piece_size = piece_size_for(piece_size, plan.projection.places.len());
     let workers = workers.min((range.len() / piece_size).saturating_add(1));
     if workers == 1 {
         return read_columns_in_pieces(alloc, schema, range, plan, piece_size, gate);

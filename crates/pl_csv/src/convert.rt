@@ -1,0 +1,231 @@
+//! From the bytes of an input to the text of its frame, each piece printed as soon as it is read.
+ghost use Rattle.std.specs.Prelude.{◌≡◌, ◌<◌, ◌≤◌, ℕ, None, map, drop, length, slice_index, IfOk, OnOk, IfErr, MatchResult};
+ghost use Rattle.std.specs.Bool.{OnTrue};
+ghost use Rattle.std.specs.List.{list_any};
+ghost use Rattle.pl_cells.specs.InitBuffers.{entry_at};
+ghost use Rattle.pl_frame.specs.Frame.{names_of};
+ghost use Rattle.pl_frame.specs.Text.{text_of_frame};
+ghost use Rattle.pl_infer.specs.Causes.{IsFault};
+ghost use Rattle.pl_schema.specs.Schemas.{is_categorical};
+ghost use Rattle.pl_read.specs.Options.{settled_schema};
+ghost use Rattle.pl_read.specs.Reading.{frame_of};
+ghost use Rattle.pl_read.specs.Preparing.{IsPrepared};
+ghost use Rattle.pl_read.specs.Projection.{projected};
+ghost use Rattle.pl_read.specs.Rows.{data_frame};
+ghost use Rattle.pl_read.specs.Steps.{MayRead, late_cause, data_cause, CanReadData};
+ghost use Rattle.pl_write.specs.Options.{frame_options};
+ghost use Rattle.pl_write.specs.Printed.{printed_text};
+ghost use Rattle.pl_csv.specs.Converting.{IsPlain, IsPrintedRead};
+ghost use Rattle.pl_csv.specs.Transcoding.{IsUnread, IsConverted, IsTranscodeFault};
+ghost use Rattle.pl_csv.specs.Views.{sink_view};
+
+use crate::regions::{cut_regions, front_of, print_regions};
+use pl_board::gate::OpenGate;
+use pl_frame::data_type::DataType;
+use pl_frame::error::{ComputeFault, PolarsError, PolarsResult};
+use pl_frame::frame::DataFrame;
+use pl_frame::schema::Schema;
+use pl_frame::sink::{Sink, SinkFault};
+use pl_infer::read_options::CsvReadOptions;
+use pl_read::checks::check_options;
+use pl_read::preparing::{Prepared, prepare};
+use pl_read::reading::{plan_of, read_prepared};
+use pl_read::workers::{piece_size_for, read_by_workers, worker_count};
+use pl_rows::plan::RangePlan;
+use pl_rows::range::RangeEnd;
+use pl_write::options::CsvWriterOptions;
+use pl_write::printed::write_behind;
+use std::alloc::Global;
+use std::sync::Wait;
+use std::thread::Threads;
+
+/// What was read of an input: the lines of its first rows, and the frame of the others.
+#[derive(Drop)]
+pub(crate) struct Printed {
+    pub(crate) lines: Vec<Vec<u8>>,
+    pub(crate) rest: DataFrame,
+}
+
+// Whether a column of a schema has categories.
+fn has_categories(schema: &Schema, place: usize) -> bool
+    requires { place < length schema.now }
+    ensures { result ≡ is_categorical (entry_at schema.now place).1 }
+{
+    match schema.get_at_index(place) {
+        Some((_, dtype)) => matches!(dtype, DataType::Categorical),
+        None => false,
+    }
+}
+
+// Whether one of the columns that are read has categories.
+fn have_categories(schema: &Schema, places: &[usize]) -> bool
+    requires { (k : ℕ) → k < length places.now → slice_index places.now k < length schema.now }
+    ensures { result ≡ list_any (λ place. is_categorical (entry_at schema.now place).1) places.now }
+{
+    for place in places {
+        if has_categories(schema, *place) {
+            return true;
+        }
+    }
+    false
+}
+
+// Whether rows may be printed as they are read.
+fn is_plain(read: &CsvReadOptions, prepared: &Prepared) -> bool
+    requires { prepared.now.places.items ≡ projected read.now prepared.now.schema }
+    ensures { OnTrue result (IsPlain read.now prepared.now.schema) }
+{
+    read.n_rows.is_none()
+        && read.row_index.is_none()
+        && !have_categories(&prepared.schema, &prepared.places)
+}
+
+// What data is, read and printed by workers: each prints the rows of its region, and what is left behind the first row that is not
+// printed is read to columns. Refuses the first cause against it, and want of memory.
+fn print_data<W: Threads + Wait + Sync>(
+    rt: &W,
+    alloc: Global,
+    records: &[u8],
+    read: &CsvReadOptions,
+    schema: &Schema,
+    plan: &RangePlan<'_>,
+    n_threads: Option<usize>,
+    write: &CsvWriterOptions,
+) -> PolarsResult<Printed>
+    requires can { CanReadData plan.now read.now schema.now records.now }
+    requires plain { IsPlain read.now schema.now }
+    ensures text { IfOk result (λ printed. printed_text (frame_options write.now) (names_of printed.rest) (map (λ lines. lines.items) printed.lines.items) printed.rest
+        ≡ text_of_frame (frame_options write.now) (data_frame read.now schema.now records.now)) }
+    ensures sound { OnOk result (data_cause read.now schema.now records.now ≡ None) }
+    ensures refused { IfErr result (IsFault (data_cause read.now schema.now records.now)) }
+{
+    let options = &write.serialize_options;
+    let dialect = plan.dialect;
+    let size = piece_size_for(read.chunk_size, plan.projection.places.len());
+    let workers = worker_count(n_threads).min((records.len() / size).saturating_add(1));
+    let Ok(regions) = cut_regions(rt, alloc, workers, records, dialect.quote_char, dialect.eol_char) else {
+        return Err(PolarsError::OutOfMemory);
+    };
+    let mut regions = regions;
+    print_regions(rt, alloc, workers, &mut regions, schema, plan, options, size);
+    let Ok(front) = front_of(alloc, regions, records, schema, plan, options) else {
+        return Err(PolarsError::OutOfMemory);
+    };
+    let left = &records[front.end..];
+    let size = read.chunk_size;
+    let Ok(rest) = read_by_workers(rt, alloc, &OpenGate, workers, schema, left, plan, size) else {
+        return Err(PolarsError::OutOfMemory);
+    };
+    match rest.end {
+        RangeEnd::Fault { row, column, kind } => {
+            let row = front.rows + row;
+            Err(PolarsError::ComputeError(ComputeFault::Record { row, column, kind }))
+        }
+        RangeEnd::Closed | RangeEnd::Open => Ok(Printed {
+            lines: front.lines,
+            rest: DataFrame::of_distinct(rest.columns),
+        }),
+    }
+}
+
+// What an input is, of which it is known what its rows are read by.
+fn print_prepared<W: Threads + Wait + Sync>(
+    rt: &W,
+    alloc: Global,
+    input: &[u8],
+    read: &CsvReadOptions,
+    prepared: &Prepared,
+    write: &CsvWriterOptions,
+) -> PolarsResult<Printed>
+    requires allowed { MayRead read.now }
+    requires prepared { IsPrepared read.now prepared.now.schema input.now prepared.now }
+    ensures text { IfOk result (λ printed. printed_text (frame_options write.now) (names_of printed.rest) (map (λ lines. lines.items) printed.lines.items) printed.rest
+        ≡ text_of_frame (frame_options write.now) (data_frame read.now prepared.now.schema (drop prepared.now.start input.now))) }
+    ensures sound { OnOk result (data_cause read.now prepared.now.schema (drop prepared.now.start input.now) ≡ None) }
+    ensures refused { IfErr result (IsFault (data_cause read.now prepared.now.schema (drop prepared.now.start input.now))) }
+{
+    if is_plain(read, prepared) {
+        let plan = plan_of(read, prepared);
+        let records = &input[prepared.start..];
+        let schema = &prepared.schema;
+        return print_data(rt, alloc, records, read, schema, &plan, prepared.n_threads, write);
+    }
+    match read_prepared(rt, alloc, &OpenGate, input, read, prepared) {
+        Ok(rest) => Ok(Printed {
+            lines: Vec::new(alloc),
+            rest,
+        }),
+        Err(fault) => Err(fault),
+    }
+}
+
+// What an input is, where the options may stand and the quote of the output is ASCII.
+fn print_checked<W: Threads + Wait + Sync>(
+    rt: &W,
+    alloc: Global,
+    input: &[u8],
+    read: &CsvReadOptions,
+    write: &CsvWriterOptions,
+) -> PolarsResult<Printed>
+    requires allowed { MayRead read.now }
+    ensures text { IfOk result (λ printed. printed_text (frame_options write.now) (names_of printed.rest) (map (λ lines. lines.items) printed.lines.items) printed.rest
+        ≡ text_of_frame (frame_options write.now) (frame_of read.now (settled_schema read.now input.now) input.now)) }
+    ensures sound { OnOk result (late_cause read.now (settled_schema read.now input.now) input.now ≡ None) }
+    ensures refused { IfErr result (IsFault (late_cause read.now (settled_schema read.now input.now) input.now)) }
+{
+    match prepare(alloc, input, read) {
+        Ok(prepared) => print_prepared(rt, alloc, input, read, &prepared, write),
+        Err(fault) => Err(fault),
+    }
+}
+
+// What an input is that means a frame which can be written. Refuses the first cause against it, and want of memory.
+fn print_valid<W: Threads + Wait + Sync>(
+    rt: &W,
+    alloc: Global,
+    input: &[u8],
+    read: &CsvReadOptions,
+    write: &CsvWriterOptions,
+) -> PolarsResult<Printed>
+    ensures { MatchResult result (IsPrintedRead read.now write.now input.now) (IsUnread read.now (settled_schema read.now input.now) input.now write.now) }
+{
+    match check_options(read) {
+        Ok(()) => {
+            if !write.serialize_options.quote_char.is_ascii() {
+                return Err(PolarsError::ComputeError(ComputeFault::Quote));
+            }
+            print_checked(rt, alloc, input, read, write)
+        }
+        Err(fault) => Err(fault),
+    }
+}
+
+/// Reads an input under the schema of the options, or else under the one that is inferred from it, and writes the text of its frame to
+/// a sink: what `transcode` does, without making the frame. The rows of each piece are printed as soon as it is read.
+///
+/// Refuses as `transcode` does: before any byte is written the first cause against the frame, and want of memory with a prefix of the
+/// text or nothing received; and a fault of the sink (`IO`), which then received a prefix of the text.
+#[tactic(auto, using(crate::proofs::TranscodeLaws::fault_unread))]
+pub fn convert<W: Threads + Wait + Sync, S: Sink>(
+    rt: &W,
+    alloc: Global,
+    input: &[u8],
+    read: &CsvReadOptions,
+    write: &CsvWriterOptions,
+    sink: &mut S,
+) -> PolarsResult<()>
+    ensures converted { OnOk result (IsConverted read.now write.now input.now (S.received sink.old) (S.received sink.new)) }
+    ensures refused { IfErr result (IsTranscodeFault read.now write.now input.now
+        (sink_view (S.received sink.old) (S.faults sink.old) (S.wants sink.old))
+        (sink_view (S.received sink.new) (S.faults sink.new) (S.wants sink.new))) }
+    ensures later { S.faults sink.old ≤ S.faults sink.new }
+    ensures later_wants { S.wants sink.old ≤ S.wants sink.new }
+{
+    let printed = print_valid(rt, alloc, input, read, write)?;
+    let workers = worker_count(read.n_threads);
+    match write_behind(rt, alloc, workers, &printed.lines, printed.rest.columns(), write, sink) {
+        Ok(()) => Ok(()),
+        Err(SinkFault::Device) => Err(PolarsError::IO),
+        Err(SinkFault::OutOfMemory) => Err(PolarsError::OutOfMemory),
+    }
+}

@@ -7,7 +7,6 @@ ghost use Rattle.pl_read.specs.NextFrames.{CanReadPart};
 ghost use Rattle.pl_write.specs.Options.{cell_options};
 ghost use Rattle.pl_csv.specs.Converting.{IsFrontPrinted, IsRegionPrinted, AreRegionsPrinted, AreUnread, region_texts, lines_of};
 
-use memchr::memchr_iter;
 use pl_board::cutting::piece_end;
 use pl_frame::schema::Schema;
 use pl_rows::plan::RangePlan;
@@ -157,7 +156,7 @@ const LOOK: usize = 1 << 20;
 // Whether bytes have an odd number of quotes.
 fn is_odd(bytes: &[u8], quote_char: Option<u8>) -> bool {
     match quote_char {
-        Some(quote) => memchr_iter(quote, bytes).count() % 2 == 1,
+        Some(quote) => CountLines::new(None, quote).count(bytes).0 % 2 == 1,
         None => false,
     }
 }

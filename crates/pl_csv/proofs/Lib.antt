@@ -1,3 +1,4 @@
+pub mod ConvertLaws
 pub mod CountingLaws
 pub mod DueLaws
 pub mod FaultLaws
@@ -8,6 +9,7 @@ pub mod MakingLaws
 pub mod MatchingLaws
 pub mod OutcomeLaws
 pub mod ReturnLaws
+pub mod RegionLaws
 pub mod RunLaws
 pub mod TellLaws
 pub mod TranscodeLaws

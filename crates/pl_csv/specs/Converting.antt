@@ -1,9 +1,9 @@
 -- An input that is read and printed piece by piece (docs/architecture.md, "A conversion").
-use Rattle.std.specs.Prelude.{◌≡◌, ℕ, ◌≤◌, false, List, length, take, map, None}
+use Rattle.std.specs.Prelude.{◌≡◌, ℕ, ◌≤◌, false, List, [], length, take, map, None}
 use Rattle.std.specs.List.{flat_map, list_any, AllByRecursion}
-use Rattle.pl_frame.specs.Frame.{ColumnValue, height_of, names_of}
+use Rattle.pl_frame.specs.Frame.{ColumnValue, names_of}
 use Rattle.pl_frame.specs.Schema.{Entry}
-use Rattle.pl_frame.specs.Text.{WriteOptions, row_lines, text_of_frame}
+use Rattle.pl_frame.specs.Text.{WriteOptions, text_of_frame}
 use Rattle.pl_scan.specs.Dialect.{marks_of, comment_of}
 use Rattle.pl_cells.specs.InitBuffers.{entry_at}
 use Rattle.pl_infer.specs.declared.read_options.CsvReadOptions.{CsvReadOptions}
@@ -13,6 +13,7 @@ use Rattle.pl_rows.specs.WholePieces.{IsSoundText, text_frame}
 use Rattle.pl_table.specs.Rows.{rows}
 use Rattle.pl_read.specs.Options.{settled_schema}
 use Rattle.pl_read.specs.Projection.{projected}
+use Rattle.pl_write.specs.Batches.{all_lines}
 use Rattle.pl_write.specs.Options.{frame_options}
 use Rattle.pl_write.specs.Printed.{printed_text}
 use Rattle.pl_write.specs.declared.options.CsvWriterOptions.{CsvWriterOptions}
@@ -22,15 +23,11 @@ use Rattle.pl_csv.specs.declared.regions.Region.{Region}
 
 -- ---- a text that is read and printed apart
 
--- the lines of all rows of a text
-abbrev pub text_lines : RangePlan → List Entry → WriteOptions → List ℕ → List ℕ
-text_lines plan schema o text = row_lines o (text_frame plan schema text) 0 (height_of (text_frame plan schema text))
-
 -- a text ends where an item does, so many rows are in it, none of which has a fault, and these are their lines
 pub record IsTextPrinted (plan : RangePlan) (schema : List Entry) (o : WriteOptions) (text : List ℕ) (count : ℕ) (lines : List ℕ) : Type 0 where
   pub sound : IsSoundText plan schema text
   pub count_is : count ≡ length (rows (marks_of plan.dialect) (comment_of plan.dialect) text)
-  pub lines_are : lines ≡ text_lines plan schema o text
+  pub lines_are : lines ≡ all_lines o (text_frame plan schema text)
 
 -- the front of a text was printed: so many of its bytes
 pub record IsFrontPrinted (plan : RangePlan) (schema : List Entry) (o : WriteOptions) (text : List ℕ) (end count : ℕ) (lines : List ℕ) : Type 0 where
@@ -60,10 +57,6 @@ pub record IsUnread (region : Region) : Type 0 where
 -- of none of them
 abbrev pub AreUnread : List Region → Type 0
 AreUnread regions = AllByRecursion IsUnread regions
-
--- lines, one behind the other
-abbrev pub lines_of : List (Vec ℕ) → List ℕ
-lines_of lines = flat_map (λ line. line.items) lines
 
 -- ---- the read of an input that is printed
 

@@ -1,11 +1,12 @@
 //! Data cut into regions, one for each worker, whose rows are read and printed apart from one another.
-ghost use Rattle.std.specs.Prelude.{◌≡◌, ◌<◌, ◌≤◌, ℕ, [], None, All, IfOk, IfSome, length, slice_index_or};
+ghost use Rattle.std.specs.Prelude.{◌≡◌, ◌<◌, ◌≤◌, ℕ, [], None, All, IfOk, IfSome, length, map, slice_index_or};
 ghost use Rattle.std.specs.Bool.{OnTrue};
+ghost use Rattle.std.specs.List.{concat};
 ghost use Rattle.pl_frame.specs.Dialect.{IsDialect};
 ghost use Rattle.pl_scan.specs.Dialect.{marks_of, comment_of};
 ghost use Rattle.pl_read.specs.NextFrames.{CanReadPart};
 ghost use Rattle.pl_write.specs.Options.{cell_options};
-ghost use Rattle.pl_csv.specs.Converting.{IsFrontPrinted, IsRegionPrinted, AreRegionsPrinted, AreUnread, region_texts, lines_of};
+ghost use Rattle.pl_csv.specs.Converting.{IsFrontPrinted, IsRegionPrinted, AreRegionsPrinted, AreUnread, region_texts};
 
 use pl_board::cutting::piece_end;
 use pl_frame::schema::Schema;
@@ -275,7 +276,7 @@ pub(crate) fn front_of(
     requires dialect { IsDialect (marks_of plan.now.dialect) (comment_of plan.now.dialect) }
     requires whole { region_texts regions.items ≡ records.now }
     requires printed { AreRegionsPrinted plan.now schema.now (cell_options options.now) regions.items }
-    ensures { IfOk result (λ front. IsFrontPrinted plan.now schema.now (cell_options options.now) records.now front.end front.rows (lines_of front.lines.items)) }
+    ensures { IfOk result (λ front. IsFrontPrinted plan.now schema.now (cell_options options.now) records.now front.end front.rows (concat (map (λ lines. lines.items) front.lines.items))) }
 {
     let mut front = Front {
         end: 0,

@@ -1,10 +1,10 @@
 -- The text of a frame whose first rows were printed before.
-use Rattle.std.proofs.Common.{◌≡◌, List, [], ◌∷◌, ◌++◌, sym, ◌∙◌, ap, append_assoc, append-nil}
+use Rattle.std.proofs.Common.{◌≡◌, ℕ, List, [], ◌∷◌, ◌++◌, refl, sym, ◌∙◌, ap, append_assoc, append-nil}
 use Rattle.std.specs.List.{concat}
 use Rattle.std.proofs.lemmas.List.Folds.{concat-append}
 use Rattle.pl_frame.specs.Frame.{ColumnValue, HaveHeight, height_of, names_of}
 use Rattle.pl_frame.specs.FrameParts.{HaveSameColumns, schema_of, stacked}
-use Rattle.pl_frame.specs.Text.{WriteOptions, head_text, row_lines, text_of_frame}
+use Rattle.pl_frame.specs.Text.{WriteOptions, head_text, text_of_frame}
 use Rattle.pl_write.specs.Batches.{all_lines}
 use Rattle.pl_write.specs.Options.{cell_options, frame_options}
 use Rattle.pl_write.specs.Printed.{printed_text}

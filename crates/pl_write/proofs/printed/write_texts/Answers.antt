@@ -1,4 +1,4 @@
-use Rattle.std.proofs.Common.{◌+◌, List, ℕ, [], map, take, drop, sym, ◌∙◌, ap, subst, arith}
+use Rattle.std.proofs.Common.{◌+◌, [], ◌++◌, map, take, drop, sym, ◌∙◌, ap, subst, arith}
 use Rattle.std.specs.Io.KnownBytes.{Appends}
 use Rattle.std.specs.List.{concat}
 use Rattle.pl_write.proofs.PrintLaws.{concat-next}
@@ -18,7 +18,7 @@ returns-in-Err-clause-prefix g c =
     let step = concat-next (λ text. text.items) texts i text c.loop-text-test.true ∙ ap (λ text. text.items ++ rest) (sym c.text-item.is) in
     let more = IsWriting-more old now [] text.items (concat (map (λ text. text.items) (drop i texts))) rest all c.loop-text.invariant.writing step in
     let n = c.write_all.ensures.prefix.0 in
-    IsWriting-part old now next text.items rest all n more (subst (λ l. Appends now next (take n l)) c.as_slice.ensures c.write_all.ensures.prefix.1)
+    IsWriting-part old now next text.items rest all n more (subst (λ l. Appends now next (take n l)) c.as_slice.ensures.value c.write_all.ensures.prefix.1)
 
 pub loop-text-preserved : goal.loop-text-preserved
 loop-text-preserved g c =
@@ -33,7 +33,7 @@ loop-text-preserved g c =
     let step = concat-next (λ text. text.items) texts i text c.loop-text-test.true ∙ ap (λ text. text.items ++ rest) (sym c.text-item.is) in
     let more = IsWriting-more old now [] text.items (concat (map (λ text. text.items) (drop i texts))) rest all c.loop-text.invariant.writing step in
     record {
-      writing = IsWriting-flushed old now next text.items rest all more (subst (λ l. Appends now next l) c.as_slice.ensures c.in-Ok.ensures.ok);
+      writing = IsWriting-flushed old now next text.items rest all more (subst (λ l. Appends now next l) c.as_slice.ensures.value c.in-Ok.ensures.ok);
       later = omega (arith, c.write_all.ensures.later, c.loop-text.invariant.later);
       later_wants = omega (arith, c.write_all.ensures.later_wants, c.loop-text.invariant.later_wants);
     }

@@ -76,7 +76,9 @@ impl Share {
         requires sources { HaveSources (cell_options options.now) columns.now sources.now }
         ensures { self.new.wanting ≡ false → self.new.text ≡ row_lines (cell_options options.now) columns.now self.old.first (self.old.end - self.old.first) }
     {
-        let printed = self.printer.print_between(columns, sources, self.first, self.end, options);
+        let printed = self
+            .printer
+            .print_between(columns, sources, self.first, self.end, options);
         self.wanting = printed.is_err();
     }
 }

@@ -51,15 +51,7 @@ fn write_in_parts<W: Abort + Threads + Sync, Si: Sink>(
         printed.push(lines).expect(rt, "lines");
     }
     let rest = frame.slice(2 * count, 60).expect(rt, "a part");
-    write_behind(
-        rt,
-        alloc,
-        workers,
-        &printed,
-        rest.columns(),
-        &options,
-        sink,
-    )
+    write_behind(rt, alloc, workers, &printed, rest.columns(), &options, sink)
 }
 
 #[test]

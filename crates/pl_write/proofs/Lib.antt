@@ -13,10 +13,11 @@ mod LineLaws
 mod PaddedLaws
 mod PointLaws
 pub mod PrintLaws
+pub mod PrintedLaws
 pub mod PutLaws
 pub mod SourceLaws
 mod SpecialLaws
-mod StackLaws
+pub mod StackLaws
 pub mod TimeLaws
 mod WordLaws
 pub mod WriteLaws

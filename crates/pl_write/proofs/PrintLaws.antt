@@ -1,7 +1,8 @@
 -- Rows that are printed in shares, and written one share behind the other.
-use Rattle.std.proofs.Common.{◌≡◌, ℕ, zero, suc, ◌+◌, ◌-◌, ◌<◌, ◌≤◌, false, List, [], ◌∷◌, ◌++◌, length, take, drop, get_or, refl, sym, ◌∙◌, ap, append_assoc, arith, ◌⊎◌, inl, inr}
+use Rattle.std.proofs.Common.{◌≡◌, ℕ, zero, suc, ◌+◌, ◌-◌, ◌<◌, ◌≤◌, false, List, [], ◌∷◌, ◌++◌, length, map, take, drop, get_or, refl, sym, ◌∙◌, ap, append_assoc, arith, ◌⊎◌, inl, inr}
 use Rattle.std.specs.Prelude.{Option, All}
 use Rattle.std.specs.Io.KnownBytes.{Appends}
+use Rattle.std.specs.List.{concat}
 use Rattle.std.proofs.lemmas.Grind.{flat_map-append}
 use Rattle.std.proofs.lemmas.List.{take-append-drop}
 use Rattle.std.proofs.lemmas.List.Elements.{All-nil, All-cons, All-head, All-tail}
@@ -91,3 +92,11 @@ texts-push shares share none here =
     flat_map-append (λ (s : ShareValue). s.text) shares (share ∷ [])
     ∙ ap (λ l. l ++ texts_of (share ∷ [])) none
     ∙ ap (λ text. text ++ []) here
+
+-- a text, and those behind it
+pub concat-next : {X : Type 0} (text : X → List ℕ) (xs : List X) (i : ℕ) (d : X) → i < length xs → concat (map text (drop i xs)) ≡ text (get_or xs i d) ++ concat (map text (drop (i + 1) xs))
+concat-next text [] i d inside = absurd (omega (arith, inside))
+concat-next text (x ∷ xs) zero d inside = refl
+concat-next text (x ∷ xs) (suc i) d inside =
+    let behind : suc (i + 1) ≡ suc i + 1 = omega arith in
+    concat-next text xs i d (omega (arith, inside)) ∙ ap (λ k. text (get_or xs i d) ++ concat (map text (drop k (x ∷ xs)))) behind

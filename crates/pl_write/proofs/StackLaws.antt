@@ -71,7 +71,8 @@ lines-alike o a b i k (suc count) each =
     ∙ ap (row_line o b) (let same : k + suc n ≡ k + 1 + n = omega arith in same)) in
     λ j. here j ++ rest j
 
-height-stacked : (columns others : List ColumnValue) → HaveSameColumns columns others → height_of (stacked columns others) ≡ height_of columns + height_of others
+-- their heights add up
+pub height-stacked : (columns others : List ColumnValue) → HaveSameColumns columns others → height_of (stacked columns others) ≡ height_of columns + height_of others
 height-stacked [] [] same = refl
 height-stacked [] (x ∷ xs) same = absurd (cc)
 height-stacked (c ∷ cs) [] same = absurd (cc)
@@ -83,7 +84,7 @@ heights-stacked n m (c ∷ cs) [] h k = tt
 heights-stacked n m (c ∷ cs) (x ∷ xs) h k = (length-append c.values x.values ∙ (λ j. h.0 j + k.0 j), heights-stacked n m cs xs h.1 k.1)
 
 -- they have one height
-level-stacked : (columns others : List ColumnValue) → HaveSameColumns columns others → HaveHeight (height_of columns) columns → HaveHeight (height_of others) others
+pub level-stacked : (columns others : List ColumnValue) → HaveSameColumns columns others → HaveHeight (height_of columns) columns → HaveHeight (height_of others) others
     → HaveHeight (height_of (stacked columns others)) (stacked columns others)
 level-stacked columns others same h k =
     subst (λ n. HaveHeight n (stacked columns others)) (sym (height-stacked columns others same)) (heights-stacked (height_of columns) (height_of others) columns others h k)

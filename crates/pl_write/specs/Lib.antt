@@ -5,6 +5,7 @@ pub mod CellsLeft
 pub mod JoinedBatches
 pub mod Lines
 pub mod Options
+pub mod Printed
 pub mod Printing
 pub mod Serializing
 pub mod Special

@@ -147,8 +147,8 @@ pub(crate) fn push_cell(
     push_value(block, scratch, column, form, row, options)
 }
 
-// The number of rows.
-fn row_count(columns: &[Column]) -> usize
+/// The number of rows.
+pub(crate) fn row_count(columns: &[Column]) -> usize
     ensures { result ≡ height_of columns.now }
 {
     match columns {

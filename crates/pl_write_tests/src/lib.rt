@@ -8,7 +8,11 @@ mod csv_writer;
 #[cfg(test)]
 mod given;
 #[cfg(test)]
+mod given_rows;
+#[cfg(test)]
 mod options;
+#[cfg(test)]
+mod printed;
 #[cfg(test)]
 mod serializer;
 #[cfg(test)]

@@ -3,7 +3,7 @@ use Rattle.std.proofs.lemmas.List.{length-take-le}
 use Rattle.pl_frame.specs.Text.{row_lines}
 use Rattle.pl_write.specs.Options.{cell_options}
 use Rattle.pl_write.proofs.WriteLaws.{row_lines-step}
-use Rattle.pl_write.proofs.share.append_between.Goals as goal
+use Rattle.pl_write.proofs.row_printer.append_between.Goals as goal
 
 pub loop-row-preserved : goal.loop-row-preserved
 loop-row-preserved c =

@@ -1,7 +1,7 @@
 use Rattle.std.proofs.Common.{◌≡◌, ◌<◌, ◌-◌, ◌++◌, length}
 use Rattle.pl_frame.specs.Text.{row_lines}
 use Rattle.pl_write.specs.Options.{cell_options}
-use Rattle.pl_write.proofs.share.append_between.Given as goal
+use Rattle.pl_write.proofs.row_printer.append_between.Given as goal
 
 abbrev pub invariant-loop-row : goal.invariant-loop-row
 invariant-loop-row l = record {

@@ -88,7 +88,7 @@ closed-judged plan (row ∷ others) none = by (have_open_end (marks_of plan.dial
         (ap (λ t. plan.last || not t) e ∙ or_true plan.last, deeper (sym first ∙ none))
 
 -- a filter that passes all
-filter-all : {X : Type 0} (p : X → Bool) (xs : List X) → list_any (λ x. not (p x)) xs ≡ false → filter p xs ≡ xs
+pub filter-all : {X : Type 0} (p : X → Bool) (xs : List X) → list_any (λ x. not (p x)) xs ≡ false → filter p xs ≡ xs
 filter-all p [] none = refl
 filter-all p (x ∷ xs) none = by (p x) refl (λ e. filter-all p xs e)
   where

@@ -1,7 +1,9 @@
 -- Texts that end where an item does, one behind the other.
-use Rattle.std.proofs.Common.{◌≡◌, ℕ, ◌+◌, ◌<◌, ◌≤◌, ◌^◌, Bool, true, false, not, List, [], ◌∷◌, ◌++◌, map, length, refl, sym, ◌∙◌, ap, subst, arith, length-append}
+use Rattle.std.proofs.Common.{◌≡◌, ℕ, ◌+◌, ◌<◌, ◌≤◌, ◌^◌, Bool, true, false, not, ◌&&◌, ◌==◌, List, [], ◌∷◌, ◌++◌, map, length, refl, sym, ◌∙◌, ap, subst, arith, length-append}
 use Rattle.std.specs.Prelude.{Option, None, Some}
 use Rattle.std.specs.List.{last_or, list_any, AllByRecursion}
+use Rattle.std.specs.Option.{option_map_or}
+use Rattle.std.proofs.lemmas.Bool.Decides.{nat_tests}
 use Rattle.std.proofs.lemmas.List.{map-append}
 use Rattle.pl_frame.specs.Dialect.{Marks, AreDistinct, IsCommentPrefix, IsDialect}
 use Rattle.pl_frame.specs.Frame.{Scalar, ColumnValue, HaveHeight}
@@ -22,7 +24,7 @@ use Rattle.pl_rows.specs.declared.range.RangeEnd.TheVariants as end
 use Rattle.pl_rows.specs.declared.whole_pieces.PieceFrame.{PieceFrame}
 use Rattle.pl_rows.specs.Cells.{RowRules}
 use Rattle.pl_rows.specs.Columns.{read_column, entries_in, columns_in, columns_of, frame_of_rows, with_columns}
-use Rattle.pl_rows.specs.Pieces.{EndsItem, left_limit, plan_behind, end_behind, IsRowFit, HasReadPiece}
+use Rattle.pl_rows.specs.Pieces.{EndsItem, is_ended, ends_item, is_closed, left_limit, plan_behind, end_behind, IsRowFit, HasReadPiece}
 use Rattle.pl_rows.specs.Plan.{Columns, rules_of, plan_columns}
 use Rattle.pl_rows.specs.Ranges.{limited, rows_of, is_judged, judged_rows, has_unjudged, end_of, range_end, rows_read, sound_rows, range_frame}
 use Rattle.pl_rows.specs.Rows.{first_fault, first_faulty}
@@ -31,9 +33,9 @@ use Rattle.pl_table.specs.Rows.{Row, rows}
 use Rattle.pl_table.proofs.PieceLaws.{rows-append}
 use Rattle.pl_rows.proofs.BlockLaws.{sound-front, faulty-front}
 use Rattle.pl_rows.proofs.FrameLaws.{columns_of-rows, have_height, plan_columns-empty}
-use Rattle.pl_rows.proofs.OpenLaws.{unjudged-last}
-use Rattle.pl_rows.proofs.PieceLaws.{faulty-behind, few_filtered, few_limited, IsInside, faulty-inside}
-use Rattle.pl_rows.proofs.RangeLaws.{rows-nil, few_rows, left_below-start}
+use Rattle.pl_rows.proofs.OpenLaws.{open_rows, unjudged, unjudged-open, unjudged-last}
+use Rattle.pl_rows.proofs.PieceLaws.{filter-all, faulty-behind, few_filtered, few_limited, IsInside, faulty-inside}
+use Rattle.pl_rows.proofs.RangeLaws.{rows-nil, few_rows, left_below-start, first_faulty-more}
 use Rattle.pl_rows.proofs.WholeLaws.{judged-last}
 
 -- ---- texts that end where an item does
@@ -234,3 +236,52 @@ IsPieceFrame-read plan schema text before now n read is width all found columns_
           ∙ columns_of-rows rules given schema places;
       count = count ∙ found.count ∙ ap length same;
     }
+
+-- ---- a piece that was not closed is no sound text
+
+none-faulty : (rules : RowRules) (columns : Columns) (k : ℕ) (given : List Row) → AllByRecursion (λ row. first_fault rules columns row ≡ None) given → first_faulty rules columns k given ≡ None
+none-faulty rules columns k [] all = refl
+none-faulty rules columns k (row ∷ others) all = first_faulty-more rules columns k row others all.0 ∙ none-faulty rules columns (k + 1) others all.1
+
+-- the test of a text's end passes where it ends where an item does
+passes-both : (a b : Bool) → a ≡ true → b ≡ false → (a && not b) ≡ true
+passes-both true true x y = absurd (cc)
+passes-both true false x y = refl
+passes-both false b x y = absurd (cc)
+
+is_ended-so : (e : ℕ) (text : List ℕ) → IsEnded e text → is_ended e text ≡ true
+is_ended-so e [] ended = refl
+is_ended-so e (x ∷ xs) ended =
+    let same : (e == e) ≡ true = grind (arith, nat_tests) in
+    ap (λ o. option_map_or (λ (k : ℕ). k == e) o true) ended ∙ same
+
+ends_item-so : (dialect : Dialect) (text : List ℕ) → EndsItem dialect text → ends_item dialect text ≡ true
+ends_item-so dialect text ends =
+    passes-both (is_ended dialect.eol_char text) (ends_open (marks_of dialect) (comment_of dialect) text) (is_ended-so dialect.eol_char text ends.ended) ends.closed
+
+-- a sound text is read to its end, also as a range that is not the last one
+sound-closed : (plan : RangePlan) (schema : List Entry) (text : List ℕ) → AreDistinct (marks_of plan.dialect) → plan.limit ≡ None → IsSoundText plan schema text
+    → range_end (plan_behind plan 0 false) (columns_in schema plan.projection.places.now) text ≡ end.Closed
+sound-closed plan schema text apart all sound =
+    let p = plan_behind plan 0 false in
+    let rules = rules_of plan in
+    let m = marks_of plan.dialect in
+    let columns = columns_in schema plan.projection.places.now in
+    let given = rows m (comment_of plan.dialect) text in
+    let same : rows_of p text ≡ given = ap (λ limit. limited (left_limit limit 0) given) all in
+    let none : has_unjudged p text ≡ false =
+    ap (list_any (unjudged false m)) same ∙ unjudged-open m given ∙ sym (open_rows m (comment_of plan.dialect) text apart) ∙ sound.ends.closed in
+    let judged : judged_rows p text ≡ given = filter-all (is_judged p) (rows_of p text) none ∙ same in
+    ap (λ rs. end_of (first_faulty rules columns 0 rs) (has_unjudged p text)) judged
+    ∙ ap (λ f. end_of f (has_unjudged p text)) (none-faulty rules columns 0 given sound.sound)
+    ∙ ap (end_of None) none
+
+pub not-sound : (plan : RangePlan) (schema : List Entry) (text : List ℕ) (before : List BufferValue) (closed : Bool) → AreDistinct (marks_of plan.dialect)
+    → before ≡ empty_buffers plan.dialect.quote_char plan.options.encoding schema plan.projection.places.now → plan.projection.width ≡ length schema → plan.limit ≡ None
+    → closed ≡ (is_closed (range_end (plan_behind plan 0 false) (plan_columns (plan_behind plan 0 false) before) text) && ends_item plan.dialect text) → closed ≡ false → IsSoundText plan schema text → ⊥
+not-sound plan schema text before closed apart is width all told shut sound =
+    let p = plan_behind plan 0 false in
+    let ends : range_end p (plan_columns p before) text ≡ end.Closed =
+    ap (λ columns. range_end p columns text) (plan_columns-empty plan schema before is width) ∙ sound-closed plan schema text apart all sound in
+    let passes : closed ≡ true = told ∙ ap (λ e. is_closed e && ends_item plan.dialect text) ends ∙ ends_item-so plan.dialect text sound.ends in
+    cc

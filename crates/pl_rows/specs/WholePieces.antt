@@ -1,5 +1,5 @@
 -- Pieces that end where an item does, read into columns of their own (docs/pieces.md, "Whole pieces").
-use Rattle.std.specs.Prelude.{◌≡◌, ℕ, List, length, None}
+use Rattle.std.specs.Prelude.{◌≡◌, ℕ, List, length, Option, None, Some}
 use Rattle.std.specs.List.{AllByRecursion}
 use Rattle.pl_frame.specs.Frame.{ColumnValue}
 use Rattle.pl_frame.specs.Schema.{Entry}
@@ -26,3 +26,8 @@ pub record IsPieceFrame (plan : RangePlan) (schema : List Entry) (text : List �
   pub sound : IsSoundText plan schema text
   pub columns_are : read.columns.items ≡ text_frame plan schema text
   pub count : read.rows ≡ length (rows (marks_of plan.dialect) (comment_of plan.dialect) text)
+
+-- what came of a piece: nothing, where it is no sound text
+abbrev pub IsPieceFound : RangePlan → List Entry → List ℕ → Option PieceFrame → Type 0
+IsPieceFound plan schema text None = IsSoundText plan schema text → ⊥
+IsPieceFound plan schema text (Some read) = IsPieceFrame plan schema text read

@@ -1,11 +1,11 @@
 //! Pieces that end where an item does, each read into columns of its own.
-ghost use Rattle.std.specs.Prelude.{◌≡◌, ℕ, None, IfOk, IfSome, length};
+ghost use Rattle.std.specs.Prelude.{◌≡◌, ℕ, None, IfOk, length};
 ghost use Rattle.pl_frame.specs.Dialect.{AreDistinct};
 ghost use Rattle.pl_scan.specs.Dialect.{marks_of};
 ghost use Rattle.pl_cells.specs.InitBuffers.{first_unreadable};
 ghost use Rattle.pl_cells.specs.NullValues.{HaveTexts};
 ghost use Rattle.pl_rows.specs.Plan.{AreRising};
-ghost use Rattle.pl_rows.specs.WholePieces.{IsPieceFrame};
+ghost use Rattle.pl_rows.specs.WholePieces.{IsPieceFound};
 
 use crate::apart::roomy_buffers;
 use crate::columns::into_columns;
@@ -23,8 +23,8 @@ pub struct PieceFrame {
     pub rows: usize,
 }
 
-/// Reads a piece into columns of its own: none where it does not end where an item does, or a row of it has a fault. Refuses
-/// only want of memory.
+/// Reads a piece into columns of its own: none exactly where it does not end where an item does, or a row of it has a fault.
+/// Refuses only want of memory.
 pub fn read_piece_frame(
     alloc: Global,
     schema: &Schema,
@@ -37,7 +37,7 @@ pub fn read_piece_frame(
     requires readable { first_unreadable schema.now plan.now.projection.places.now ≡ None }
     requires texts { HaveTexts plan.now.options.null_values (length schema.now) }
     requires unlimited { plan.now.limit ≡ None }
-    ensures { IfOk result (λ found. IfSome found (IsPieceFrame plan.now schema.now piece.now)) }
+    ensures { IfOk result (IsPieceFound plan.now schema.now piece.now) }
 {
     let mut buffers = roomy_buffers(alloc, schema, piece, plan)?;
     let plan = plan_behind(plan, 0, false);

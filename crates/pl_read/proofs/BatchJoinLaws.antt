@@ -2,7 +2,7 @@
 use Rattle.std.proofs.Common.{◌≡◌, ℕ, ◌+◌, ◌-◌, ◌<◌, Bool, true, false, ◌||◌, ◌==◌, List, [], ◌∷◌, ◌++◌, map, length, take, drop, refl, sym, ◌∙◌, ap, subst, inl, inr, arith, append_assoc, append-nil, length-append}
 use Rattle.std.specs.Prelude.{◌⊎◌, Option, None, Some, pos, unwrap_or}
 use Rattle.std.proofs.lemmas.Bool.Decides.{nat_tests}
-use Rattle.std.proofs.lemmas.List.{append_cancel_right, length-take-le, take-append-drop, map-append}
+use Rattle.std.proofs.lemmas.List.{append_cancel_right, length-take-le, take-append-drop}
 use Rattle.pl_frame.specs.Dialect.{IsDialect}
 use Rattle.pl_frame.specs.declared.data_type.DataType.TheVariants as dtype
 use Rattle.pl_frame.specs.Frame.{Scalar, Number, ColumnValue}
@@ -18,7 +18,7 @@ use Rattle.pl_infer.specs.declared.row_index.RowIndex.{RowIndex}
 use Rattle.pl_infer.specs.Causes.{IsFirstCause, Tells, first_some}
 use Rattle.pl_infer.specs.Text.{marks_of, comment_of}
 use Rattle.pl_rows.specs.Cells.{RowRules}
-use Rattle.pl_rows.specs.Columns.{read_column, entries_in, frame_of_rows}
+use Rattle.pl_rows.specs.Columns.{entries_in, frame_of_rows}
 use Rattle.pl_rows.specs.Pieces.{left_limit}
 use Rattle.pl_rows.specs.Ranges.{limited}
 use Rattle.pl_table.specs.Rows.{Row, rows}
@@ -27,18 +27,10 @@ use Rattle.pl_read.specs.Batches.{Batches, EndsAtItem, StandsInData, rows_behind
 use Rattle.pl_read.specs.Options.{data_of, rules_of, settled_schema}
 use Rattle.pl_read.specs.Projection.{projected}
 use Rattle.pl_read.specs.Rows.{rows_in, with_index}
+use Rattle.pl_rows.proofs.SoundTextLaws.{columns-stacked}
 use Rattle.pl_read.proofs.BatchLaws.{rows_in-behind, rows_in-nil, StandsInData-fresh}
 
 -- ---- frames of rows, one behind the other
-
--- the columns
-columns-stacked : (rules : RowRules) (columns : List (ℕ × Entry)) (xs ys : List Row) → stacked (frame_of_rows rules columns xs) (frame_of_rows rules columns ys) ≡ frame_of_rows rules columns (xs ++ ys)
-columns-stacked rules [] xs ys = refl
-columns-stacked rules (column ∷ columns) xs ys =
-    let name : List ℕ = column.1.0 in
-    ap (λ (values : List (Option Scalar)). record { name = column.1.0; dtype = column.1.1; values = values } ∷ stacked (frame_of_rows rules columns xs) (frame_of_rows rules columns ys))
-    (sym (map-append _ xs ys))
-    ∙ ap (λ (others : List ColumnValue). read_column rules (xs ++ ys) column ∷ others) (columns-stacked rules columns xs ys)
 
 -- the numbers of the rows
 numbers-stacked : (offset : ℕ) (xs ys : List Row) → row_numbers offset (length xs) ++ row_numbers (offset + length xs) (length ys) ≡ row_numbers offset (length (xs ++ ys))

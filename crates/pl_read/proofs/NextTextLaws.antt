@@ -3,9 +3,7 @@ use Rattle.std.proofs.Common.{◌≡◌, ℕ, zero, suc, ◌+◌, ◌-◌, ◌<�
 use Rattle.std.specs.Prelude.{Option, None, Some, filter}
 use Rattle.std.specs.List.{range_with_len, last_or}
 use Rattle.std.proofs.lemmas.Option.{none-some, same_Some}
-use Rattle.pl_frame.specs.Dialect.{Marks, AreDistinct, IsCommentPrefix}
 use Rattle.pl_scan.specs.Closing.{is_open_item, ends_open}
-use Rattle.pl_scan.specs.Items.{items}
 use Rattle.pl_scan.proofs.ItemLaws.{items-nil}
 use Rattle.std.proofs.lemmas.List.{take_all, drop_all, drop-drop}
 use Rattle.std.specs.Option.{option_map_or}
@@ -16,27 +14,7 @@ use Rattle.pl_infer.specs.Text.{marks_of, comment_of}
 use Rattle.pl_read.specs.Batches.{EndsAtItem, pieces_length, pieces_close, batch_text}
 use Rattle.pl_scan.specs.Laws.{IsEnded}
 use Rattle.pl_scan.specs.LineEnds.{begins_end, is_even_end, even_ends, cut_size}
-use Rattle.pl_scan.proofs.AppendLaws.{closing_items}
-
--- ---- two texts that end where an item does
-
-last-append : {X : Type 0} (o : Option X) (a b : List X) → last_or o (a ++ b) ≡ last_or (last_or o a) b
-last-append o [] b = refl
-last-append o (x ∷ a) b = last-append (Some x) a b
-
-pub ended-append : (e : ℕ) (a b : List ℕ) → IsEnded e a → IsEnded e b → IsEnded e (a ++ b)
-ended-append e a b first second = last-append (Some e) a b ∙ ap (λ o. last_or o b) first ∙ second
-
-last-either : {X : Type 0} (f : Option X → Bool) (o p : Option X) (xs : List X) → f o ≡ false → f (last_or p xs) ≡ false → f (last_or o xs) ≡ false
-last-either f o p [] first second = first
-last-either f o p (x ∷ xs) first second = second
-
-pub closed-append : (m : Marks) (comment : Option (List ℕ)) (a b : List ℕ) → AreDistinct m → IsCommentPrefix m.line_end comment → IsEnded m.line_end a → ends_open m comment a ≡ false → ends_open m comment b ≡ false
-    → ends_open m comment (a ++ b) ≡ false
-closed-append m comment a b distinct free ended first second =
-    ap (λ l. is_open_item m (last_or None l)) (closing_items m comment a b distinct free ended first)
-    ∙ ap (is_open_item m) (last-append None (items m comment a) (items m comment b))
-    ∙ last-either (is_open_item m) (last_or None (items m comment a)) None (items m comment b) first second
+use Rattle.pl_rows.proofs.SoundTextLaws.{ended-append, closed-append}
 
 -- ---- the last line end behind an even number of quotes
 

@@ -183,12 +183,12 @@ any-front : {X : Type 0} (p : X → Bool) (xs others : List X) → AllByRecursio
 any-front p [] others all = refl
 any-front p (x ∷ xs) others all = ap (λ t. not t || list_any (λ y. not (p y)) (xs ++ others)) all.0 ∙ any-front p xs others all.1
 
-sound-front : (rules : RowRules) (columns : Columns) (given others : List Row) → AllByRecursion (λ row. first_fault rules columns row ≡ None) given
+pub sound-front : (rules : RowRules) (columns : Columns) (given others : List Row) → AllByRecursion (λ row. first_fault rules columns row ≡ None) given
     → sound_rows rules columns (given ++ others) ≡ given ++ sound_rows rules columns others
 sound-front rules columns [] others all = refl
 sound-front rules columns (row ∷ given) others all = sound_rows-more rules columns row (given ++ others) all.0 ∙ ap (λ l. row ∷ l) (sound-front rules columns given others all.1)
 
-faulty-front : (rules : RowRules) (columns : Columns) (n : ℕ) (given others : List Row) → AllByRecursion (λ row. first_fault rules columns row ≡ None) given
+pub faulty-front : (rules : RowRules) (columns : Columns) (n : ℕ) (given others : List Row) → AllByRecursion (λ row. first_fault rules columns row ≡ None) given
     → first_faulty rules columns n (given ++ others) ≡ first_faulty rules columns (n + length given) others
 faulty-front rules columns n [] others all = let same : n ≡ n + 0 = omega arith in ap (λ k. first_faulty rules columns k others) same
 faulty-front rules columns n (row ∷ given) others all =

@@ -47,7 +47,7 @@ length-empty_buffers rules schema [] = refl
 length-empty_buffers rules schema (place ∷ places) = omega (arith, length-empty_buffers rules schema places)
 
 -- each column has as many cells as there are rows
-have_height : (rules : RowRules) (given : List Row) (columns : List (ℕ × Entry)) → HaveHeight (length given) (frame_of_rows rules columns given)
+pub have_height : (rules : RowRules) (given : List Row) (columns : List (ℕ × Entry)) → HaveHeight (length given) (frame_of_rows rules columns given)
 have_height rules given [] = tt
 have_height rules given (column ∷ others) =
     (length-map given (λ (row : Row). value_of (cell rules column.0 column.1.1 (field_at row.fields column.0))), have_height rules given others)

@@ -11,3 +11,4 @@ pub mod WholeLaws
 pub mod BlockLaws
 pub mod PieceLaws
 pub mod JoinLaws
+pub mod SoundTextLaws

@@ -105,7 +105,7 @@ twice : (t : Bool) → not (not t) ≡ t
 twice true = refl
 twice false = refl
 
-unjudged-last : (m : Marks) (given : List Row) → list_any (unjudged true m) given ≡ false
+pub unjudged-last : (m : Marks) (given : List Row) → list_any (unjudged true m) given ≡ false
 unjudged-last m [] = refl
 unjudged-last m (row ∷ others) = unjudged-last m others
 

@@ -88,7 +88,7 @@ closed-judged plan (row ∷ others) none = by (have_open_end (marks_of plan.dial
         (ap (λ t. plan.last || not t) e ∙ or_true plan.last, deeper (sym first ∙ none))
 
 -- a filter that passes all
-filter-all : {X : Type 0} (p : X → Bool) (xs : List X) → list_any (λ x. not (p x)) xs ≡ false → filter p xs ≡ xs
+pub filter-all : {X : Type 0} (p : X → Bool) (xs : List X) → list_any (λ x. not (p x)) xs ≡ false → filter p xs ≡ xs
 filter-all p [] none = refl
 filter-all p (x ∷ xs) none = by (p x) refl (λ e. filter-all p xs e)
   where
@@ -248,7 +248,7 @@ piece-front range setup log piece end bytes_are reached_is is some =
 -- ---- what is left, read as one range
 
 -- the first faulty row, counted from a number on
-faulty-behind : (rules : RowRules) (columns : Columns) (n k : ℕ) (given : List Row) (u : Bool)
+pub faulty-behind : (rules : RowRules) (columns : Columns) (n k : ℕ) (given : List Row) (u : Bool)
     → end_of (first_faulty rules columns (n + k) given) u ≡ end_behind n (end_of (first_faulty rules columns k given) u)
 faulty-behind rules columns n k [] true = refl
 faulty-behind rules columns n k [] false = refl
@@ -307,7 +307,7 @@ HasReadRows-rest plan p range before now after left rest n given can read p_is r
 
 -- ---- the number of a faulty row
 
-few_filtered : {X : Type 0} (p : X → Bool) (xs : List X) → length (filter p xs) ≤ length xs
+pub few_filtered : {X : Type 0} (p : X → Bool) (xs : List X) → length (filter p xs) ≤ length xs
 few_filtered p [] = omega arith
 few_filtered p (x ∷ xs) = by (p x) refl (few_filtered p xs)
   where
@@ -315,7 +315,7 @@ few_filtered p (x ∷ xs) = by (p x) refl (few_filtered p xs)
     by true e deeper = omega (arith, ap length (filter-kept p x xs e))
     by false e deeper = omega (arith, ap length (filter-left_out p x xs e))
 
-few_limited : {X : Type 0} (limit : Option ℕ) (n : ℕ) (xs : List X) → length (left_below limit n xs) ≤ length xs
+pub few_limited : {X : Type 0} (limit : Option ℕ) (n : ℕ) (xs : List X) → length (left_below limit n xs) ≤ length xs
 few_limited None n xs = omega arith
 few_limited (Some most) n xs = elim (cases_lt (length xs) (most - n)) [
   | inl few ↦ omega (arith, ap length (take_all (most - n) xs (omega arith)))
@@ -323,12 +323,12 @@ few_limited (Some most) n xs = elim (cases_lt (length xs) (most - n)) [
 ]
 
 -- a fault is that of a row
-abbrev IsInside : ℕ → ℕ → RangeEnd → Type 0
+abbrev pub IsInside : ℕ → ℕ → RangeEnd → Type 0
 IsInside k count end.Closed = Unit {0}
 IsInside k count end.Open = Unit {0}
 IsInside k count (end.Fault row column kind) = row < k + count
 
-faulty-inside : (rules : RowRules) (columns : Columns) (k : ℕ) (given : List Row) (u : Bool) → IsInside k (length given) (end_of (first_faulty rules columns k given) u)
+pub faulty-inside : (rules : RowRules) (columns : Columns) (k : ℕ) (given : List Row) (u : Bool) → IsInside k (length given) (end_of (first_faulty rules columns k given) u)
 faulty-inside rules columns k [] true = tt
 faulty-inside rules columns k [] false = tt
 faulty-inside rules columns k (row ∷ others) u = by (first_fault rules columns row) refl (faulty-inside rules columns (k + 1) others u)

@@ -71,7 +71,7 @@ few_rows m comment distinct (suc n) (x ∷ b) few = by (is_comment comment (x �
 
 -- ---- the rows that are left below the limit
 
-left_below-start : {X : Type 0} (limit : Option ℕ) (xs : List X) → left_below limit 0 xs ≡ limited limit xs
+pub left_below-start : {X : Type 0} (limit : Option ℕ) (xs : List X) → left_below limit 0 xs ≡ limited limit xs
 left_below-start None xs = refl
 left_below-start (Some limit) xs = let same : limit - 0 ≡ limit = omega arith in ap (λ k. take k xs) same
 

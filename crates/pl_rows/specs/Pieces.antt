@@ -12,7 +12,8 @@ use Rattle.pl_rows.specs.declared.plan.RangePlan.{RangePlan}
 use Rattle.pl_rows.specs.declared.range.RangeEnd.{RangeEnd}
 use Rattle.pl_rows.specs.declared.range.RangeEnd.TheVariants as end
 use Rattle.pl_rows.specs.Blocks.{HaveAllRows}
-use Rattle.pl_rows.specs.Ranges.{rows_of, has_unjudged}
+use Rattle.pl_rows.specs.Plan.{plan_columns}
+use Rattle.pl_rows.specs.Ranges.{rows_of, has_unjudged, range_end}
 
 -- the text is empty, or this is its last byte
 abbrev pub is_ended : ℕ → List ℕ → Bool
@@ -64,8 +65,10 @@ pub record HasReadPiece (plan : RangePlan) (piece : List ℕ) (before now : List
   pub read : HaveAllRows plan (rows_of plan piece) before now
   pub count : n ≡ length (rows_of plan piece)
 
--- what was read of a piece: where it is not closed, the buffers are as they were
+-- what was read of a piece: it is closed exactly where it was read to its end and ends where an item does; where it is not, the
+-- buffers are as they were
 pub record IsPieceRead (plan : RangePlan) (piece : List ℕ) (before now : List BufferValue) (done : PieceDone) : Type 0 where
+  pub told : done.closed ≡ (is_closed (range_end plan (plan_columns plan before) piece) && ends_item plan.dialect piece)
   pub ends : done.closed ≡ true → EndsItem done.dialect piece
   pub read : done.closed ≡ true → HasReadPiece plan piece before now done.rows
   pub kept : done.closed ≡ false → now ≡ before

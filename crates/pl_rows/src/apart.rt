@@ -99,7 +99,7 @@ fn make_room(buffers: &mut [Buffer], cells: usize, bytes: usize) -> Result<(), A
 }
 
 // Empty buffers with room for what a piece is expected to have. Refuses only want of memory.
-fn roomy_buffers(
+pub(crate) fn roomy_buffers(
     alloc: Global,
     schema: &Schema,
     piece: &[u8],

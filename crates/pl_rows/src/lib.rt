@@ -13,3 +13,4 @@ pub mod plan;
 pub mod range;
 mod row;
 mod row_rest;
+pub mod whole_pieces;

@@ -205,8 +205,8 @@ pub struct PiecesRead {
     pub bytes: usize,
 }
 
-// Where a range ended whose rows stand behind so many others.
-pub(crate) fn end_behind(rows: usize, end: RangeEnd) -> RangeEnd
+/// Where a range ended whose rows stand behind so many others. Takes no memory.
+pub fn end_behind(rows: usize, end: RangeEnd) -> RangeEnd
     requires { IsRowFit rows end }
     ensures { result ≡ end_behind rows end }
 {

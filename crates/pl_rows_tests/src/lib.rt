@@ -7,3 +7,5 @@ mod given;
 mod pieces;
 #[cfg(test)]
 mod range;
+#[cfg(test)]
+mod whole_pieces;

@@ -1,8 +1,9 @@
-use Rattle.std.proofs.Common.{◌≡◌, ◌≤◌, true, false, length, sym, ◌∙◌, ap, subst, arith}
+use Rattle.std.proofs.Common.{◌≡◌, ◌≤◌, ◌&&◌, true, false, length, sym, ◌∙◌, ap, subst, arith}
 use Rattle.std.proofs.lemmas.List.{length-map}
 use Rattle.pl_rows.specs.Blocks.{HaveAllRows}
-use Rattle.pl_rows.specs.Plan.{states}
-use Rattle.pl_rows.specs.Ranges.{rows_of}
+use Rattle.pl_rows.specs.Pieces.{is_closed, ends_item}
+use Rattle.pl_rows.specs.Plan.{states, plan_columns}
+use Rattle.pl_rows.specs.Ranges.{rows_of, range_end}
 use Rattle.pl_rows.proofs.PieceLaws.{closed-whole, ends-told, HasReadRange-back}
 use Rattle.pl_rows.proofs.pieces.read_piece.Goals as goal
 use Rattle.pl_rows.proofs.pieces.read_piece.Goals.{then-not-closed, else-not-closed}
@@ -18,23 +19,27 @@ returns-clause-done c =
     let before = states c.args.buffers.now in
     let mid = states c.read_counted.new.buffers in
     let read = c.in-Ok.ensures.read in
+    let told : c.ends_item-closed.result ≡ (is_closed (range_end plan (plan_columns plan before) piece) && ends_item plan.dialect piece) =
+    c.ends_item-closed.ensures ∙ ap (λ e. is_closed e && ends_item plan.dialect piece) read.end_is in
     elim c.if-not-closed.branch [
       | then-not-closed w ↦
           let unclosed : c.ends_item-closed.result ≡ false = w.if-not-closed.true in
           let all : length mid ≤ length c.read_counted.new.buffers = simp length-map (omega arith) in
           record {
+            told = told;
             ends = λ e. absurd (cc);
             read = λ e. absurd (cc);
             kept = λ _. ap states w.buffers-is ∙ w.cut_back.ensures ∙ HasReadRange-back plan piece before mid c.in-Ok.read.end c.in-Ok.read.rows (length c.read_counted.new.buffers) c.requires.can read all;
           }
       | else-not-closed w ↦
           let shut : c.ends_item-closed.result ≡ true = w.if-not-closed.false in
-          let told = ends-told c.in-Ok.read.end plan.dialect piece (sym c.ends_item-closed.ensures ∙ shut) in
-          let whole = closed-whole plan piece before mid c.in-Ok.read.end c.in-Ok.read.rows read told.0 in
+          let parts = ends-told c.in-Ok.read.end plan.dialect piece (sym c.ends_item-closed.ensures ∙ shut) in
+          let whole = closed-whole plan piece before mid c.in-Ok.read.end c.in-Ok.read.rows read parts.0 in
           record {
-            ends = λ _. told.1;
+            told = told;
+            ends = λ _. parts.1;
             read = λ _. record {
-              ends = told.1;
+              ends = parts.1;
               read = subst (λ b. HaveAllRows plan (rows_of plan piece) before (states b)) (sym w.buffers-is) whole.1;
               count = whole.0.count;
             };

@@ -32,7 +32,6 @@ use Rattle.pl_rows.specs.declared.plan.RangePlan.{RangePlan}
 use Rattle.pl_rows.specs.declared.range.RangeEnd.{RangeEnd}
 use Rattle.pl_rows.specs.declared.range.RangeEnd.TheVariants as end
 use Rattle.pl_rows.proofs.SoundTextLaws.{range-behind, same-columns-range, row-fits}
-use Rattle.pl_read.specs.NextFrames.{CanReadPart}
 use Rattle.pl_read.specs.Options.{settled_schema}
 use Rattle.pl_read.specs.Projection.{projected}
 use Rattle.pl_read.specs.Reading.{frame_of}
@@ -48,10 +47,11 @@ use Rattle.pl_write.specs.Printed.{printed_text}
 use Rattle.pl_write.specs.Writing.{AppendsPrefix}
 use Rattle.pl_write.specs.declared.options.CsvWriterOptions.{CsvWriterOptions}
 use Rattle.pl_write.proofs.PrintedLaws.{lines-alone, printed-is-text}
-use Rattle.pl_csv.specs.Converting.{IsFrontPrinted, IsPlain, IsPrintedRead}
+use Rattle.pl_regions.specs.Regions.{CanPrint, IsFrontPrinted}
+use Rattle.pl_regions.proofs.RegionLaws.{level-text}
+use Rattle.pl_csv.specs.Converting.{IsPlain, IsPrintedRead}
 use Rattle.pl_csv.specs.Transcoding.{HasAsciiQuote, IsUnread, IsConverted, IsCutShort}
 use Rattle.pl_csv.specs.declared.convert.Printed.{Printed}
-use Rattle.pl_csv.proofs.RegionLaws.{level-text}
 use Rattle.pl_csv.proofs.TranscodeLaws.{unread-late, valid-read}
 
 -- ---- the plan
@@ -61,21 +61,22 @@ pub plan-dialect : (plan : RangePlan) (o : CsvReadOptions) (schema : List Entry)
 plan-dialect plan o schema records can =
     subst (λ m. IsDialect m (comment_of plan.dialect)) (sym can.plan_is.marks_are) (subst (IsDialect (infer.marks_of o.parse_options)) (sym can.plan_is.comment_is) can.dialect)
 
--- and texts of it can be read
-pub can-part : (plan : RangePlan) (o : CsvReadOptions) (schema : List Entry) (records : List ℕ) → CanReadData plan o schema records → CanReadPart plan schema
-can-part plan o schema records can =
+-- without a limit
+pub plan-unlimited : (plan : RangePlan) (o : CsvReadOptions) (schema : List Entry) → IsPlanOf plan o schema → IsPlain o schema → plan.limit ≡ None
+plan-unlimited plan o schema is plain = is.limit_is ∙ plain.unlimited
+
+-- and texts can be printed by it
+pub can-print : (plan : RangePlan) (o : CsvReadOptions) (schema : List Entry) (records : List ℕ) → CanReadData plan o schema records → IsPlain o schema → CanPrint plan schema
+can-print plan o schema records can plain =
     let is = can.plan_is in
     record {
-      apart = (plan-dialect plan o schema records can).distinct;
+      dialect = plan-dialect plan o schema records can;
       width = is.width_is;
       rising = subst (AreRising 0 (length schema)) (sym is.places_are) (projected-rises o schema);
       readable = readable-places schema plan.projection.places.now can.readable (projected-below o schema plan.projection.places.now is.places_are);
       texts = can.texts;
+      unlimited = plan-unlimited plan o schema is plain;
     }
-
--- without a limit
-pub plan-unlimited : (plan : RangePlan) (o : CsvReadOptions) (schema : List Entry) → IsPlanOf plan o schema → IsPlain o schema → plan.limit ≡ None
-plan-unlimited plan o schema is plain = is.limit_is ∙ plain.unlimited
 
 -- ---- no numbers
 

@@ -9,7 +9,6 @@ pub mod MakingLaws
 pub mod MatchingLaws
 pub mod OutcomeLaws
 pub mod ReturnLaws
-pub mod RegionLaws
 pub mod RunLaws
 pub mod TellLaws
 pub mod TranscodeLaws

@@ -19,7 +19,6 @@ ghost use Rattle.pl_csv.specs.Converting.{IsPlain, IsPrintedRead};
 ghost use Rattle.pl_csv.specs.Transcoding.{IsUnread, IsConverted, IsTranscodeFault};
 ghost use Rattle.pl_csv.specs.Views.{sink_view};
 
-use crate::regions::{cut_regions, front_of, print_regions};
 use pl_board::gate::OpenGate;
 use pl_frame::data_type::DataType;
 use pl_frame::error::{ComputeFault, PolarsError, PolarsResult};
@@ -31,6 +30,7 @@ use pl_read::checks::check_options;
 use pl_read::preparing::{Prepared, prepare};
 use pl_read::reading::{plan_of, read_prepared};
 use pl_read::workers::{piece_size_for, read_by_workers, worker_count};
+use pl_regions::front::print_front;
 use pl_rows::plan::RangePlan;
 use pl_rows::range::RangeEnd;
 use pl_write::options::CsvWriterOptions;
@@ -100,15 +100,9 @@ fn print_data<W: Threads + Wait + Sync>(
     ensures refused { IfErr result (IsFault (data_cause read.now schema.now records.now)) }
 {
     let options = &write.serialize_options;
-    let dialect = plan.dialect;
     let size = piece_size_for(read.chunk_size, plan.projection.places.len());
     let workers = worker_count(n_threads).min((records.len() / size).saturating_add(1));
-    let Ok(regions) = cut_regions(rt, alloc, workers, records, dialect.quote_char, dialect.eol_char) else {
-        return Err(PolarsError::OutOfMemory);
-    };
-    let mut regions = regions;
-    print_regions(rt, alloc, workers, &mut regions, schema, plan, options, size);
-    let Ok(front) = front_of(alloc, regions, records, schema, plan, options) else {
+    let Ok(front) = print_front(rt, alloc, workers, records, schema, plan, options, size) else {
         return Err(PolarsError::OutOfMemory);
     };
     let left = &records[front.end..];

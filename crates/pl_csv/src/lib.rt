@@ -10,7 +10,6 @@ pub mod make_input;
 mod making;
 pub mod matching;
 pub mod read_all;
-mod regions;
 pub mod run;
 mod telling;
 pub mod transcode;

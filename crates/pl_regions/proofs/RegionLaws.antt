@@ -1,11 +1,11 @@
 -- Texts that are read and printed apart, one behind the other.
-use Rattle.std.proofs.Common.{◌≡◌, ℕ, suc, ◌+◌, ◌-◌, ◌<◌, ◌≤◌, List, [], ◌∷◌, ◌++◌, map, length, take, drop, get_or, refl, sym, ◌∙◌, ap, subst, arith, length-append, append_assoc, append-nil}
+use Rattle.std.proofs.Common.{◌≡◌, ℕ, suc, ◌+◌, ◌-◌, ◌<◌, ◌≤◌, List, [], ◌∷◌, ◌++◌, map, length, take, drop, get_or, refl, sym, ◌∙◌, ap, subst, arith, length-append, length-take, length-drop, append_assoc, append-nil}
 use Rattle.std.specs.Prelude.{None, slice_range}
 use Rattle.std.specs.List.{concat, flat_map, AllByRecursion}
 use Rattle.std.proofs.Math.Seq.{take-append_seam, take-append-add}
-use Rattle.std.proofs.lemmas.List.{map-append, take-append-le, take_all}
 use Rattle.std.proofs.lemmas.Grind.{flat_map-append}
-use Rattle.std.proofs.lemmas.List.Folds.{concat-append}
+use Rattle.std.proofs.lemmas.List.{take-append-drop, take-append-le, take_all}
+use Rattle.std.proofs.lemmas.List.Folds.{concat-append, drop_split}
 use Rattle.pl_frame.specs.Dialect.{IsDialect}
 use Rattle.pl_frame.specs.Frame.{ColumnValue, HaveHeight, height_of}
 use Rattle.pl_frame.specs.Schema.{Entry}
@@ -19,11 +19,10 @@ use Rattle.pl_rows.specs.WholePieces.{text_frame, IsPieceFrame}
 use Rattle.pl_rows.proofs.RangeLaws.{rows-nil}
 use Rattle.pl_rows.proofs.SoundTextLaws.{IsSoundText-nil, IsSoundText-append, rows-behind, text_frame-append, height-text, same-columns}
 use Rattle.pl_table.specs.Rows.{rows}
-use Rattle.pl_read.proofs.NextTextLaws.{split-take}
 use Rattle.pl_write.specs.Batches.{all_lines}
 use Rattle.pl_write.proofs.StackLaws.{lines-stacked}
-use Rattle.pl_csv.specs.Converting.{IsTextPrinted, IsFrontPrinted, IsRegionPrinted, AreRegionsPrinted, IsUnread, AreUnread, region_texts}
-use Rattle.pl_csv.specs.declared.regions.Region.{Region}
+use Rattle.pl_regions.specs.Regions.{IsTextPrinted, IsFrontPrinted, IsRegionPrinted, AreRegionsPrinted, IsUnread, AreUnread, region_texts}
+use Rattle.pl_regions.specs.declared.region.Region.{Region}
 
 -- ---- texts
 
@@ -77,12 +76,22 @@ IsTextPrinted-piece plan schema o text printed read is lines = record {
 pub level-piece : (plan : RangePlan) (schema : List Entry) (text : List ℕ) (read : PieceFrame) → IsPieceFrame plan schema text read → HaveHeight (height_of read.columns.items) read.columns.items
 level-piece plan schema text read is = subst (λ columns. HaveHeight (height_of columns) columns) (sym is.columns_are) (level-text plan schema text)
 
+-- the front of a text, and what stands behind it up to another place
+front-slice : (text : List ℕ) (end to : ℕ) → end ≤ to → to ≤ length text → take end text ++ slice_range text end to ≡ take to text
+front-slice text end to after within =
+    let piece = slice_range text end to in
+    let both = take end text ++ piece in
+    let whole : both ++ drop to text ≡ text =
+    append_assoc (take end text) piece (drop to text) ∙ ap (λ l. take end text ++ l) (sym (drop_split text end to after)) ∙ take-append-drop end text in
+    let size : length both ≡ to =
+    omega (arith, after, within, length-append (take end text) piece, length-take end text, length-take (to - end) (drop end text), length-drop end text) in
+    sym (take-append_seam both (drop to text)) ∙ (λ j. take (size j) (whole j))
+
 -- the front of a text, and a piece behind it
 pub IsFrontPrinted-more : (plan : RangePlan) (schema : List Entry) (o : WriteOptions) (text : List ℕ) (end to n k : ℕ) (l m : List ℕ) → IsDialect (marks_of plan.dialect) (comment_of plan.dialect)
     → IsFrontPrinted plan schema o text end n l → end ≤ to → to ≤ length text → IsTextPrinted plan schema o (slice_range text end to) k m → IsFrontPrinted plan schema o text to (n + k) (l ++ m)
 IsFrontPrinted-more plan schema o text end to n k l m apart front after within piece =
-    let size : end + (to - end) ≡ to = omega (arith, after) in
-    let whole : take end text ++ slice_range text end to ≡ take to text = sym (split-take end (to - end) text) ∙ ap (λ i. take i text) size in
+    let whole = front-slice text end to after within in
     record {
       within = within;
       front = subst (λ t. IsTextPrinted plan schema o t (n + k) (l ++ m)) whole (IsTextPrinted-append plan schema o (take end text) (slice_range text end to) n k l m apart front.front piece);
@@ -128,11 +137,9 @@ unread-more [] region are is = (is, tt)
 unread-more (r ∷ regions) region are is = (are.0, unread-more regions region are.1 is)
 
 -- a region up to a place behind those up to another
-pub cut-more : (records : List ℕ) (regions : List Region) (region : Region) (from end : ℕ) → region_texts regions ≡ take from records → from ≤ end → region.text.now ≡ slice_range records from end
+pub cut-more : (records : List ℕ) (regions : List Region) (region : Region) (from end : ℕ) → region_texts regions ≡ take from records → from ≤ end → end ≤ length records → region.text.now ≡ slice_range records from end
     → region_texts (regions ++ region ∷ []) ≡ take end records
-cut-more records regions region from end before after is =
-    let size : from + (end - from) ≡ end = omega (arith, after) in
-    texts-more regions region ∙ (λ j. before j ++ is j) ∙ sym (split-take from (end - from) records) ∙ ap (λ i. take i records) size
+cut-more records regions region from end before after within is = texts-more regions region ∙ (λ j. before j ++ is j) ∙ front-slice records from end after within
 
 -- ---- the front
 

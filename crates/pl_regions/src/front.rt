@@ -1,0 +1,63 @@
+//! The front of the data, read and printed by workers.
+ghost use Rattle.std.specs.Prelude.{◌≡◌, ◌<◌, IfOk, map};
+ghost use Rattle.std.specs.List.{concat};
+ghost use Rattle.pl_write.specs.Options.{cell_options};
+ghost use Rattle.pl_regions.specs.Regions.{CanPrint, IsFrontPrinted};
+
+use crate::cutting::cut_regions;
+use crate::region::print_regions;
+use pl_frame::schema::Schema;
+use pl_rows::plan::RangePlan;
+use pl_write::options::SerializeOptions;
+use std::alloc::{AllocError, Global};
+use std::thread::Threads;
+
+/// The front of a text whose rows were printed: so many bytes, with so many rows, and the lines of these, one text behind the other.
+#[derive(Drop)]
+pub struct Front {
+    pub end: usize,
+    pub rows: usize,
+    pub lines: Vec<Vec<u8>>,
+}
+
+/// Reads and prints the records of a text by so many workers, each a region of its own in pieces of about so many bytes, as far as
+/// pieces end where an item does, no row has a fault and memory suffices: from the front on without a gap. Most often that is all of
+/// it but for a last record without a line end. Its last byte counts as the last of the input. Refuses only want of memory.
+pub fn print_front<W: Threads + Sync>(
+    rt: &W,
+    alloc: Global,
+    workers: usize,
+    records: &[u8],
+    schema: &Schema,
+    plan: &RangePlan<'_>,
+    options: &SerializeOptions,
+    piece_size: usize,
+) -> Result<Front, AllocError>
+    requires workers { 0 < workers }
+    requires can { CanPrint plan.now schema.now }
+    requires size { 0 < piece_size }
+    ensures { IfOk result (λ front. IsFrontPrinted plan.now schema.now (cell_options options.now) records.now front.end front.rows (concat (map (λ lines. lines.items) front.lines.items))) }
+{
+    let dialect = plan.dialect;
+    let mut regions = cut_regions(
+        rt, alloc, workers, records, dialect.quote_char, dialect.eol_char,
+    )?;
+    print_regions(
+        rt, alloc, workers, &mut regions, schema, plan, options, piece_size,
+    );
+    let mut front = Front {
+        end: 0,
+        rows: 0,
+        lines: Vec::new(alloc),
+    };
+    for region in regions {
+        let is_whole = region.end == region.text.len();
+        front.end += region.end;
+        front.rows += region.rows;
+        front.lines.push(region.lines)?;
+        if !is_whole {
+            return Ok(front);
+        }
+    }
+    Ok(front)
+}

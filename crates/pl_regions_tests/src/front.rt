@@ -1,0 +1,129 @@
+//! Tests of `pl_regions::front`: how far the front of a text goes, whatever the workers and the pieces.
+ghost use Rattle.std.specs.Prelude.{◌≡◌, ◌<◌, length};
+
+use pl_cells::init_buffers::first_unreadable;
+use pl_cells::utf8::CsvEncoding;
+use pl_frame::data_type::DataType;
+use pl_frame::name::PlSmallStr;
+use pl_frame::schema::Schema;
+use pl_regions::front::{Front, print_front};
+use pl_rows::plan::{Projection, RangePlan, RowOptions};
+use pl_scan::dialect::Dialect;
+use pl_write::options::CsvWriterOptions;
+use std::alloc::Global;
+use std::process::Abort;
+use std::thread::Threads;
+
+// A schema of a whole number and a text.
+fn schema(rt: &impl Abort, alloc: Global) -> Schema
+    ensures { length result ≡ 2 }
+{
+    let mut schema = Schema::new(alloc);
+    let number = PlSmallStr::from_str(alloc, "n").expect(rt, "a name");
+    let text = PlSmallStr::from_str(alloc, "t").expect(rt, "a name");
+    schema.with_column(number, DataType::Int64).expect(rt, "a column");
+    schema.with_column(text, DataType::String).expect(rt, "a column");
+    assert!(rt; schema.len() == 2);
+    schema
+}
+
+// The front of a text of such rows, by so many workers in pieces of so many bytes.
+fn front<W: Abort + Threads + Sync>(
+    rt: &W,
+    alloc: Global,
+    workers: usize,
+    piece_size: usize,
+    text: &[u8],
+) -> Front
+    requires workers { 0 < workers }
+    requires size { 0 < piece_size }
+{
+    let schema = schema(rt, alloc);
+    let plan = RangePlan {
+        dialect: Dialect {
+            separator: b',',
+            quote_char: Some(b'"'),
+            eol_char: b'\n',
+            comment_prefix: None,
+        },
+        projection: Projection {
+            places: &[0, 1],
+            width: schema.len(),
+        },
+        options: RowOptions {
+            null_values: None,
+            encoding: CsvEncoding::Utf8,
+            missing_is_null: true,
+            ignore_errors: false,
+            truncate_ragged_lines: false,
+        },
+        limit: None,
+        last: true,
+    };
+    assert!(rt; plan.dialect.is_valid() && plan.projection.is_valid());
+    assert!(rt; first_unreadable(&[0, 1], &schema).is_none());
+    let options = CsvWriterOptions::new(alloc).expect(rt, "options");
+    let options = &options.serialize_options;
+    print_front(rt, alloc, workers, text, &schema, &plan, options, piece_size).expect(rt, "memory")
+}
+
+// The lines, one text behind the other.
+fn lines_of(rt: &impl Abort, alloc: Global, front: &Front) -> Vec<u8> {
+    let mut all = Vec::new(alloc);
+    for lines in &front.lines {
+        all.extend_from_slice(lines).expect(rt, "memory");
+    }
+    all
+}
+
+// So many rows, the texts of which stand between quotes, with a line end in them.
+fn rows(rt: &impl Abort, alloc: Global, count: usize) -> Vec<u8> {
+    let mut text = Vec::new(alloc);
+    for k in 0..count {
+        let digits = [b'1' + (k % 9) as u8, b'0' + (k % 10) as u8];
+        text.extend_from_slice(&digits).expect(rt, "memory");
+        text.extend_from_slice(b",\"a\nb, \"\"c\"\"\"\n").expect(rt, "memory");
+    }
+    text
+}
+
+#[test]
+fn all_of_a_sound_text_is_printed(rt: HostRuntime) {
+    let alloc = rt.alloc();
+    let text = rows(&rt, alloc, 300);
+    for workers in [1, 2, 3, 8, 64] {
+        for piece_size in [1, 7, 64, 1000, 100_000] {
+            let front = front(&rt, alloc, workers, piece_size, &text);
+            assert!(rt; front.end == text.len() && front.rows == 300, "by {workers} in {piece_size}");
+            assert!(rt; lines_of(&rt, alloc, &front) == text, "by {workers} in {piece_size}");
+        }
+    }
+}
+
+#[test]
+fn front_ends_before_a_row_without_a_line_end(rt: HostRuntime) {
+    let alloc = rt.alloc();
+    let mut text = rows(&rt, alloc, 40);
+    let whole = text.len();
+    text.extend_from_slice(b"7,x").expect(&rt, "memory");
+    for workers in [1, 4] {
+        let front = front(&rt, alloc, workers, 16, &text);
+        assert!(rt; front.end == whole && front.rows == 40);
+        assert!(rt; text.starts_with(&lines_of(&rt, alloc, &front)));
+    }
+}
+
+#[test]
+fn front_ends_before_a_fault(rt: HostRuntime) {
+    let alloc = rt.alloc();
+    let mut text = rows(&rt, alloc, 50);
+    let before = text.len();
+    text.extend_from_slice(b"x,y\n").expect(&rt, "memory");
+    let behind = rows(&rt, alloc, 50);
+    text.extend_from_slice(&behind).expect(&rt, "memory");
+    for workers in [1, 2, 5] {
+        let front = front(&rt, alloc, workers, 24, &text);
+        assert!(rt; front.end <= before && front.rows <= 50, "by {workers}");
+        assert!(rt; text.starts_with(&lines_of(&rt, alloc, &front)), "by {workers}");
+    }
+}

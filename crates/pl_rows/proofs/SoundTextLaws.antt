@@ -145,7 +145,7 @@ judged-all plan range all last = judged-last plan range last ∙ ap (λ limit. l
 
 -- and none is not judged
 unjudged-none : (plan : RangePlan) (range : List ℕ) → plan.last ≡ true → has_unjudged plan range ≡ false
-unjudged-none plan range last = ap (λ t. list_any (λ (row : Row). not (is_judged (record plan { last = t }) row)) (rows_of plan range)) last ∙ unjudged-last (marks_of plan.dialect) (rows_of plan range)
+unjudged-none plan range last = ap (λ t. list_any (unjudged t (marks_of plan.dialect)) (rows_of plan range)) last ∙ unjudged-last (marks_of plan.dialect) (rows_of plan range)
 
 -- the rows that are judged
 judged-behind : (plan : RangePlan) (front rest : List ℕ) → plan.limit ≡ None → plan.last ≡ true → IsDialect (marks_of plan.dialect) (comment_of plan.dialect) → EndsItem plan.dialect front
@@ -180,37 +180,26 @@ range-behind plan schema front rest all last apart sound =
           ∙ faulty-behind rules columns n 0 others (has_unjudged plan rest),
     )
 
+-- the row of a fault that is one of so many
+fits-inside : (n k : ℕ) (e : RangeEnd) → IsInside 0 k e → n + k < 2 ^ 64 → IsRowFit n e
+fits-inside n k end.Closed inside few = tt
+fits-inside n k end.Open inside few = tt
+fits-inside n k (end.Fault row column kind) inside few = omega (arith, inside)
+
 -- the number of a row with a fault behind the rows of another text is a number of 64 bits, where both texts together are so long
 pub row-fits : (plan : RangePlan) (columns : Columns) (front rest : List ℕ) → AreDistinct (marks_of plan.dialect) → length (front ++ rest) < 2 ^ 64
     → IsRowFit (length (rows (marks_of plan.dialect) (comment_of plan.dialect) front)) (range_end plan columns rest)
 row-fits plan columns front rest apart small =
-    by (range_end plan columns rest) (faulty-inside (rules_of plan) columns 0 judged (has_unjudged plan rest)) fits
-  where
-    m : Marks
-    m = marks_of plan.dialect
-
-    comment : Option (List ℕ)
-    comment = comment_of plan.dialect
-
-    judged : List Row
-    judged = judged_rows plan rest
-
-    n : ℕ
-    n = length (rows m comment front)
-
-    fits : n + length judged < 2 ^ 64
-    fits =
-        let all = rows m comment rest in
-        let before : n ≤ length front = few_rows m comment apart (length front) front (omega arith) in
-        let behind : length all ≤ length rest = few_rows m comment apart (length rest) rest (omega arith) in
-        let fewer : length (rows_of plan rest) ≤ length all = omega (arith, ap length (left_below-start plan.limit all), few_limited plan.limit 0 all) in
-        let least : length judged ≤ length (rows_of plan rest) = few_filtered (is_judged plan) (rows_of plan rest) in
-        omega (arith, small, length-append front rest)
-
-    by : (e : RangeEnd) → IsInside 0 (length judged) e → n + length judged < 2 ^ 64 → IsRowFit n e
-    by end.Closed inside most = tt
-    by end.Open inside most = tt
-    by (end.Fault row column kind) inside most = omega (arith, inside)
+    let m = marks_of plan.dialect in
+    let comment = comment_of plan.dialect in
+    let judged = judged_rows plan rest in
+    let all = rows m comment rest in
+    let before : length (rows m comment front) ≤ length front = few_rows m comment apart (length front) front (omega arith) in
+    let behind : length all ≤ length rest = few_rows m comment apart (length rest) rest (omega arith) in
+    let fewer : length (rows_of plan rest) ≤ length all = omega (arith, ap length (left_below-start plan.limit all), few_limited plan.limit 0 all) in
+    let least : length judged ≤ length (rows_of plan rest) = few_filtered (is_judged plan) (rows_of plan rest) in
+    let few : length (rows m comment front) + length judged < 2 ^ 64 = omega (arith, small, length-append front rest) in
+    fits-inside (length (rows m comment front)) (length judged) (range_end plan columns rest) (faulty-inside (rules_of plan) columns 0 judged (has_unjudged plan rest)) few
 
 -- ---- a piece that was read into empty buffers
 

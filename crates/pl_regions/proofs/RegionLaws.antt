@@ -1,7 +1,10 @@
 -- Texts that are read and printed apart, one behind the other.
-use Rattle.std.proofs.Common.{◌≡◌, ℕ, suc, ◌+◌, ◌-◌, ◌<◌, ◌≤◌, List, [], ◌∷◌, ◌++◌, map, length, take, drop, get_or, refl, sym, ◌∙◌, ap, subst, arith, length-append, length-take, length-drop, append_assoc, append-nil}
-use Rattle.std.specs.Prelude.{None, slice_range}
-use Rattle.std.specs.List.{concat, flat_map, AllByRecursion}
+use Rattle.std.proofs.Common.{◌≡◌, ℕ, zero, suc, true, ◌+◌, ◌-◌, ◌<◌, ◌≤◌, List, [], ◌∷◌, ◌++◌, length, take, drop, get_or, refl, sym, ◌∙◌, ap, subst, arith, length-append, length-take, length-drop, append_assoc, append-nil}
+use Rattle.std.specs.Prelude.{Result, Ok, Err, is_ok, OnOk, slice_range}
+use Rattle.std.specs.Iterator.{Yields}
+use Rattle.std.specs.List.{concat}
+use Rattle.std.specs.Vec.Iter.{into_iter_items, into_iter_steps}
+use Rattle.std.specs.declared.vec.IntoIter.{IntoIter}
 use Rattle.std.proofs.Math.Seq.{take-append_seam, take-append-add}
 use Rattle.std.proofs.lemmas.Grind.{flat_map-append}
 use Rattle.std.proofs.lemmas.List.{take-append-drop, take-append-le, take_all}
@@ -15,14 +18,21 @@ use Rattle.pl_rows.specs.declared.plan.RangePlan.{RangePlan}
 use Rattle.pl_rows.specs.declared.whole_pieces.PieceFrame.{PieceFrame}
 use Rattle.pl_rows.specs.Cells.{RowRules}
 use Rattle.pl_rows.specs.Columns.{frame_of_rows, entries_in}
+use Rattle.pl_rows.specs.Plan.{rules_of}
 use Rattle.pl_rows.specs.WholePieces.{text_frame, IsPieceFrame}
-use Rattle.pl_rows.proofs.RangeLaws.{rows-nil}
+use Rattle.pl_cells.proofs.CastWorkerLaws.{all_written, taken_front}
+use Rattle.pl_rows.proofs.RangeLaws.{rows-nil, few_rows}
 use Rattle.pl_rows.proofs.SoundTextLaws.{IsSoundText-nil, IsSoundText-append, rows-behind, text_frame-append, height-text, same-columns}
 use Rattle.pl_table.specs.Rows.{rows}
 use Rattle.pl_write.specs.Batches.{all_lines}
 use Rattle.pl_write.proofs.StackLaws.{lines-stacked}
 use Rattle.pl_regions.specs.Regions.{IsTextPrinted, IsFrontPrinted, IsRegionPrinted, AreRegionsPrinted, IsUnread, AreUnread, region_texts}
 use Rattle.pl_regions.specs.declared.region.Region.{Region}
+
+-- what holds of a success
+pub ok-holds : {A E : Type 0} (r : Result A E) (P : Type 0) → is_ok r ≡ true → OnOk r P → P
+ok-holds (Ok a) P ok holds = holds
+ok-holds (Err e) P ok holds = absurd (cc)
 
 -- ---- texts
 
@@ -46,7 +56,7 @@ IsTextPrinted-nil plan schema o =
     record {
       sound = IsSoundText-nil plan schema;
       count_is = sym (ap length none);
-      lines_are = sym (ap (λ given. all_lines o (frame_of_rows _ (entries_in schema plan.projection.places.now) given)) none ∙ none-lines o _ (entries_in schema plan.projection.places.now));
+      lines_are = sym (ap (λ given. all_lines o (frame_of_rows (rules_of plan) (entries_in schema plan.projection.places.now) given)) none ∙ none-lines o (rules_of plan) (entries_in schema plan.projection.places.now));
     }
 
 -- two texts
@@ -109,6 +119,13 @@ unread-region plan schema o region is =
 pub unread-all : (plan : RangePlan) (schema : List Entry) (o : WriteOptions) (regions : List Region) → AreUnread regions → AreRegionsPrinted plan schema o regions
 unread-all plan schema o [] are = tt
 unread-all plan schema o (region ∷ regions) are = (unread-region plan schema o region are.0, unread-all plan schema o regions are.1)
+
+-- what holds of all holds of each
+pub printed-at : (plan : RangePlan) (schema : List Entry) (o : WriteOptions) (regions : List Region) → AreRegionsPrinted plan schema o regions → (k : ℕ) (d : Region) → k < length regions
+    → IsRegionPrinted plan schema o (get_or regions k d)
+printed-at plan schema o [] are k d inside = absurd (omega (arith, inside))
+printed-at plan schema o (r ∷ regions) are zero d inside = are.0
+printed-at plan schema o (r ∷ regions) are (suc k) d inside = printed-at plan schema o regions are.1 k d (omega (arith, inside))
 
 -- what holds of each holds of all
 pub printed-all : (plan : RangePlan) (schema : List Entry) (o : WriteOptions) (new old : List Region) → length new ≡ length old
@@ -203,3 +220,55 @@ front-part plan schema o records done left region end n lines apart whole is pri
       front = subst (λ t. IsTextPrinted plan schema o t (n + region.rows) (concat (lines ++ region.lines.items ∷ []))) text
           (subst (IsTextPrinted plan schema o (D ++ take region.end T) (n + region.rows)) (sym (concat-more lines region.lines.items)) both);
     }
+
+-- it has no more rows than the data has bytes
+pub few-printed : (plan : RangePlan) (schema : List Entry) (o : WriteOptions) (text : List ℕ) (end n : ℕ) (lines : List ℕ) → IsDialect (marks_of plan.dialect) (comment_of plan.dialect)
+    → IsFrontPrinted plan schema o text end n lines → n ≤ length text
+few-printed plan schema o text end n lines apart is =
+    let front = take end text in
+    let few = few_rows (marks_of plan.dialect) (comment_of plan.dialect) apart.distinct (length front) front (omega arith) in
+    omega (arith, is.front.count_is, few, length-take end text)
+
+-- ---- the regions one after another
+
+-- a region behind those that were taken
+pub record IsNextRegion (plan : RangePlan) (schema : List Entry) (o : WriteOptions) (records : List ℕ) (done : List Region) (region : Region) : Type 0 where
+  pub left : List Region
+  pub whole : region_texts (done ++ region ∷ left) ≡ records
+  pub printed : IsRegionPrinted plan schema o region
+
+among : (plan : RangePlan) (schema : List Entry) (o : WriteOptions) (done : List Region) (region : Region) (left : List Region) → AreRegionsPrinted plan schema o (done ++ region ∷ left) → IsRegionPrinted plan schema o region
+among plan schema o [] region left are = are.0
+among plan schema o (r ∷ done) region left are = among plan schema o done region left are.1
+
+pub next-region : (plan : RangePlan) (schema : List Entry) (o : WriteOptions) (records : List ℕ) (items old new : List Region) (n : ℕ) {A : Type 0} (start : IntoIter Region A) (done : List Region) (now : IntoIter Region A)
+    (region : Region) (left : IntoIter Region A)
+    → region_texts items ≡ records → length items ≡ n → old ≡ items → length new ≡ length old
+    → ((i : ℕ) (d : Region) → i < length old → ((get_or new i d).text.now ≡ (get_or old i d).text.now) × IsRegionPrinted plan schema o (get_or new i d))
+    → into_iter_items start ≡ take n (new ++ drop (length new) items)
+    → Yields into_iter_steps start done now → into_iter_items now ≡ region ∷ into_iter_items left
+    → IsNextRegion plan schema o records done region
+next-region plan schema o records items old new n start done now region left texts count same size each gives taken step =
+    let all : new ≡ done ++ region ∷ into_iter_items left =
+    sym (all_written items new n count (omega (arith, count, size, ap length same))) ∙ sym gives ∙ taken_front start done now taken ∙ ap (λ l. done ++ l) step in
+    record {
+      left = into_iter_items left;
+      whole = sym (ap region_texts all) ∙ texts-all plan schema o new old size each ∙ ap region_texts same ∙ texts;
+      printed = among plan schema o done region (into_iter_items left) (subst (AreRegionsPrinted plan schema o) all (printed-all plan schema o new old size each));
+    }
+
+nothing : {X : Type 0} (xs : List X) → length xs ≡ 0 → xs ≡ []
+nothing [] e = refl
+nothing (x ∷ xs) e = absurd (omega (arith, e))
+
+-- where all were taken
+pub all-regions : (plan : RangePlan) (schema : List Entry) (o : WriteOptions) (records : List ℕ) (items old new : List Region) (n : ℕ) {A : Type 0} (start : IntoIter Region A) (done : List Region) (now : IntoIter Region A)
+    → region_texts items ≡ records → length items ≡ n → old ≡ items → length new ≡ length old
+    → ((i : ℕ) (d : Region) → i < length old → ((get_or new i d).text.now ≡ (get_or old i d).text.now) × IsRegionPrinted plan schema o (get_or new i d))
+    → into_iter_items start ≡ take n (new ++ drop (length new) items)
+    → Yields into_iter_steps start done now → length (into_iter_items now) ≡ 0
+    → region_texts (done ++ []) ≡ records
+all-regions plan schema o records items old new n start done now texts count same size each gives taken ends =
+    let all : new ≡ done ++ [] =
+    sym (all_written items new n count (omega (arith, count, size, ap length same))) ∙ sym gives ∙ taken_front start done now taken ∙ ap (λ l. done ++ l) (nothing (into_iter_items now) ends) in
+    sym (ap region_texts all) ∙ texts-all plan schema o new old size each ∙ ap region_texts same ∙ texts

@@ -45,11 +45,7 @@ fn find_end(
 }
 
 // The data as spans of one length, but for the last, as many as there are workers or fewer.
-fn spans_of<'a>(
-    alloc: Global,
-    records: &'a [u8],
-    size: usize,
-) -> Result<Vec<&'a [u8]>, AllocError>
+fn spans_of<'a>(alloc: Global, records: &'a [u8], size: usize) -> Result<Vec<&'a [u8]>, AllocError>
     requires { 0 < size }
 {
     let mut spans = Vec::new(alloc);

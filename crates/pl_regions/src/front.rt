@@ -40,10 +40,22 @@ pub fn print_front<W: Threads + Sync>(
 {
     let dialect = plan.dialect;
     let mut regions = cut_regions(
-        rt, alloc, workers, records, dialect.quote_char, dialect.eol_char,
+        rt,
+        alloc,
+        workers,
+        records,
+        dialect.quote_char,
+        dialect.eol_char,
     )?;
     print_regions(
-        rt, alloc, workers, &mut regions, schema, plan, options, piece_size,
+        rt,
+        alloc,
+        workers,
+        &mut regions,
+        schema,
+        plan,
+        options,
+        piece_size,
     );
     let mut front = Front {
         end: 0,

@@ -1,0 +1,13 @@
+use Rattle.std.proofs.Common.{◌≡◌, length, ◌-◌}
+use Rattle.pl_write.specs.Options.{cell_options}
+use Rattle.pl_regions.specs.Regions.{IsRegionPrinted}
+use Rattle.pl_regions.proofs.region.Region.print.Given as goal
+
+abbrev pub invariant-loop-self : goal.invariant-loop-self
+invariant-loop-self l = record {
+  text : l.self.text.now ≡ l.fn.self.text.now;
+  printed : IsRegionPrinted l.plan l.schema (cell_options l.options) l.self;
+}
+
+abbrev pub decreases-loop-self : goal.decreases-loop-self
+decreases-loop-self l = length l.self.text.now - l.self.end

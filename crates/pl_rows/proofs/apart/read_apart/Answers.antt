@@ -1,4 +1,4 @@
-use Rattle.std.proofs.Common.{◌≡◌, false, length, sym, ◌∙◌, ap, subst, arith}
+use Rattle.std.proofs.Common.{◌≡◌, false, sym, ◌∙◌, ap, subst, arith}
 use Rattle.std.specs.Prelude.{slice_range}
 use Rattle.pl_cells.specs.InitBuffers.{empty_buffers}
 use Rattle.pl_rows.specs.Pieces.{plan_behind, HasReadPiece}

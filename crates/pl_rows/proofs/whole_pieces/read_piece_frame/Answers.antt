@@ -1,5 +1,4 @@
-use Rattle.std.proofs.Common.{◌≡◌, ◌&&◌, length, false, refl, sym, ◌∙◌, ap, subst, arith}
-use Rattle.pl_cells.specs.InitBuffers.{empty_buffers}
+use Rattle.std.proofs.Common.{◌&&◌, false, refl, sym, ◌∙◌, ap, subst, arith}
 use Rattle.pl_rows.specs.Columns.{columns_of}
 use Rattle.pl_rows.specs.Pieces.{is_closed, ends_item, plan_behind, HasReadPiece}
 use Rattle.pl_rows.specs.Plan.{states, plan_columns, CanRead}

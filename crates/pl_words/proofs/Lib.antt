@@ -1,4 +1,9 @@
+pub mod CommandLaws
+pub mod IdLaws
 pub mod ListLaws
 pub mod PartLaws
+pub mod RowLaws
 pub mod SchemaLaws
 pub mod SplitLaws
+pub mod TakesLaws
+pub mod WalkLaws

@@ -1,3 +1,4 @@
+pub mod Arguments
 pub mod ColumnWords
 pub mod Defaults
 pub mod Lists

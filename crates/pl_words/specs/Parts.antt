@@ -1,7 +1,7 @@
 -- The shape of the words of the command line: flags and options (docs/command-line.md, "Words").
 use Rattle.std.specs.Prelude.{ℕ, Bool, false, not, ◌&&◌, ◌==◌, if◌then◌else◌, List, [], ◌∷◌, map, length, codes, Option, None, Some}
 use Rattle.std.specs.List.{list_all, list_any}
-use Rattle.std.specs.Option.{option_map}
+use Rattle.std.specs.Option.{option_map, option_map_or}
 use Rattle.std.specs.Str.{bytes_eq}
 use Rattle.pl_words.specs.declared.parts.Part.{Part}
 use Rattle.pl_words.specs.SchemaText.{are_distinct}
@@ -14,9 +14,6 @@ PartText = List ℕ × Option (List ℕ)
 -- what a part of the code says, without where it lies in memory
 abbrev pub part_text : Part → PartText
 part_text part = (part.name.now, option_map (λ value. value.now) part.value)
-
-abbrev pub part_texts : List Part → List PartText
-part_texts parts = map part_text parts
 
 -- the names of flags
 abbrev pub flags : List (List ℕ)
@@ -90,6 +87,10 @@ abbrev pub is_known : PartText → Bool
 is_known (name, None) = list_any (bytes_eq name) flags
 is_known (name, Some value) = list_any (bytes_eq name) options && not (length value == 0)
 
+-- whether words are flags and options of which this holds
+abbrev pub of_parts : (List PartText → Bool) → List (List ℕ) → Bool
+of_parts test words = option_map_or test (parts_of words) false
+
 -- the names of parts
 abbrev pub part_names : List PartText → List (List ℕ)
 part_names parts = map (λ part. part.0) parts
@@ -106,3 +107,11 @@ value_under name (part ∷ parts) = if bytes_eq name part.0 then part.1 else val
 -- the name is there
 abbrev pub has_name : List ℕ → List PartText → Bool
 has_name name parts = list_any (bytes_eq name) (part_names parts)
+
+-- the name is one of these
+abbrev pub is_among : List (List ℕ) → List ℕ → Bool
+is_among names name = list_any (bytes_eq name) names
+
+-- all names are among these
+abbrev pub are_among : List (List ℕ) → List PartText → Bool
+are_among names parts = list_all (λ part. is_among names part.0) parts

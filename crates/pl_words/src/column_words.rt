@@ -2,11 +2,10 @@
 ghost use Rattle.std.specs.Prelude.{◌≡◌, None, Some, IfOk, IsErrOf};
 ghost use Rattle.std.specs.Option.{option_map};
 ghost use Rattle.pl_words.specs.ColumnWords.{names_of, places_of, types_of, row_index_by, row_index_of};
-ghost use Rattle.pl_words.specs.Parts.{part_texts};
 
+use crate::arguments::Arguments;
 use crate::from_text::{FromText, meant, read_list};
 use crate::option_values::parse_offset;
-use crate::parts::{Part, value_under};
 use crate::splitting::{copy_text, split_texts};
 use crate::words::WordsFault;
 use pl_infer::column_lists::{ColumnNames, ColumnPlaces, DataTypes};
@@ -66,14 +65,15 @@ fn read_row_index(
 
 /// The column of row numbers, if one is asked for. Refuses an offset without a name or without a meaning, and want of
 /// memory.
+#[tactic(auto, unfolding(crate::specs::Arguments::is_option))]
 pub(crate) fn row_index_of(
     alloc: Global,
-    parts: &[Part<'_>],
+    arguments: &Arguments<'_>,
 ) -> Result<Option<RowIndex>, WordsFault>
-    ensures given { IfOk result (λ given. row_index_of (part_texts parts.now) ≡ Some given) }
-    ensures refused { IsErrOf result WordsFault.Words → row_index_of (part_texts parts.now) ≡ None }
+    ensures given { IfOk result (λ given. row_index_of arguments.now ≡ Some given) }
+    ensures refused { IsErrOf result WordsFault.Words → row_index_of arguments.now ≡ None }
 {
-    let name = value_under(parts, "--row-index");
-    let offset = value_under(parts, "--row-offset");
+    let name = arguments.value_under("--row-index");
+    let offset = arguments.value_under("--row-offset");
     read_row_index(alloc, name, offset)
 }

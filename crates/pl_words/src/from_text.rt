@@ -1,11 +1,11 @@
 //! Values that texts write, alone, in lists and as options set them.
-ghost use Rattle.std.specs.Prelude.{◌≡◌, ◌++◌, ◌∷◌, [], ℕ, List, Option, None, Some, IfOk, OnOk, IsErrOf};
+ghost use Rattle.std.specs.Prelude.{◌≡◌, true, ◌++◌, ◌∷◌, [], ℕ, List, Option, None, Some, IfOk, OnOk, IsErrOf};
 ghost use Rattle.std.specs.Option.{option_map};
+ghost use Rattle.pl_words.specs.Arguments.{is_option};
 ghost use Rattle.pl_words.specs.Defaults.{option_or, set_to};
 ghost use Rattle.pl_words.specs.Lists.{list_of};
-ghost use Rattle.pl_words.specs.Parts.{part_texts};
 
-use crate::parts::{Part, value_under};
+use crate::arguments::Arguments;
 use crate::splitting::cut_at;
 use crate::words::WordsFault;
 use std::alloc::Global;
@@ -62,13 +62,14 @@ pub(crate) fn read_list<T: FromText>(alloc: Global, text: &str) -> Result<Vec<T>
 /// What the value under a name means, if the name is there. Refuses a value without a meaning, and want of memory.
 pub(crate) fn set_under<T: FromText>(
     alloc: Global,
-    parts: &[Part<'_>],
+    arguments: &Arguments<'_>,
     name: &str,
 ) -> Result<Option<T>, WordsFault>
-    ensures known { IfOk result (λ set. option_or None (set_to T.meaning) name.now (part_texts parts.now) ≡ Some set) }
-    ensures refused { IsErrOf result WordsFault.Words → option_or None (set_to T.meaning) name.now (part_texts parts.now) ≡ None }
+    requires { is_option name.now ≡ true }
+    ensures known { IfOk result (λ set. option_or None (set_to T.meaning) name.now arguments.now ≡ Some set) }
+    ensures refused { IsErrOf result WordsFault.Words → option_or None (set_to T.meaning) name.now arguments.now ≡ None }
 {
-    match value_under(parts, name) {
+    match arguments.value_under(name) {
         Some(value) => Ok(Some(T::from_text(alloc, value)?)),
         None => Ok(None),
     }
@@ -77,14 +78,15 @@ pub(crate) fn set_under<T: FromText>(
 /// What the value under a name means, or else the default. Refuses a value without a meaning, and want of memory.
 pub(crate) fn set_or<T: FromText>(
     alloc: Global,
-    parts: &[Part<'_>],
+    arguments: &Arguments<'_>,
     name: &str,
     default: T,
 ) -> Result<T, WordsFault>
-    ensures known { IfOk result (λ set. option_or default T.meaning name.now (part_texts parts.now) ≡ Some set) }
-    ensures refused { IsErrOf result WordsFault.Words → option_or default T.meaning name.now (part_texts parts.now) ≡ None }
+    requires { is_option name.now ≡ true }
+    ensures known { IfOk result (λ set. option_or default T.meaning name.now arguments.now ≡ Some set) }
+    ensures refused { IsErrOf result WordsFault.Words → option_or default T.meaning name.now arguments.now ≡ None }
 {
-    match value_under(parts, name) {
+    match arguments.value_under(name) {
         Some(value) => T::from_text(alloc, value),
         None => Ok(default),
     }

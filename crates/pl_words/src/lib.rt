@@ -1,6 +1,7 @@
 //! The words of the command line: what they mean for the reading of an input and for the writing of its frame.
 #![tactic(auto)]
 
+mod arguments;
 mod column_words;
 mod from_text;
 pub mod job;

@@ -2,11 +2,10 @@
 ghost use Rattle.std.specs.Prelude.{◌≡◌, None, Some, IfOk, IsErrOf};
 ghost use Rattle.std.specs.Option.{option_map};
 ghost use Rattle.pl_words.specs.NullWords.{null_values_by, null_values_of};
-ghost use Rattle.pl_words.specs.Parts.{part_texts};
 ghost use Rattle.pl_words.specs.Splitting.{cut_at};
 
+use crate::arguments::Arguments;
 use crate::from_text::{FromText, read_list};
-use crate::parts::{Part, value_under};
 use crate::splitting::{copy_text, cut_at, split_texts};
 use crate::words::WordsFault;
 use pl_cells::null_values::{NamedTexts, NullTexts, NullValues};
@@ -54,15 +53,16 @@ fn read_null_values(
 }
 
 /// The texts that mean null, if some are given. Refuses texts without a meaning, and want of memory.
+#[tactic(auto, unfolding(crate::specs::Arguments::is_option))]
 pub(crate) fn null_values_of(
     alloc: Global,
-    parts: &[Part<'_>],
+    arguments: &Arguments<'_>,
 ) -> Result<Option<NullValues>, WordsFault>
-    ensures given { IfOk result (λ given. null_values_of (part_texts parts.now) ≡ Some given) }
-    ensures refused { IsErrOf result WordsFault.Words → null_values_of (part_texts parts.now) ≡ None }
+    ensures given { IfOk result (λ given. null_values_of arguments.now ≡ Some given) }
+    ensures refused { IsErrOf result WordsFault.Words → null_values_of arguments.now ≡ None }
 {
-    let text = value_under(parts, "--null");
-    let texts = value_under(parts, "--nulls");
-    let entries = value_under(parts, "--null-of");
+    let text = arguments.value_under("--null");
+    let texts = arguments.value_under("--nulls");
+    let entries = arguments.value_under("--null-of");
     read_null_values(alloc, text, texts, entries)
 }

@@ -1,14 +1,56 @@
-//! Words as flags and options.
-ghost use Rattle.std.specs.Prelude.{◌≡◌, ◌≤◌, ◌∷◌, [], None, Some, map, string_bytes, length, IfOk, IsErrOf, MatchOption};
-ghost use Rattle.std.specs.List.{list_all, list_any};
+//! The shape of the words: flags and options.
+ghost use Rattle.std.specs.Prelude.{◌≡◌, ◌≤◌, ◌∷◌, None, not, map, string_bytes, length, MatchOption};
+ghost use Rattle.std.specs.List.{list_any};
 ghost use Rattle.std.specs.Option.{option_map};
 ghost use Rattle.std.specs.Str.{bytes_eq};
-ghost use Rattle.pl_words.specs.SchemaText.{are_distinct};
-ghost use Rattle.pl_words.specs.Parts.{part_text, part_texts, flags, options, is_value, whole_part, parts_of, is_known, part_names, are_known_once, value_under, has_name};
+ghost use Rattle.pl_words.specs.Parts.{part_text, flags, options, is_value, whole_part, parts_of, of_parts, is_known, is_among, are_among, are_known_once, has_name};
 
 use crate::splitting::cut_at;
-use crate::words::WordsFault;
-use std::alloc::Global;
+
+/// The names of flags.
+pub(crate) static FLAGS: [&str; 9] = [
+    "--no-header",
+    "--lossy",
+    "--keep-missing",
+    "--truncate",
+    "--ignore-errors",
+    "--allow-empty",
+    "--dates",
+    "--out-no-header",
+    "--out-bom",
+];
+
+/// The names of options.
+pub(crate) static OPTIONS: [&str; 28] = [
+    "--schema",
+    "--overwrite",
+    "--infer",
+    "--sep",
+    "--quote",
+    "--eol",
+    "--comment",
+    "--skip-lines",
+    "--skip-rows",
+    "--skip-after",
+    "--limit",
+    "--columns",
+    "--projection",
+    "--row-index",
+    "--row-offset",
+    "--dtypes",
+    "--workers",
+    "--piece",
+    "--null",
+    "--nulls",
+    "--null-of",
+    "--out-sep",
+    "--out-quote",
+    "--out-null",
+    "--out-eol",
+    "--style",
+    "--batch",
+    "--make",
+];
 
 /// A flag, or an option with its value.
 #[derive(Clone, Copy, Debug)]
@@ -28,59 +70,30 @@ fn is_value_word(text: &str) -> bool
     }
 }
 
+// Whether a name is one of these.
+fn is_among(name: &str, names: &[&str]) -> bool
+    ensures { result ≡ is_among (map (λ other. other.now) names.now) name.now }
+{
+    for other in names {
+        if name == *other {
+            return true;
+        }
+    }
+    false
+}
+
 // Whether a word is a flag.
 fn is_flag(word: &str) -> bool
     ensures { result ≡ list_any (bytes_eq word.now) flags }
 {
-    matches!(
-        word,
-        "--no-header"
-            | "--lossy"
-            | "--keep-missing"
-            | "--truncate"
-            | "--ignore-errors"
-            | "--allow-empty"
-            | "--dates"
-            | "--out-no-header"
-            | "--out-bom"
-    )
+    is_among(word, FLAGS.as_slice())
 }
 
 // Whether a name is that of an option.
 fn is_option(name: &str) -> bool
     ensures { result ≡ list_any (bytes_eq name.now) options }
 {
-    matches!(
-        name,
-        "--schema"
-            | "--overwrite"
-            | "--infer"
-            | "--sep"
-            | "--quote"
-            | "--eol"
-            | "--comment"
-            | "--skip-lines"
-            | "--skip-rows"
-            | "--skip-after"
-            | "--limit"
-            | "--columns"
-            | "--projection"
-            | "--row-index"
-            | "--row-offset"
-            | "--dtypes"
-            | "--workers"
-            | "--piece"
-            | "--null"
-            | "--nulls"
-            | "--null-of"
-            | "--out-sep"
-            | "--out-quote"
-            | "--out-null"
-            | "--out-eol"
-            | "--style"
-            | "--batch"
-            | "--make"
-    )
+    is_among(name, OPTIONS.as_slice())
 }
 
 // What one word is alone: a flag, or an option with its value.
@@ -122,25 +135,6 @@ fn cut_words<'a>(word: &'a str, words: &'a [String]) -> Option<(Part<'a>, &'a [S
     }
 }
 
-/// The flags and options of words. Refuses words that are none, and want of memory.
-pub fn cut_parts<'a>(alloc: Global, words: &'a [String]) -> Result<Vec<Part<'a>>, WordsFault>
-    ensures parts { IfOk result (λ parts. parts_of (map string_bytes words.now) ≡ Some (part_texts parts.items)) }
-    ensures refused { IsErrOf result WordsFault.Words → parts_of (map string_bytes words.now) ≡ None }
-{
-    let mut parts = Vec::new(alloc);
-    let mut rest = words;
-    while let [word, behind @ ..] = rest {
-        let Some((part, next)) = cut_words(word.as_str(), behind) else {
-            return Err(WordsFault::Words);
-        };
-        if parts.push(part).is_err() {
-            return Err(WordsFault::OutOfMemory);
-        }
-        rest = next;
-    }
-    Ok(parts)
-}
-
 // Whether a part is known: the name of a flag alone, or the name of an option with a value that is not empty.
 fn is_known_part(part: &Part<'_>) -> bool
     ensures { result ≡ is_known (part_text part.now) }
@@ -151,59 +145,53 @@ fn is_known_part(part: &Part<'_>) -> bool
     }
 }
 
-/// Whether the parts have a name.
-pub fn has_name(parts: &[Part<'_>], name: &str) -> bool
-    ensures { result ≡ has_name name.now (part_texts parts.now) }
+// Whether words are flags and options of other names.
+fn have_other_names(words: &[String], name: &str) -> bool
+    ensures { result ≡ of_parts (λ parts. not (has_name name.now parts)) (map string_bytes words.now) }
 {
-    for part in parts {
+    let mut rest = words;
+    while let [word, behind @ ..] = rest {
+        let Some((part, next)) = cut_words(word.as_str(), behind) else {
+            return false;
+        };
         if name == part.name {
-            return true;
-        }
-    }
-    false
-}
-
-// Whether no name stands twice.
-fn have_distinct_names(parts: &[Part<'_>]) -> bool
-    ensures { result ≡ are_distinct (part_names (part_texts parts.now)) }
-{
-    let mut rest = parts;
-    while let [part, others @ ..] = rest {
-        if has_name(others, part.name) {
             return false;
         }
-        rest = others;
+        rest = next;
     }
     true
 }
 
-// Whether each part is known.
-fn are_known(parts: &[Part<'_>]) -> bool
-    ensures { result ≡ list_all is_known (part_texts parts.now) }
+/// Whether words are flags and options of which each is known, and no name stands twice.
+pub(crate) fn are_known_once(words: &[String]) -> bool
+    ensures { result ≡ of_parts are_known_once (map string_bytes words.now) }
 {
-    for part in parts {
-        if !is_known_part(part) {
+    let mut rest = words;
+    while let [word, behind @ ..] = rest {
+        let Some((part, next)) = cut_words(word.as_str(), behind) else {
+            return false;
+        };
+        if !is_known_part(&part) || !have_other_names(next, part.name) {
             return false;
         }
+        rest = next;
     }
     true
 }
 
-/// Whether each part is known and no name stands twice.
-pub fn are_known_once(parts: &[Part<'_>]) -> bool
-    ensures { result ≡ are_known_once (part_texts parts.now) }
+/// Whether words are flags and options of these names alone.
+pub(crate) fn are_among(words: &[String], names: &[&str]) -> bool
+    ensures { result ≡ of_parts (are_among (map (λ name. name.now) names.now)) (map string_bytes words.now) }
 {
-    are_known(parts) && have_distinct_names(parts)
-}
-
-/// The value under a name, where the name is there.
-pub fn value_under<'a>(parts: &[Part<'a>], name: &str) -> Option<&'a str>
-    ensures { option_map (λ value. value.now) result ≡ value_under name.now (part_texts parts.now) }
-{
-    for part in parts {
-        if name == part.name {
-            return part.value;
+    let mut rest = words;
+    while let [word, behind @ ..] = rest {
+        let Some((part, next)) = cut_words(word.as_str(), behind) else {
+            return false;
+        };
+        if !is_among(part.name, names) {
+            return false;
         }
+        rest = next;
     }
-    None
+    true
 }

@@ -1,13 +1,13 @@
 //! How a frame is written, as words give it.
-ghost use Rattle.std.specs.Prelude.{◌≡◌, ◌≢◌, None, Some, Err, IfOk, IsErrOf};
+ghost use Rattle.std.specs.Prelude.{◌≡◌, true, ◌≢◌, None, Some, Err, IfOk, IsErrOf};
+ghost use Rattle.pl_words.specs.Arguments.{is_option};
 ghost use Rattle.pl_words.specs.Defaults.{option_or, text_of};
 ghost use Rattle.pl_words.specs.OptionValues.{terminator_named};
-ghost use Rattle.pl_words.specs.Parts.{part_texts};
 ghost use Rattle.pl_words.specs.WriteWords.{write_options_of};
 
+use crate::arguments::Arguments;
 use crate::from_text::set_or;
 use crate::option_values::parse_terminator;
-use crate::parts::{Part, has_name, value_under};
 use crate::splitting::copy_text;
 use crate::words::WordsFault;
 use pl_frame::name::PlSmallStr;
@@ -17,14 +17,15 @@ use std::alloc::Global;
 // The text under a name, or else the default. Refuses only want of memory.
 fn text_or(
     alloc: Global,
-    parts: &[Part<'_>],
+    arguments: &Arguments<'_>,
     name: &str,
     default: &str,
 ) -> Result<PlSmallStr, WordsFault>
-    ensures known { IfOk result (λ text. option_or default.now text_of name.now (part_texts parts.now) ≡ Some text) }
+    requires { is_option name.now ≡ true }
+    ensures known { IfOk result (λ text. option_or default.now text_of name.now arguments.now ≡ Some text) }
     ensures refused { result ≢ Err WordsFault.Words }
 {
-    match value_under(parts, name) {
+    match arguments.value_under(name) {
         Some(value) => copy_text(alloc, value),
         None => copy_text(alloc, default),
     }
@@ -33,14 +34,15 @@ fn text_or(
 // The line end under a name, or else the default. Refuses a text that names none, and want of memory.
 fn terminator_or(
     alloc: Global,
-    parts: &[Part<'_>],
+    arguments: &Arguments<'_>,
     name: &str,
     default: &str,
 ) -> Result<PlSmallStr, WordsFault>
-    ensures known { IfOk result (λ text. option_or default.now terminator_named name.now (part_texts parts.now) ≡ Some text) }
-    ensures refused { IsErrOf result WordsFault.Words → option_or default.now terminator_named name.now (part_texts parts.now) ≡ None }
+    requires { is_option name.now ≡ true }
+    ensures known { IfOk result (λ text. option_or default.now terminator_named name.now arguments.now ≡ Some text) }
+    ensures refused { IsErrOf result WordsFault.Words → option_or default.now terminator_named name.now arguments.now ≡ None }
 {
-    match value_under(parts, name) {
+    match arguments.value_under(name) {
         Some(value) => match parse_terminator(value) {
             Some(end) => copy_text(alloc, end),
             None => Err(WordsFault::Words),
@@ -50,22 +52,23 @@ fn terminator_or(
 }
 
 /// How the frame is written. Refuses values without a meaning, and want of memory.
+#[tactic(auto, unfolding(crate::specs::Arguments::is_option, crate::specs::Arguments::is_flag))]
 pub(crate) fn write_options_of(
     alloc: Global,
-    parts: &[Part<'_>],
+    arguments: &Arguments<'_>,
 ) -> Result<CsvWriterOptions, WordsFault>
-    ensures options { IfOk result (λ options. write_options_of (part_texts parts.now) ≡ Some options) }
-    ensures refused { IsErrOf result WordsFault.Words → write_options_of (part_texts parts.now) ≡ None }
+    ensures options { IfOk result (λ options. write_options_of arguments.now ≡ Some options) }
+    ensures refused { IsErrOf result WordsFault.Words → write_options_of arguments.now ≡ None }
 {
-    let separator = set_or(alloc, parts, "--out-sep", b',')?;
-    let quote_char = set_or(alloc, parts, "--out-quote", b'"')?;
-    let null = text_or(alloc, parts, "--out-null", "")?;
-    let line_terminator = terminator_or(alloc, parts, "--out-eol", "\n")?;
-    let quote_style = set_or(alloc, parts, "--style", QuoteStyle::Necessary)?;
-    let batch_size = set_or(alloc, parts, "--batch", 1024)?;
+    let separator = set_or(alloc, arguments, "--out-sep", b',')?;
+    let quote_char = set_or(alloc, arguments, "--out-quote", b'"')?;
+    let null = text_or(alloc, arguments, "--out-null", "")?;
+    let line_terminator = terminator_or(alloc, arguments, "--out-eol", "\n")?;
+    let quote_style = set_or(alloc, arguments, "--style", QuoteStyle::Necessary)?;
+    let batch_size = set_or(alloc, arguments, "--batch", 1024)?;
     Ok(CsvWriterOptions {
-        include_bom: has_name(parts, "--out-bom"),
-        include_header: !has_name(parts, "--out-no-header"),
+        include_bom: arguments.has_flag("--out-bom"),
+        include_header: !arguments.has_flag("--out-no-header"),
         batch_size,
         maintain_order: false,
         serialize_options: SerializeOptions {

@@ -21,8 +21,12 @@ fn schema(rt: &impl Abort, alloc: Global) -> Schema
     let mut schema = Schema::new(alloc);
     let number = PlSmallStr::from_str(alloc, "n").expect(rt, "a name");
     let text = PlSmallStr::from_str(alloc, "t").expect(rt, "a name");
-    schema.with_column(number, DataType::Int64).expect(rt, "a column");
-    schema.with_column(text, DataType::String).expect(rt, "a column");
+    schema
+        .with_column(number, DataType::Int64)
+        .expect(rt, "a column");
+    schema
+        .with_column(text, DataType::String)
+        .expect(rt, "a column");
     assert!(rt; schema.len() == 2);
     schema
 }
@@ -64,7 +68,10 @@ fn front<W: Abort + Threads + Sync>(
     assert!(rt; first_unreadable(&[0, 1], &schema).is_none());
     let options = CsvWriterOptions::new(alloc).expect(rt, "options");
     let options = &options.serialize_options;
-    print_front(rt, alloc, workers, text, &schema, &plan, options, piece_size).expect(rt, "memory")
+    print_front(
+        rt, alloc, workers, text, &schema, &plan, options, piece_size,
+    )
+    .expect(rt, "memory")
 }
 
 // The lines, one text behind the other.
@@ -82,7 +89,8 @@ fn rows(rt: &impl Abort, alloc: Global, count: usize) -> Vec<u8> {
     for k in 0..count {
         let digits = [b'1' + (k % 9) as u8, b'0' + (k % 10) as u8];
         text.extend_from_slice(&digits).expect(rt, "memory");
-        text.extend_from_slice(b",\"a\nb, \"\"c\"\"\"\n").expect(rt, "memory");
+        text.extend_from_slice(b",\"a\nb, \"\"c\"\"\"\n")
+            .expect(rt, "memory");
     }
     text
 }
@@ -94,8 +102,14 @@ fn all_of_a_sound_text_is_printed(rt: HostRuntime) {
     for workers in [1, 2, 3, 8, 64] {
         for piece_size in [1, 7, 64, 1000, 100_000] {
             let front = front(&rt, alloc, workers, piece_size, &text);
-            assert!(rt; front.end == text.len() && front.rows == 300, "by {workers} in {piece_size}");
-            assert!(rt; lines_of(&rt, alloc, &front) == text, "by {workers} in {piece_size}");
+            assert!(rt;
+                front.end == text.len() && front.rows == 300,
+                "by {workers} in {piece_size}"
+            );
+            assert!(rt;
+                lines_of(&rt, alloc, &front) == text,
+                "by {workers} in {piece_size}"
+            );
         }
     }
 }
@@ -124,6 +138,9 @@ fn front_ends_before_a_fault(rt: HostRuntime) {
     for workers in [1, 2, 5] {
         let front = front(&rt, alloc, workers, 24, &text);
         assert!(rt; front.end <= before && front.rows <= 50, "by {workers}");
-        assert!(rt; text.starts_with(&lines_of(&rt, alloc, &front)), "by {workers}");
+        assert!(rt;
+            text.starts_with(&lines_of(&rt, alloc, &front)),
+            "by {workers}"
+        );
     }
 }

@@ -32,7 +32,7 @@ use Rattle.pl_rows.specs.declared.plan.RangePlan.{RangePlan}
 use Rattle.pl_rows.specs.declared.range.RangeEnd.{RangeEnd}
 use Rattle.pl_rows.specs.declared.range.RangeEnd.TheVariants as end
 use Rattle.pl_rows.proofs.SoundTextLaws.{range-behind, same-columns-range, row-fits}
-use Rattle.pl_read.specs.Options.{settled_schema}
+use Rattle.pl_read.specs.Options.{rules_of, settled_schema}
 use Rattle.pl_read.specs.Projection.{projected}
 use Rattle.pl_read.specs.Reading.{frame_of}
 use Rattle.pl_read.specs.Refusals.{codes_past, numbers_past, index_past, faulty_record}
@@ -84,20 +84,21 @@ can-print plan o schema records can plain =
 codes-none : (rules : RowRules) (given : List Row) (schema : List Entry) (places : List ℕ) → list_any (λ place. is_categorical (entry_at schema place).1) places ≡ false
     → first_some (map codes_past (frame_of_rows rules (entries_in schema places) given)) ≡ None
 codes-none rules given schema [] none = refl
-codes-none rules given schema (place ∷ places) none = by (is_categorical (entry_at schema place).1) refl none
+codes-none rules given schema (place ∷ places) none = by (is_categorical (entry_at schema place).1) refl none (codes-none rules given schema places)
   where
     by : (t : Bool) → is_categorical (entry_at schema place).1 ≡ t → (t || list_any (λ place. is_categorical (entry_at schema place).1) places) ≡ false
+        → (list_any (λ place. is_categorical (entry_at schema place).1) places ≡ false → first_some (map codes_past (frame_of_rows rules (entries_in schema places) given)) ≡ None)
         → first_some (map codes_past (frame_of_rows rules (entries_in schema (place ∷ places)) given)) ≡ None
-    by true e wrong = absurd (cc)
-    by false e none =
+    by true e wrong rest = absurd (cc)
+    by false e none rest =
         let column = read_column rules given (place, entry_at schema place) in
         let here : codes_past column ≡ None = rw e refl in
-        first_some-behind (codes_past column) (map codes_past (frame_of_rows rules (entries_in schema places) given)) here ∙ codes-none rules given schema places none
+        first_some-behind (codes_past column) (map codes_past (frame_of_rows rules (entries_in schema places) given)) here ∙ rest none
 
 index-none : (o : CsvReadOptions) (schema : List Entry) (records : List ℕ) → IsPlain o schema → index_past o.row_index (length (rows_in o records)) (data_columns o schema records) ≡ None
 index-none o schema records plain =
     ap (λ i. index_past i (length (rows_in o records)) (data_columns o schema records)) plain.unnumbered
-    ∙ codes-none _ (rows_in o records) schema (projected o schema) plain.uncoded
+    ∙ codes-none (rules_of o schema) (rows_in o records) schema (projected o schema) plain.uncoded
 
 frame-plain : (o : CsvReadOptions) (schema : List Entry) (records : List ℕ) → IsPlain o schema → data_frame o schema records ≡ data_columns o schema records
 frame-plain o schema records plain = ap (λ i. with_index i (length (rows_in o records)) (data_columns o schema records)) plain.unnumbered
@@ -105,74 +106,74 @@ frame-plain o schema records plain = ap (λ i. with_index i (length (rows_in o r
 -- ---- data whose front was printed, and what is left of it read
 
 -- where it ends
-whole-end : (plan : RangePlan) (o : CsvReadOptions) (schema : List Entry) (records : List ℕ) (write : CsvWriterOptions) (end n : ℕ) (lines : List (List ℕ)) (e : RangeEnd) → CanReadData plan o schema records → IsPlain o schema
-    → IsFrontPrinted plan schema (cell_options write.serialize_options) records end n (concat lines) → e ≡ range_end plan (columns_in schema plan.projection.places.now) (drop end records)
+whole-end : (plan : RangePlan) (o : CsvReadOptions) (schema : List Entry) (records : List ℕ) (write : CsvWriterOptions) (upto n : ℕ) (lines : List (List ℕ)) (e : RangeEnd) → CanReadData plan o schema records → IsPlain o schema
+    → IsFrontPrinted plan schema (cell_options write.serialize_options) records upto n (concat lines) → e ≡ range_end plan (columns_in schema plan.projection.places.now) (drop upto records)
     → end_behind n e ≡ range_end plan (columns_in schema plan.projection.places.now) records
-whole-end plan o schema records write end n lines e can plain front e_is =
+whole-end plan o schema records write upto n lines e can plain front e_is =
     let columns = columns_in schema plan.projection.places.now in
-    let rest = drop end records in
-    let both = range-behind plan schema (take end records) rest (plan-unlimited plan o schema can.plan_is plain) can.plan_is.is_last (plan-dialect plan o schema records can) front.front.sound in
+    let rest = drop upto records in
+    let both = range-behind plan schema (take upto records) rest (plan-unlimited plan o schema can.plan_is plain) can.plan_is.is_last (plan-dialect plan o schema records can) front.front.sound in
     ap (end_behind n) e_is
     ∙ ap (λ k. end_behind k (range_end plan columns rest)) front.front.count_is
     ∙ sym both.1
-    ∙ ap (range_end plan columns) (take-append-drop end records)
+    ∙ ap (range_end plan columns) (take-append-drop upto records)
 
 -- its columns
-whole-frame : (plan : RangePlan) (o : CsvReadOptions) (schema : List Entry) (records : List ℕ) (write : CsvWriterOptions) (end n : ℕ) (lines : List (List ℕ)) → CanReadData plan o schema records → IsPlain o schema
-    → IsFrontPrinted plan schema (cell_options write.serialize_options) records end n (concat lines)
-    → stacked (text_frame plan schema (take end records)) (range_frame plan schema (drop end records)) ≡ range_frame plan schema records
-whole-frame plan o schema records write end n lines can plain front =
+whole-frame : (plan : RangePlan) (o : CsvReadOptions) (schema : List Entry) (records : List ℕ) (write : CsvWriterOptions) (upto n : ℕ) (lines : List (List ℕ)) → CanReadData plan o schema records → IsPlain o schema
+    → IsFrontPrinted plan schema (cell_options write.serialize_options) records upto n (concat lines)
+    → stacked (text_frame plan schema (take upto records)) (range_frame plan schema (drop upto records)) ≡ range_frame plan schema records
+whole-frame plan o schema records write upto n lines can plain front =
     let both =
-    range-behind plan schema (take end records) (drop end records) (plan-unlimited plan o schema can.plan_is plain) can.plan_is.is_last (plan-dialect plan o schema records can) front.front.sound in
-    sym both.0 ∙ ap (range_frame plan schema) (take-append-drop end records)
+    range-behind plan schema (take upto records) (drop upto records) (plan-unlimited plan o schema can.plan_is plain) can.plan_is.is_last (plan-dialect plan o schema records can) front.front.sound in
+    sym both.0 ∙ ap (range_frame plan schema) (take-append-drop upto records)
 
 still-ended : (n : ℕ) (e : RangeEnd) → (e ≡ end.Closed) ⊎ (e ≡ end.Open) → (end_behind n e ≡ end.Closed) ⊎ (end_behind n e ≡ end.Open)
 still-ended n e (inl closed) = inl (ap (end_behind n) closed)
-still-ended n e (inr open) = inr (ap (end_behind n) open)
+still-ended n e (inr opened) = inr (ap (end_behind n) opened)
 
 -- the text
-pub data-text : (plan : RangePlan) (o : CsvReadOptions) (schema : List Entry) (records : List ℕ) (write : CsvWriterOptions) (end n : ℕ) (lines : List (List ℕ)) (read : RangeColumns) → CanReadData plan o schema records → IsPlain o schema
-    → IsFrontPrinted plan schema (cell_options write.serialize_options) records end n (concat lines) → IsRangeRead plan schema (drop end records) read → (read.end ≡ end.Closed) ⊎ (read.end ≡ end.Open)
+pub data-text : (plan : RangePlan) (o : CsvReadOptions) (schema : List Entry) (records : List ℕ) (write : CsvWriterOptions) (upto n : ℕ) (lines : List (List ℕ)) (read : RangeColumns) → CanReadData plan o schema records → IsPlain o schema
+    → IsFrontPrinted plan schema (cell_options write.serialize_options) records upto n (concat lines) → IsRangeRead plan schema (drop upto records) read → (read.end ≡ end.Closed) ⊎ (read.end ≡ end.Open)
     → printed_text (frame_options write) (names_of read.columns.items) lines read.columns.items ≡ text_of_frame (frame_options write) (data_frame o schema records)
-data-text plan o schema records write end n lines read can plain front range ended =
-    let first = text_frame plan schema (take end records) in
+data-text plan o schema records write upto n lines read can plain front range ended =
+    let first = text_frame plan schema (take upto records) in
     let rest = read.columns.items in
-    let same : HaveSameColumns first rest = subst (HaveSameColumns first) (sym range.columns) (same-columns-range plan schema (take end records) (drop end records)) in
+    let same : HaveSameColumns first rest = subst (HaveSameColumns first) (sym range.columns) (same-columns-range plan schema (take upto records) (drop upto records)) in
     let before : concat lines ≡ all_lines (frame_options write) first = front.front.lines_are ∙ lines-alone write first in
     let frame : stacked first rest ≡ data_frame o schema records =
     ap (stacked first) range.columns
-    ∙ whole-frame plan o schema records write end n lines can plain front
-    ∙ columns-at plan o schema records (end_behind n read.end) can.plan_is (whole-end plan o schema records write end n lines read.end can plain front range.end_is) (still-ended n read.end ended)
+    ∙ whole-frame plan o schema records write upto n lines can plain front
+    ∙ columns-at plan o schema records (end_behind n read.end) can.plan_is (whole-end plan o schema records write upto n lines read.end can plain front range.end_is) (still-ended n read.end ended)
     ∙ sym (frame-plain o schema records plain) in
-    printed-is-text (frame_options write) lines first rest same (level-text plan schema (take end records)) before ∙ ap (text_of_frame (frame_options write)) frame
+    printed-is-text (frame_options write) lines first rest same (level-text plan schema (take upto records)) before ∙ ap (text_of_frame (frame_options write)) frame
 
 -- no cause
-pub data-sound : (plan : RangePlan) (o : CsvReadOptions) (schema : List Entry) (records : List ℕ) (write : CsvWriterOptions) (end n : ℕ) (lines : List (List ℕ)) (read : RangeColumns) → CanReadData plan o schema records → IsPlain o schema
-    → IsFrontPrinted plan schema (cell_options write.serialize_options) records end n (concat lines) → IsRangeRead plan schema (drop end records) read → (read.end ≡ end.Closed) ⊎ (read.end ≡ end.Open)
+pub data-sound : (plan : RangePlan) (o : CsvReadOptions) (schema : List Entry) (records : List ℕ) (write : CsvWriterOptions) (upto n : ℕ) (lines : List (List ℕ)) (read : RangeColumns) → CanReadData plan o schema records → IsPlain o schema
+    → IsFrontPrinted plan schema (cell_options write.serialize_options) records upto n (concat lines) → IsRangeRead plan schema (drop upto records) read → (read.end ≡ end.Closed) ⊎ (read.end ≡ end.Open)
     → data_cause o schema records ≡ None
-data-sound plan o schema records write end n lines read can plain front range ended =
-    let none = no-fault-at plan o schema records (end_behind n read.end) can.plan_is (whole-end plan o schema records write end n lines read.end can plain front range.end_is) (still-ended n read.end ended) in
+data-sound plan o schema records write upto n lines read can plain front range ended =
+    let none = no-fault-at plan o schema records (end_behind n read.end) can.plan_is (whole-end plan o schema records write upto n lines read.end can plain front range.end_is) (still-ended n read.end ended) in
     let sound : faulty_record o schema records ≡ None = ap (option_map (λ found. error.ComputeError (compute_fault.Record found.0 found.1.0 found.1.1))) none in
     first_some-behind (faulty_record o schema records) _ sound ∙ first_some-one _ ∙ index-none o schema records plain
 
 -- the first cause
-pub data-fault : (plan : RangePlan) (o : CsvReadOptions) (schema : List Entry) (records : List ℕ) (write : CsvWriterOptions) (end n : ℕ) (lines : List (List ℕ)) (read : RangeColumns) (row column : ℕ) (kind : FaultKind)
-    → CanReadData plan o schema records → IsPlain o schema → IsFrontPrinted plan schema (cell_options write.serialize_options) records end n (concat lines) → IsRangeRead plan schema (drop end records) read
+pub data-fault : (plan : RangePlan) (o : CsvReadOptions) (schema : List Entry) (records : List ℕ) (write : CsvWriterOptions) (upto n : ℕ) (lines : List (List ℕ)) (read : RangeColumns) (row column : ℕ) (kind : FaultKind)
+    → CanReadData plan o schema records → IsPlain o schema → IsFrontPrinted plan schema (cell_options write.serialize_options) records upto n (concat lines) → IsRangeRead plan schema (drop upto records) read
     → read.end ≡ end.Fault row column kind → data_cause o schema records ≡ Some (error.ComputeError (compute_fault.Record (n + row) column kind))
-data-fault plan o schema records write end n lines read row column kind can plain front range ended =
+data-fault plan o schema records write upto n lines read row column kind can plain front range ended =
     fault-at plan o schema records (n + row) column kind can.plan_is
-    (sym (whole-end plan o schema records write end n lines read.end can plain front range.end_is) ∙ ap (end_behind n) ended)
+    (sym (whole-end plan o schema records write upto n lines read.end can plain front range.end_is) ∙ ap (end_behind n) ended)
 
 -- whose number is one of 64 bits
-pub data-fits : (plan : RangePlan) (o : CsvReadOptions) (schema : List Entry) (records : List ℕ) (write : CsvWriterOptions) (end n : ℕ) (lines : List (List ℕ)) (read : RangeColumns) (row column : ℕ) (kind : FaultKind)
-    → CanReadData plan o schema records → IsFrontPrinted plan schema (cell_options write.serialize_options) records end n (concat lines) → IsRangeRead plan schema (drop end records) read
+pub data-fits : (plan : RangePlan) (o : CsvReadOptions) (schema : List Entry) (records : List ℕ) (write : CsvWriterOptions) (upto n : ℕ) (lines : List (List ℕ)) (read : RangeColumns) (row column : ℕ) (kind : FaultKind)
+    → CanReadData plan o schema records → IsFrontPrinted plan schema (cell_options write.serialize_options) records upto n (concat lines) → IsRangeRead plan schema (drop upto records) read
     → read.end ≡ end.Fault row column kind → length records < 2 ^ 64 → n + row < 2 ^ 64
-data-fits plan o schema records write end n lines read row column kind can front range ended small =
+data-fits plan o schema records write upto n lines read row column kind can front range ended small =
     let columns = columns_in schema plan.projection.places.now in
-    let rest = drop end records in
-    let whole : length (take end records ++ rest) < 2 ^ 64 = subst (λ l. length l < 2 ^ 64) (sym (take-append-drop end records)) small in
+    let rest = drop upto records in
+    let whole : length (take upto records ++ rest) < 2 ^ 64 = subst (λ l. length l < 2 ^ 64) (sym (take-append-drop upto records)) small in
     let fits : IsRowFit n (range_end plan columns rest) =
-    subst (λ k. IsRowFit k (range_end plan columns rest)) (sym front.front.count_is) (row-fits plan columns (take end records) rest (plan-dialect plan o schema records can).distinct whole) in
+    subst (λ k. IsRowFit k (range_end plan columns rest)) (sym front.front.count_is) (row-fits plan columns (take upto records) rest (plan-dialect plan o schema records can).distinct whole) in
     subst (IsRowFit n) (sym range.end_is ∙ ended) fits
 
 -- what is left is a frame
@@ -187,7 +188,7 @@ pub printed-or-unread : (read : CsvReadOptions) (schema : List Entry) (input : L
     → OnOk result (late_cause read schema input ≡ None) → IfErr result (IsFault (late_cause read schema input))
     → MatchResult result (IsPrintedRead read write input) (IsUnread read schema input write)
 printed-or-unread read schema input write (Ok printed) schema_is may small text none fault =
-    subst (λ s. printed_text (frame_options write) (names_of printed.rest) (map (λ lines. lines.items) printed.lines.items) printed.rest ≡ text_of_frame (frame_options write) (frame_of read s input) → late_cause read s input ≡ None → IsPrintedRead read write input)
+    subst (λ s. printed_text (frame_options write) (names_of printed.rest) (map (λ lines. lines.items) printed.lines.items) printed.rest ≡ text_of_frame (frame_options write) (frame_of read s input) → late_cause read s input ≡ None → IsPrintedRead read write input printed)
     (sym schema_is)
     (λ text none. record { frame = frame_of read (settled_schema read input) input; is = valid-read read (settled_schema read input) input write _ may small none refl; text_is = text }) text none
 printed-or-unread read schema input write (Err refusal) schema_is may small text none fault = unread-late read schema input write refusal may small fault

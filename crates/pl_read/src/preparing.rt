@@ -22,7 +22,6 @@ use std::alloc::Global;
 
 /// What the rows of an input are read by: how many workers read, the settled schema, the null values of its columns, the places of
 /// the columns that are read, and where the data begins.
-#[derive(Drop)]
 pub struct Prepared {
     pub n_threads: Option<usize>,
     pub schema: Schema,
@@ -31,13 +30,21 @@ pub struct Prepared {
     pub start: usize,
 }
 
+impl Drop for Prepared {
+    fn drop(self) {
+        let Prepared {
+            n_threads: _,
+            schema: _,
+            null_values: _,
+            places: _,
+            start: _,
+        } = self;
+    }
+}
+
 /// What the rows of an input are read by, where the options may stand: `check_options` tells. Refuses the first cause against the
 /// input that stands before those of its rows (docs/refusals.md), and want of memory.
-pub fn prepare(
-    alloc: Global,
-    input: &[u8],
-    options: &CsvReadOptions,
-) -> PolarsResult<Prepared>
+pub fn prepare(alloc: Global, input: &[u8], options: &CsvReadOptions) -> PolarsResult<Prepared>
     requires { MayRead options.now }
     ensures prepared { IfOk result (IsPrepared options.now (settled_schema options.now input.now) input.now) }
     ensures sound { OnOk result (opening_cause options.now (settled_schema options.now input.now) input.now ≡ None) }

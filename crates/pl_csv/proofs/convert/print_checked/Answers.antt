@@ -1,0 +1,36 @@
+use Rattle.std.proofs.Common.{◌≡◌, List, drop, sym, ◌∙◌, ap, subst}
+use Rattle.std.specs.Prelude.{OnOk, IfErr, None}
+use Rattle.pl_frame.specs.Schema.{Entry}
+use Rattle.pl_infer.specs.Causes.{IsFault}
+use Rattle.pl_read.specs.Options.{settled_schema}
+use Rattle.pl_read.specs.Steps.{late_cause, data_cause}
+use Rattle.pl_read.proofs.SettlingLaws.{late-opening, late-data}
+use Rattle.pl_csv.proofs.convert.print_checked.Goals as goal
+
+pub returns-in-Ok-clause-sound : goal.returns-in-Ok-clause-sound
+returns-in-Ok-clause-sound g c =
+    let o = c.args.read.now in
+    let input = c.args.input.now in
+    let schema = settled_schema o input in
+    let prepared = c.in-Ok.prepared in
+    let is = c.in-Ok.ensures.prepared in
+    let records = drop prepared.start input in
+    let cause : data_cause o prepared.schema records ≡ late_cause o schema input =
+    ap (λ (s : List Entry). data_cause o s records) is.schema_is ∙ sym (late-data o schema input records c.in-Ok.ensures.sound is.data_is) in
+    subst (λ is. OnOk c.print_prepared.result (is ≡ None)) cause c.print_prepared.ensures.sound
+
+pub returns-in-Ok-clause-refused : goal.returns-in-Ok-clause-refused
+returns-in-Ok-clause-refused g c =
+    let o = c.args.read.now in
+    let input = c.args.input.now in
+    let schema = settled_schema o input in
+    let prepared = c.in-Ok.prepared in
+    let is = c.in-Ok.ensures.prepared in
+    let records = drop prepared.start input in
+    let cause : data_cause o prepared.schema records ≡ late_cause o schema input =
+    ap (λ (s : List Entry). data_cause o s records) is.schema_is ∙ sym (late-data o schema input records c.in-Ok.ensures.sound is.data_is) in
+    subst (λ is. IfErr c.print_prepared.result (IsFault is)) cause c.print_prepared.ensures.refused
+
+pub returns-in-Err-clause-refused : goal.returns-in-Err-clause-refused
+returns-in-Err-clause-refused g c =
+    late-opening c.args.read.now (settled_schema c.args.read.now c.args.input.now) c.args.input.now c.in-Err.fault c.in-Err.ensures.refused

@@ -1,12 +1,12 @@
 -- What is printed of data piece by piece is the text of its frame.
-use Rattle.std.proofs.Common.{◌≡◌, ℕ, ◌+◌, ◌<◌, ◌^◌, Bool, true, false, ◌&&◌, ◌||◌, List, [], ◌∷◌, ◌++◌, map, length, take, drop, refl, sym, ◌∙◌, ap, subst, inl, inr, nat_lt}
+use Rattle.std.proofs.Common.{◌≡◌, ℕ, ◌+◌, ◌<◌, ◌^◌, Bool, true, false, ◌||◌, List, [], ◌∷◌, ◌++◌, map, length, take, drop, refl, sym, ◌∙◌, ap, subst, inl, inr}
 use Rattle.std.specs.Prelude.{◌⊎◌, Option, None, Some, Result, Ok, Err, IfOk, OnOk, IfErr, MatchResult}
 use Rattle.std.specs.Io.KnownBytes.{Appends}
 use Rattle.std.specs.List.{concat, list_any}
 use Rattle.std.specs.Option.{option_map}
 use Rattle.std.proofs.lemmas.List.{take-append-drop}
 use Rattle.pl_frame.specs.Dialect.{IsDialect}
-use Rattle.pl_frame.specs.Frame.{ColumnValue, IsFrame, names_of}
+use Rattle.pl_frame.specs.Frame.{IsFrame, names_of}
 use Rattle.pl_frame.specs.FrameParts.{HaveSameColumns, stacked}
 use Rattle.pl_frame.specs.Schema.{Entry}
 use Rattle.pl_frame.specs.Text.{text_of_frame}
@@ -16,11 +16,11 @@ use Rattle.pl_frame.specs.declared.error.PolarsError.{PolarsError}
 use Rattle.pl_frame.specs.declared.error.PolarsError.TheVariants as error
 use Rattle.pl_scan.specs.Dialect.{marks_of, comment_of}
 use Rattle.pl_cells.specs.InitBuffers.{entry_at}
-use Rattle.pl_infer.specs.Causes.{when, first_some, IsFault}
+use Rattle.pl_infer.specs.Causes.{first_some, IsFault}
 use Rattle.pl_infer.specs.Text as infer
 use Rattle.pl_infer.specs.declared.read_options.CsvReadOptions.{CsvReadOptions}
 use Rattle.pl_schema.specs.Schemas.{is_categorical}
-use Rattle.pl_table.specs.Rows.{Row, rows}
+use Rattle.pl_table.specs.Rows.{Row}
 use Rattle.pl_rows.specs.Cells.{RowRules}
 use Rattle.pl_rows.specs.Columns.{read_column, entries_in, columns_in, frame_of_rows}
 use Rattle.pl_rows.specs.Pieces.{end_behind, IsRowFit}
@@ -35,7 +35,7 @@ use Rattle.pl_rows.proofs.SoundTextLaws.{range-behind, same-columns-range, row-f
 use Rattle.pl_read.specs.Options.{rules_of, settled_schema}
 use Rattle.pl_read.specs.Projection.{projected}
 use Rattle.pl_read.specs.Reading.{frame_of}
-use Rattle.pl_read.specs.Refusals.{codes_past, numbers_past, index_past, faulty_record}
+use Rattle.pl_read.specs.Refusals.{codes_past, index_past, faulty_record}
 use Rattle.pl_read.specs.Rows.{rows_in, data_columns, data_frame, with_index}
 use Rattle.pl_read.specs.Steps.{MayRead, late_cause, data_cause, IsPlanOf, CanReadData}
 use Rattle.pl_read.proofs.CauseLaws.{first_some-one, first_some-behind}

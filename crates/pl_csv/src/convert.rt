@@ -142,7 +142,16 @@ fn print_prepared<W: Threads + Wait + Sync>(
         let plan = plan_of(read, prepared);
         let records = &input[prepared.start..];
         let schema = &prepared.schema;
-        return print_data(rt, alloc, records, read, schema, &plan, prepared.n_threads, write);
+        return print_data(
+            rt,
+            alloc,
+            records,
+            read,
+            schema,
+            &plan,
+            prepared.n_threads,
+            write,
+        );
     }
     match read_prepared(rt, alloc, &OpenGate, input, read, prepared) {
         Ok(rest) => Ok(Printed {
@@ -217,7 +226,15 @@ pub fn convert<W: Threads + Wait + Sync, S: Sink>(
 {
     let printed = print_valid(rt, alloc, input, read, write)?;
     let workers = worker_count(read.n_threads);
-    match write_behind(rt, alloc, workers, &printed.lines, printed.rest.columns(), write, sink) {
+    match write_behind(
+        rt,
+        alloc,
+        workers,
+        &printed.lines,
+        printed.rest.columns(),
+        write,
+        sink,
+    ) {
         Ok(()) => Ok(()),
         Err(SinkFault::Device) => Err(PolarsError::IO),
         Err(SinkFault::OutOfMemory) => Err(PolarsError::OutOfMemory),

@@ -4,6 +4,8 @@
 #[cfg(test)]
 mod adapters;
 #[cfg(test)]
+mod convert;
+#[cfg(test)]
 mod counting;
 #[cfg(test)]
 mod examples;

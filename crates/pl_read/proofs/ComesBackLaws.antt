@@ -1,6 +1,6 @@
 -- What is written is read again.
-use Rattle.std.proofs.Common.{◌≡◌, ◌≢◌, ℕ, zero, suc, ◌+◌, ◌^◌, ◌<◌, ◌≤◌, Bool, true, false, cond, not, ◌&&◌, ◌||◌, ◌==◌, if◌then◌else◌, nat_eq, nat_lt, nat_le, List, [], ◌∷◌, length, map, refl, sym, ◌∙◌, ap, subst, inl, inr, arith}
-use Rattle.std.specs.Prelude.{Option, None, Some, Result, Ok, unwrap_or, slice_get, filter, count_by, is_none}
+use Rattle.std.proofs.Common.{◌≡◌, ◌≢◌, ℕ, zero, suc, ◌+◌, ◌^◌, ◌<◌, ◌≤◌, Bool, true, false, cond, not, ◌&&◌, ◌||◌, ◌==◌, nat_eq, nat_lt, nat_le, List, [], ◌∷◌, length, map, refl, sym, ◌∙◌, ap, subst, arith}
+use Rattle.std.specs.Prelude.{Option, None, Some, Result, Ok, unwrap_or, filter, count_by, is_none}
 use Rattle.std.specs.List.{AllByRecursion, range_with_len}
 use Rattle.std.specs.Option.{option_map, option_and_then}
 use Rattle.std.proofs.lemmas.Bool.Decides.{nat_tests}
@@ -22,13 +22,11 @@ use Rattle.pl_frame.specs.Schema.{Entry}
 use Rattle.pl_frame.specs.Text.{WriteOptions, row_lines, text_of_frame}
 use Rattle.pl_frame.specs.Types.{is_readable}
 use Rattle.pl_scan.specs.Start.{skips, data_left}
-use Rattle.pl_cells.specs.declared.null_values.NullValues.{NullValues}
 use Rattle.pl_cells.specs.InitBuffers.{entry_at}
 use Rattle.pl_cells.specs.NullValues.{compiled_for, unknown_name}
 use Rattle.pl_infer.specs.declared.read_options.CsvReadOptions.{CsvReadOptions}
-use Rattle.pl_infer.specs.Causes.{IsFirstCause, when, first_some}
-use Rattle.pl_schema.specs.Schemas.{first_unreadable, unreadable, is_categorical}
-use Rattle.pl_rows.specs.Cells.{RowRules}
+use Rattle.pl_infer.specs.Causes.{when, first_some}
+use Rattle.pl_schema.specs.Schemas.{unreadable, is_categorical}
 use Rattle.pl_rows.specs.Columns.{entries_in, columns_in, frame_of_rows}
 use Rattle.pl_rows.specs.Rows.{first_faulty}
 use Rattle.pl_table.specs.Rows.{Row, ended_row}
@@ -39,10 +37,10 @@ use Rattle.pl_round_trip.proofs.FitRowLaws.{fitting-rows}
 use Rattle.pl_round_trip.proofs.HeadTextLaws.{data-returns}
 use Rattle.pl_read.specs.CsvReader.{IsMeaning, AnswersUnlessFailed}
 use Rattle.pl_read.specs.Options.{data_of, rules_of, settled_schema}
-use Rattle.pl_read.specs.Projection.{times_asked, asked, projected, outside, doubled, greatest}
-use Rattle.pl_read.specs.Reading.{frame_of, IsRead}
+use Rattle.pl_read.specs.Projection.{times_asked, projected, doubled, greatest}
+use Rattle.pl_read.specs.Reading.{IsRead}
 use Rattle.pl_read.specs.Refusals.{is_zero, has_wrong_option, unknown, out_of_bounds, duplicate, nothing_read, faulty_record, codes_past, index_past, overrides, read_causes}
-use Rattle.pl_read.specs.RoundTrip.{null_values_of, matching, Matches, ComesBack, ReturnsFrames}
+use Rattle.pl_read.specs.RoundTrip.{null_values_of, matching, ComesBack, ReturnsFrames}
 use Rattle.pl_read.specs.Rows.{rows_in, data_columns}
 use Rattle.pl_read.proofs.PlaceLaws.{find-range, first_unreadable-none}
 use Rattle.pl_read.proofs.ReturningLaws.{all-at, there, entry-is, ReadsWritten, rows-sound, columns-return}

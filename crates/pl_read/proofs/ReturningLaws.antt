@@ -1,15 +1,14 @@
 -- The rows of a frame that fits are read as its columns.
-use Rattle.std.proofs.Common.{◌≡◌, ◌≢◌, ℕ, zero, suc, ◌+◌, ◌<◌, ◌≤◌, Bool, true, false, not, ◌&&◌, ◌||◌, ◌==◌, if◌then◌else◌, nat_lt, List, [], ◌∷◌, ◌++◌, length, map, refl, sym, ◌∙◌, ap, subst, inl, inr, arith, append-nil}
+use Rattle.std.proofs.Common.{◌≡◌, ℕ, zero, suc, ◌+◌, ◌<◌, ◌≤◌, Bool, true, false, not, ◌&&◌, if◌then◌else◌, nat_lt, List, [], ◌∷◌, ◌++◌, length, map, refl, sym, ◌∙◌, ap, subst, inl, arith, append-nil}
 use Rattle.std.specs.Prelude.{Option, None, Some, Ok, unwrap_or, slice_get}
 use Rattle.std.specs.List.{AllByRecursion, range_with_len, filter_map, cons_option}
 use Rattle.std.specs.Option.{option_map}
 use Rattle.std.proofs.lemmas.Bool.Decides.{nat_tests}
 use Rattle.std.proofs.lemmas.List.{length-map}
 use Rattle.std.proofs.lemmas.Option.{slice_get-map}
-use Rattle.pl_frame.specs.declared.data_type.DataType.{DataType}
 use Rattle.pl_frame.specs.declared.error.FaultKind.{FaultKind}
 use Rattle.pl_frame.specs.declared.error.FaultKind.TheVariants as fault
-use Rattle.pl_frame.specs.Frame.{Scalar, ColumnValue, HaveHeight, IsFrame, cell_at, height_of}
+use Rattle.pl_frame.specs.Frame.{Scalar, ColumnValue, IsFrame, cell_at, height_of}
 use Rattle.pl_frame.specs.FrameParts.{schema_of}
 use Rattle.pl_frame.specs.Schema.{Entry}
 use Rattle.pl_frame.specs.Text.{WriteOptions, written_cell}

@@ -20,6 +20,17 @@ pub struct Front {
     pub lines: Vec<Vec<u8>>,
 }
 
+// So much memory is taken and given back before the first piece.
+const ROOM: usize = 1 << 22;
+
+// Takes memory and gives it back. The allocator of the C library has seen then that memory of this size comes and goes, and keeps
+// what one piece gives back for the next one, where it would hand it to the system and ask for it again, page by page. Where memory
+// is wanting, nothing comes of it.
+fn make_room(alloc: Global) {
+    let mut room: Vec<u8> = Vec::new(alloc);
+    let _ = room.reserve(ROOM);
+}
+
 /// Reads and prints the records of a text by so many workers, each a region of its own in pieces of about so many bytes, as far as
 /// pieces end where an item does, no row has a fault and memory suffices: from the front on without a gap. Most often that is all of
 /// it but for a last record without a line end. Its last byte counts as the last of the input. Refuses only want of memory.
@@ -38,6 +49,7 @@ pub fn print_front<W: Threads + Sync>(
     requires size { 0 < piece_size }
     ensures { IfOk result (λ front. IsFrontPrinted plan.now schema.now (cell_options options.now) records.now front.end front.rows (concat (map (λ lines. lines.items) front.lines.items))) }
 {
+    make_room(alloc);
     let dialect = plan.dialect;
     let mut regions = cut_regions(
         rt,

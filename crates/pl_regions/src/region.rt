@@ -96,6 +96,8 @@ impl<'a> Region<'a> {
         let Ok(mut printer) = RowPrinter::new(alloc) else {
             return;
         };
+        // The lines are about as long as the text; where there is no such room, they get it bit by bit.
+        let _ = self.lines.reserve(self.text.len());
         let dialect = plan.dialect;
         let lines = CountLines::new(dialect.quote_char, dialect.eol_char);
         while self.end < self.text.len() {

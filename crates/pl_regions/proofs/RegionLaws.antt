@@ -1,13 +1,12 @@
 -- Texts that are read and printed apart, one behind the other.
-use Rattle.std.proofs.Common.{◌≡◌, ℕ, zero, suc, true, ◌+◌, ◌-◌, ◌<◌, ◌≤◌, List, [], ◌∷◌, ◌++◌, length, take, drop, get_or, refl, sym, ◌∙◌, ap, subst, arith, length-append, length-take, length-drop, append_assoc, append-nil}
-use Rattle.std.specs.Prelude.{Result, Ok, Err, is_ok, OnOk, slice_range}
+use Rattle.std.proofs.Common.{◌≡◌, ℕ, true, ◌+◌, ◌-◌, ◌<◌, ◌≤◌, List, [], ◌∷◌, ◌++◌, length, take, drop, get_or, map, Option, None, Some, Bor, refl, sym, ◌∙◌, ap, subst, arith, length-append, length-take, length-drop, append_assoc, append-nil}
+use Rattle.std.specs.Prelude.{Result, Ok, Err, is_ok, IfSome, OnOk, slice_range}
 use Rattle.std.specs.Iterator.{Yields}
 use Rattle.std.specs.List.{concat}
 use Rattle.std.specs.Vec.Iter.{into_iter_items, into_iter_steps}
 use Rattle.std.specs.declared.vec.IntoIter.{IntoIter}
 use Rattle.std.proofs.Math.Seq.{take-append_seam, take-append-add}
-use Rattle.std.proofs.lemmas.Grind.{flat_map-append}
-use Rattle.std.proofs.lemmas.List.{take-append-drop, take-append-le, take_all}
+use Rattle.std.proofs.lemmas.List.{map-append, take-append-drop, take-append-le, take_all, take_more}
 use Rattle.std.proofs.lemmas.List.Folds.{concat-append, drop_split}
 use Rattle.pl_frame.specs.Dialect.{IsDialect}
 use Rattle.pl_frame.specs.Frame.{ColumnValue, HaveHeight, height_of}
@@ -20,13 +19,13 @@ use Rattle.pl_rows.specs.Cells.{RowRules}
 use Rattle.pl_rows.specs.Columns.{frame_of_rows, entries_in}
 use Rattle.pl_rows.specs.Plan.{rules_of}
 use Rattle.pl_rows.specs.WholePieces.{text_frame, IsPieceFrame}
-use Rattle.pl_cells.proofs.CastWorkerLaws.{all_written, taken_front}
+use Rattle.pl_cells.proofs.CastWorkerLaws.{taken_front}
 use Rattle.pl_rows.proofs.RangeLaws.{rows-nil, few_rows}
 use Rattle.pl_rows.proofs.SoundTextLaws.{IsSoundText-nil, IsSoundText-append, rows-behind, text_frame-append, height-text, same-columns}
 use Rattle.pl_table.specs.Rows.{rows}
 use Rattle.pl_write.specs.Batches.{all_lines}
 use Rattle.pl_write.proofs.StackLaws.{lines-stacked}
-use Rattle.pl_regions.specs.Regions.{IsTextPrinted, IsFrontPrinted, IsRegionPrinted, AreRegionsPrinted, IsUnread, AreUnread, region_texts}
+use Rattle.pl_regions.specs.Regions.{IsTextPrinted, IsFrontPrinted, IsRegionPrinted, IsRegionOf, ArePlaced}
 use Rattle.pl_regions.specs.declared.region.Region.{Region}
 
 -- what holds of a success
@@ -110,113 +109,82 @@ IsFrontPrinted-more plan schema o text end to n k l m apart front after within p
 -- ---- regions
 
 -- of which nothing was printed
-unread-region : (plan : RangePlan) (schema : List Entry) (o : WriteOptions) (region : Region) → IsUnread region → IsRegionPrinted plan schema o region
-unread-region plan schema o region is =
-    subst (λ end. IsFrontPrinted plan schema o region.text.now end region.rows region.lines.items) (sym is.end_is)
-    (subst (λ count. IsFrontPrinted plan schema o region.text.now 0 count region.lines.items) (sym is.rows_are)
-    (subst (IsFrontPrinted plan schema o region.text.now 0 0) (sym is.lines_are) (record { within = omega arith; front = IsTextPrinted-nil plan schema o })))
+pub unread-region : (plan : RangePlan) (schema : List Entry) (o : WriteOptions) (region : Region) → region.end ≡ 0 → region.rows ≡ 0 → region.lines.items ≡ [] → IsRegionPrinted plan schema o region
+unread-region plan schema o region end rows lines =
+    subst (λ e. IsFrontPrinted plan schema o region.text.now e region.rows region.lines.items) (sym end)
+    (subst (λ n. IsFrontPrinted plan schema o region.text.now 0 n region.lines.items) (sym rows)
+    (subst (IsFrontPrinted plan schema o region.text.now 0 0) (sym lines) (record { within = omega arith; front = IsTextPrinted-nil plan schema o })))
 
-pub unread-all : (plan : RangePlan) (schema : List Entry) (o : WriteOptions) (regions : List Region) → AreUnread regions → AreRegionsPrinted plan schema o regions
-unread-all plan schema o [] are = tt
-unread-all plan schema o (region ∷ regions) are = (unread-region plan schema o region are.0, unread-all plan schema o regions are.1)
+-- ---- texts one behind the other
 
--- what holds of all holds of each
-pub printed-at : (plan : RangePlan) (schema : List Entry) (o : WriteOptions) (regions : List Region) → AreRegionsPrinted plan schema o regions → (k : ℕ) (d : Region) → k < length regions
-    → IsRegionPrinted plan schema o (get_or regions k d)
-printed-at plan schema o [] are k d inside = absurd (omega (arith, inside))
-printed-at plan schema o (r ∷ regions) are zero d inside = are.0
-printed-at plan schema o (r ∷ regions) are (suc k) d inside = printed-at plan schema o regions are.1 k d (omega (arith, inside))
+-- one more
+concat-more : (texts : List (List ℕ)) (text : List ℕ) → concat (texts ++ text ∷ []) ≡ concat texts ++ text
+concat-more texts text = concat-append texts (text ∷ []) ∙ ap (λ l. concat texts ++ l) (append-nil text)
 
--- what holds of each holds of all
-pub printed-all : (plan : RangePlan) (schema : List Entry) (o : WriteOptions) (new old : List Region) → length new ≡ length old
-    → ((i : ℕ) (d : Region) → i < length old → ((get_or new i d).text.now ≡ (get_or old i d).text.now) × IsRegionPrinted plan schema o (get_or new i d)) → AreRegionsPrinted plan schema o new
-printed-all plan schema o [] old sizes each = tt
-printed-all plan schema o (n ∷ new) [] sizes each = absurd (omega arith)
-printed-all plan schema o (n ∷ new) (r ∷ old) sizes each = ((each 0 n (omega arith)).1, printed-all plan schema o new old (omega (arith, sizes)) (λ i d inside. each (suc i) d (omega (arith, inside))))
-
-pub texts-all : (plan : RangePlan) (schema : List Entry) (o : WriteOptions) (new old : List Region) → length new ≡ length old
-    → ((i : ℕ) (d : Region) → i < length old → ((get_or new i d).text.now ≡ (get_or old i d).text.now) × IsRegionPrinted plan schema o (get_or new i d)) → region_texts new ≡ region_texts old
-texts-all plan schema o [] [] sizes each = refl
-texts-all plan schema o [] (r ∷ old) sizes each = absurd (omega arith)
-texts-all plan schema o (n ∷ new) [] sizes each = absurd (omega arith)
-texts-all plan schema o (n ∷ new) (r ∷ old) sizes each =
-    ap (λ t. t ++ region_texts new) (each 0 n (omega arith)).0
-    ∙ ap (λ l. r.text.now ++ l) (texts-all plan schema o new old (omega (arith, sizes)) (λ i d inside. each (suc i) d (omega (arith, inside))))
-
--- ---- the cut
-
--- the texts of some regions and one more
-pub texts-more : (regions : List Region) (region : Region) → region_texts (regions ++ region ∷ []) ≡ region_texts regions ++ region.text.now
-texts-more regions region = flat_map-append (λ r. r.text.now) regions (region ∷ []) ∙ ap (λ l. region_texts regions ++ l) (append-nil region.text.now)
-
-pub unread-more : (regions : List Region) (region : Region) → AreUnread regions → IsUnread region → AreUnread (regions ++ region ∷ [])
-unread-more [] region are is = (is, tt)
-unread-more (r ∷ regions) region are is = (are.0, unread-more regions region are.1 is)
-
--- a region up to a place behind those up to another
-pub cut-more : (records : List ℕ) (regions : List Region) (region : Region) (from end : ℕ) → region_texts regions ≡ take from records → from ≤ end → end ≤ length records → region.text.now ≡ slice_range records from end
-    → region_texts (regions ++ region ∷ []) ≡ take end records
-cut-more records regions region from end before after within is = texts-more regions region ∙ (λ j. before j ++ is j) ∙ front-slice records from end after within
+-- a text up to a place behind those up to another
+pub cut-more : (records : List ℕ) (texts now : List (Bor (List ℕ))) (text : Bor (List ℕ)) (from end : ℕ) → concat (map (λ t. t.now) texts) ≡ take from records → now ≡ texts ++ text ∷ []
+    → from ≤ end → end ≤ length records → text.now ≡ slice_range records from end → concat (map (λ t. t.now) now) ≡ take end records
+cut-more records texts now text from end before more after within is =
+    ap (λ l. concat (map (λ t. t.now) l)) more
+    ∙ ap concat (map-append (λ (t : Bor (List ℕ)). t.now) texts (text ∷ []))
+    ∙ concat-more (map (λ t. t.now) texts) text.now
+    ∙ (λ j. before j ++ is j)
+    ∙ front-slice records from end after within
 
 -- ---- the front
 
--- regions that were printed to their ends, one behind the other
-pub record IsFrontOf (plan : RangePlan) (schema : List Entry) (o : WriteOptions) (done : List Region) (end n : ℕ) (lines : List (List ℕ)) : Type 0 where
-  pub end_is : end ≡ length (region_texts done)
-  pub front : IsTextPrinted plan schema o (region_texts done) n (concat lines)
+-- texts that were printed to their ends, one behind the other
+pub record IsFrontOf (plan : RangePlan) (schema : List Entry) (o : WriteOptions) (done : List (List ℕ)) (end n : ℕ) (lines : List (List ℕ)) : Type 0 where
+  pub end_is : end ≡ length (concat done)
+  pub front : IsTextPrinted plan schema o (concat done) n (concat lines)
 
 pub IsFrontOf-none : (plan : RangePlan) (schema : List Entry) (o : WriteOptions) → IsFrontOf plan schema o [] 0 0 []
 IsFrontOf-none plan schema o = record { end_is = refl; front = IsTextPrinted-nil plan schema o }
 
--- lines of one more
-concat-more : (lines : List (List ℕ)) (line : List ℕ) → concat (lines ++ line ∷ []) ≡ concat lines ++ line
-concat-more lines line = concat-append lines (line ∷ []) ∙ ap (λ l. concat lines ++ l) (append-nil line)
-
-pub IsFrontOf-more : (plan : RangePlan) (schema : List Entry) (o : WriteOptions) (done : List Region) (region : Region) (end n : ℕ) (lines : List (List ℕ)) → IsDialect (marks_of plan.dialect) (comment_of plan.dialect)
+pub IsFrontOf-more : (plan : RangePlan) (schema : List Entry) (o : WriteOptions) (done : List (List ℕ)) (region : Region) (end n : ℕ) (lines : List (List ℕ)) → IsDialect (marks_of plan.dialect) (comment_of plan.dialect)
     → IsFrontOf plan schema o done end n lines → IsRegionPrinted plan schema o region → region.end ≡ length region.text.now
-    → IsFrontOf plan schema o (done ++ region ∷ []) (end + region.end) (n + region.rows) (lines ++ region.lines.items ∷ [])
+    → IsFrontOf plan schema o (done ++ region.text.now ∷ []) (end + region.end) (n + region.rows) (lines ++ region.lines.items ∷ [])
 IsFrontOf-more plan schema o done region end n lines apart is printed whole =
-    let all : take region.end region.text.now ≡ region.text.now = take_all region.end region.text.now (omega (arith, whole)) in
-    let text = texts-more done region in
-    let here : IsTextPrinted plan schema o region.text.now region.rows region.lines.items = subst (λ t. IsTextPrinted plan schema o t region.rows region.lines.items) all printed.front in
-    let both = IsTextPrinted-append plan schema o (region_texts done) region.text.now n region.rows (concat lines) region.lines.items apart is.front here in
+    let text = region.text.now in
+    let more = concat-more done text in
+    let here : IsTextPrinted plan schema o text region.rows region.lines.items = subst (λ t. IsTextPrinted plan schema o t region.rows region.lines.items) (take_all region.end text (omega (arith, whole))) printed.front in
+    let both = IsTextPrinted-append plan schema o (concat done) text n region.rows (concat lines) region.lines.items apart is.front here in
     record {
-      end_is = omega (arith, is.end_is, whole, ap length text, length-append (region_texts done) region.text.now);
-      front = subst (λ t. IsTextPrinted plan schema o t (n + region.rows) (concat (lines ++ region.lines.items ∷ []))) (sym text)
-          (subst (IsTextPrinted plan schema o (region_texts done ++ region.text.now) (n + region.rows)) (sym (concat-more lines region.lines.items)) both);
+      end_is = omega (arith, is.end_is, whole, ap length more, length-append (concat done) text);
+      front = subst (λ t. IsTextPrinted plan schema o t (n + region.rows) (concat (lines ++ region.lines.items ∷ []))) (sym more)
+          (subst (IsTextPrinted plan schema o (concat done ++ text) (n + region.rows)) (sym (concat-more lines region.lines.items)) both);
     }
 
 -- they are the front of the data
-pub front-whole : (plan : RangePlan) (schema : List Entry) (o : WriteOptions) (records : List ℕ) (done left : List Region) (end n : ℕ) (lines : List (List ℕ)) → region_texts (done ++ left) ≡ records
-    → IsFrontOf plan schema o done end n lines → IsFrontPrinted plan schema o records end n (concat lines)
-front-whole plan schema o records done left end n lines whole is =
-    let D = region_texts done in
-    let L = region_texts left in
-    let all : D ++ L ≡ records = sym (flat_map-append (λ r. r.text.now) done left) ∙ whole in
-    let size = length-append D L in
+pub front-whole : (plan : RangePlan) (schema : List Entry) (o : WriteOptions) (records : List ℕ) (texts : List (List ℕ)) (count : ℕ) (end n : ℕ) (lines : List (List ℕ)) → concat texts ≡ records
+    → IsFrontOf plan schema o (take count texts) end n lines → IsFrontPrinted plan schema o records end n (concat lines)
+front-whole plan schema o records texts count end n lines whole is =
+    let D = concat (take count texts) in
+    let L = concat (drop count texts) in
+    let all : D ++ L ≡ records = sym (concat-append (take count texts) (drop count texts)) ∙ ap concat (take-append-drop count texts) ∙ whole in
     let text : D ≡ take end records = sym (take-append_seam D L) ∙ (λ j. take (sym is.end_is j) (all j)) in
     record {
-      within = omega (arith, is.end_is, size, ap length all);
+      within = omega (arith, is.end_is, length-append D L, ap length all);
       front = subst (λ t. IsTextPrinted plan schema o t n (concat lines)) text is.front;
     }
 
 -- and so are they with the front of the region behind them
-pub front-part : (plan : RangePlan) (schema : List Entry) (o : WriteOptions) (records : List ℕ) (done left : List Region) (region : Region) (end n : ℕ) (lines : List (List ℕ))
-    → IsDialect (marks_of plan.dialect) (comment_of plan.dialect) → region_texts (done ++ region ∷ left) ≡ records
-    → IsFrontOf plan schema o done end n lines → IsRegionPrinted plan schema o region
+pub front-part : (plan : RangePlan) (schema : List Entry) (o : WriteOptions) (records : List ℕ) (texts : List (List ℕ)) (count : ℕ) (region : Region) (end n : ℕ) (lines : List (List ℕ))
+    → IsDialect (marks_of plan.dialect) (comment_of plan.dialect) → concat texts ≡ records → take (count + 1) texts ≡ take count texts ++ region.text.now ∷ []
+    → IsFrontOf plan schema o (take count texts) end n lines → IsRegionPrinted plan schema o region
     → IsFrontPrinted plan schema o records (end + region.end) (n + region.rows) (concat (lines ++ region.lines.items ∷ []))
-front-part plan schema o records done left region end n lines apart whole is printed =
-    let D = region_texts done in
+front-part plan schema o records texts count region end n lines apart whole next is printed =
+    let D = concat (take count texts) in
     let T = region.text.now in
-    let L = region_texts left in
-    let all : D ++ (T ++ L) ≡ records = sym (flat_map-append (λ r. r.text.now) done (region ∷ left)) ∙ whole in
-    let size = length-append D (T ++ L) in
-    let rest = length-append T L in
+    let L = concat (drop (count + 1) texts) in
+    let parts : concat (take count texts ++ T ∷ []) ++ L ≡ D ++ (T ++ L) = ap (λ l. l ++ L) (concat-more (take count texts) T) ∙ append_assoc D T L in
+    let all : D ++ (T ++ L) ≡ records =
+    sym parts ∙ ap (λ l. concat l ++ L) (sym next) ∙ sym (concat-append (take (count + 1) texts) (drop (count + 1) texts)) ∙ ap concat (take-append-drop (count + 1) texts) ∙ whole in
     let text : D ++ take region.end T ≡ take (end + region.end) records =
     sym (take-append-add D (T ++ L) region.end ∙ ap (λ l. D ++ l) (take-append-le region.end T L printed.within)) ∙ (λ j. take (sym is.end_is j + region.end) (all j)) in
     let both = IsTextPrinted-append plan schema o D (take region.end T) n region.rows (concat lines) region.lines.items apart is.front printed.front in
     record {
-      within = omega (arith, is.end_is, printed.within, size, rest, ap length all);
+      within = omega (arith, is.end_is, printed.within, length-append D (T ++ L), length-append T L, ap length all);
       front = subst (λ t. IsTextPrinted plan schema o t (n + region.rows) (concat (lines ++ region.lines.items ∷ []))) text
           (subst (IsTextPrinted plan schema o (D ++ take region.end T) (n + region.rows)) (sym (concat-more lines region.lines.items)) both);
     }
@@ -231,44 +199,31 @@ few-printed plan schema o text end n lines apart is =
 
 -- ---- the regions one after another
 
--- a region behind those that were taken
-pub record IsNextRegion (plan : RangePlan) (schema : List Entry) (o : WriteOptions) (records : List ℕ) (done : List Region) (region : Region) : Type 0 where
-  pub left : List Region
-  pub whole : region_texts (done ++ region ∷ left) ≡ records
+-- behind a front stands the next one, at its length
+at_front : {X : Type 0} (front : List X) (x d : X) (rest : List X) → get_or (front ++ x ∷ rest) (length front) d ≡ x
+at_front [] x d rest = refl
+at_front (y ∷ front) x d rest = at_front front x d rest
+
+-- the region behind so many others
+pub record IsNextRegion (plan : RangePlan) (schema : List Entry) (o : WriteOptions) (texts : List (List ℕ)) (count : ℕ) (region : Region) : Type 0 where
+  pub next : take (count + 1) texts ≡ take count texts ++ region.text.now ∷ []
   pub printed : IsRegionPrinted plan schema o region
 
-among : (plan : RangePlan) (schema : List Entry) (o : WriteOptions) (done : List Region) (region : Region) (left : List Region) → AreRegionsPrinted plan schema o (done ++ region ∷ left) → IsRegionPrinted plan schema o region
-among plan schema o [] region left are = are.0
-among plan schema o (r ∷ done) region left are = among plan schema o done region left are.1
-
-pub next-region : (plan : RangePlan) (schema : List Entry) (o : WriteOptions) (records : List ℕ) (items old new : List Region) (n : ℕ) {A : Type 0} (start : IntoIter Region A) (done : List Region) (now : IntoIter Region A)
-    (region : Region) (left : IntoIter Region A)
-    → region_texts items ≡ records → length items ≡ n → old ≡ items → length new ≡ length old
-    → ((i : ℕ) (d : Region) → i < length old → ((get_or new i d).text.now ≡ (get_or old i d).text.now) × IsRegionPrinted plan schema o (get_or new i d))
-    → into_iter_items start ≡ take n (new ++ drop (length new) items)
-    → Yields into_iter_steps start done now → into_iter_items now ≡ region ∷ into_iter_items left
-    → IsNextRegion plan schema o records done region
-next-region plan schema o records items old new n start done now region left texts count same size each gives taken step =
-    let all : new ≡ done ++ region ∷ into_iter_items left =
-    sym (all_written items new n count (omega (arith, count, size, ap length same))) ∙ sym gives ∙ taken_front start done now taken ∙ ap (λ l. done ++ l) step in
+pub next-region : (plan : RangePlan) (schema : List Entry) (o : WriteOptions) (texts given : List (Bor (List ℕ))) (places : List (Option Region)) {A : Type 0} (start : IntoIter (Option Region) A)
+    (done : List (Option Region)) (now : IntoIter (Option Region) A) (place : Option Region) (region : Region) (left : IntoIter (Option Region) A)
+    → given ≡ texts → ArePlaced plan schema o (map (λ text. text.now) given) places → into_iter_items start ≡ places
+    → Yields into_iter_steps start done now → into_iter_items now ≡ place ∷ into_iter_items left → place ≡ Some region
+    → IsNextRegion plan schema o (map (λ text. text.now) texts) (length done) region
+next-region plan schema o texts given places start done now place region left same placed gives taken step there =
+    let count = length done in
+    let bytes = map (λ (text : Bor (List ℕ)). text.now) texts in
+    let all : places ≡ done ++ place ∷ into_iter_items left = sym gives ∙ taken_front start done now taken ∙ ap (λ l. done ++ l) step in
+    let at : get_or places count None ≡ Some region = ap (λ l. get_or l count None) all ∙ at_front done place None (into_iter_items left) ∙ there in
+    let inside : count < length places = omega (arith, ap length all, length-append done (place ∷ into_iter_items left)) in
+    let here = subst (λ found. IfSome found (λ r. (r.place ≡ count) × IsRegionOf plan schema o (map (λ text. text.now) given) r)) at (placed count None inside) in
+    let own : IsRegionOf plan schema o bytes region = subst (λ l. IsRegionOf plan schema o (map (λ text. text.now) l) region) same here.1 in
+    let is : region.text.now ≡ get_or bytes count [] = own.text_is ∙ ap (λ k. get_or bytes k []) here.0 in
     record {
-      left = into_iter_items left;
-      whole = sym (ap region_texts all) ∙ texts-all plan schema o new old size each ∙ ap region_texts same ∙ texts;
-      printed = among plan schema o done region (into_iter_items left) (subst (AreRegionsPrinted plan schema o) all (printed-all plan schema o new old size each));
+      next = take_more bytes count [] (omega (arith, here.0, own.inside)) ∙ ap (λ t. take count bytes ++ t ∷ []) (sym is);
+      printed = own.printed;
     }
-
-nothing : {X : Type 0} (xs : List X) → length xs ≡ 0 → xs ≡ []
-nothing [] e = refl
-nothing (x ∷ xs) e = absurd (omega (arith, e))
-
--- where all were taken
-pub all-regions : (plan : RangePlan) (schema : List Entry) (o : WriteOptions) (records : List ℕ) (items old new : List Region) (n : ℕ) {A : Type 0} (start : IntoIter Region A) (done : List Region) (now : IntoIter Region A)
-    → region_texts items ≡ records → length items ≡ n → old ≡ items → length new ≡ length old
-    → ((i : ℕ) (d : Region) → i < length old → ((get_or new i d).text.now ≡ (get_or old i d).text.now) × IsRegionPrinted plan schema o (get_or new i d))
-    → into_iter_items start ≡ take n (new ++ drop (length new) items)
-    → Yields into_iter_steps start done now → length (into_iter_items now) ≡ 0
-    → region_texts (done ++ []) ≡ records
-all-regions plan schema o records items old new n start done now texts count same size each gives taken ends =
-    let all : new ≡ done ++ [] =
-    sym (all_written items new n count (omega (arith, count, size, ap length same))) ∙ sym gives ∙ taken_front start done now taken ∙ ap (λ l. done ++ l) (nothing (into_iter_items now) ends) in
-    sym (ap region_texts all) ∙ texts-all plan schema o new old size each ∙ ap region_texts same ∙ texts

@@ -1,6 +1,5 @@
 -- Regions of a text that are read and printed apart (docs/workers.md, "From an input to regions").
-use Rattle.std.specs.Prelude.{◌≡◌, ℕ, ◌≤◌, List, [], length, take, None}
-use Rattle.std.specs.List.{flat_map, AllByRecursion}
+use Rattle.std.specs.Prelude.{◌≡◌, ◌⊎◌, ℕ, ◌<◌, ◌≤◌, List, [], length, take, get_or, Option, None, Some, IfSome, Contains, slice_index_or}
 use Rattle.pl_frame.specs.Dialect.{IsDialect}
 use Rattle.pl_frame.specs.Schema.{Entry}
 use Rattle.pl_frame.specs.Text.{WriteOptions}
@@ -40,24 +39,24 @@ pub record IsFrontPrinted (plan : RangePlan) (schema : List Entry) (o : WriteOpt
 
 -- ---- regions
 
--- the texts of regions, one behind the other
-abbrev pub region_texts : List Region → List ℕ
-region_texts regions = flat_map (λ region. region.text.now) regions
-
 -- the front of a region was printed, as far as it tells
 abbrev pub IsRegionPrinted : RangePlan → List Entry → WriteOptions → Region → Type 0
 IsRegionPrinted plan schema o region = IsFrontPrinted plan schema o region.text.now region.end region.rows region.lines.items
 
--- that of each of some regions
-abbrev pub AreRegionsPrinted : RangePlan → List Entry → WriteOptions → List Region → Type 0
-AreRegionsPrinted plan schema o regions = AllByRecursion (IsRegionPrinted plan schema o) regions
+-- a region is that of its place among the texts of regions, and its front was printed
+pub record IsRegionOf (plan : RangePlan) (schema : List Entry) (o : WriteOptions) (texts : List (List ℕ)) (region : Region) : Type 0 where
+  pub inside : region.place < length texts
+  pub text_is : region.text.now ≡ get_or texts region.place []
+  pub printed : IsRegionPrinted plan schema o region
 
--- nothing of a region was printed
-pub record IsUnread (region : Region) : Type 0 where
-  pub end_is : region.end ≡ 0
-  pub rows_are : region.rows ≡ 0
-  pub lines_are : region.lines.items ≡ []
+-- ---- places
 
--- of none of them
-abbrev pub AreUnread : List Region → Type 0
-AreUnread regions = AllByRecursion IsUnread regions
+-- each region that stands at a place is one of those that were put there, or stood there before
+abbrev pub ArePut : List Region → List (Option Region) → List (Option Region) → Type 0
+ArePut taken before now = (k : ℕ) (d : Option Region) → k < length before
+    → IfSome (slice_index_or now k d) (λ region. ((region.place ≡ k) × Contains taken region) ⊎ (slice_index_or before k d ≡ Some region))
+
+-- each region that stands at a place is the region of that place
+abbrev pub ArePlaced : RangePlan → List Entry → WriteOptions → List (List ℕ) → List (Option Region) → Type 0
+ArePlaced plan schema o texts places = (k : ℕ) (d : Option Region) → k < length places
+    → IfSome (slice_index_or places k d) (λ region. (region.place ≡ k) × IsRegionOf plan schema o texts region)

@@ -1,15 +1,21 @@
 //! Data cut into regions.
-ghost use Rattle.std.specs.Prelude.{◌≡◌, ◌<◌, ◌≤◌, IfOk, IfSome, length};
-ghost use Rattle.pl_regions.specs.Regions.{AreUnread, region_texts};
+ghost use Rattle.std.specs.Prelude.{◌≡◌, ◌<◌, ◌≤◌, IfOk, IfSome, length, map};
+ghost use Rattle.std.specs.List.{concat};
 
-use crate::region::Region;
 use pl_scan::line_ends::CountLines;
 use std::alloc::{AllocError, Global};
 use std::thread;
 use std::thread::Threads;
 
-// How far a line end is looked for where a region is to end.
+// How far a line end is looked for where a region is to end, and no further than regions are long.
 const LOOK: usize = 1 << 20;
+
+// A part of the data, and whether it has an odd number of quotes.
+#[derive(Drop)]
+struct Span<'a> {
+    text: &'a [u8],
+    odd: bool,
+}
 
 // Whether bytes have an odd number of quotes.
 fn is_odd(bytes: &[u8], quote_char: Option<u8>) -> bool {
@@ -20,10 +26,11 @@ fn is_odd(bytes: &[u8], quote_char: Option<u8>) -> bool {
 }
 
 // The place behind the first line end from a place on that stands behind an even number of quotes, given whether an odd number
-// stands before that place. None where no such line end is near.
+// stands before that place. None where no such line end is among so many bytes.
 fn find_end(
     records: &[u8],
     from: usize,
+    look: usize,
     odd: bool,
     quote_char: Option<u8>,
     eol_char: u8,
@@ -32,7 +39,7 @@ fn find_end(
     ensures { IfSome result (λ end. end ≤ length records.now) }
 {
     let mut odd = odd;
-    let most = LOOK.min(records.len() - from);
+    let most = look.min(records.len() - from);
     for at in from..from + most {
         let byte = records[at];
         if quote_char == Some(byte) {
@@ -44,64 +51,89 @@ fn find_end(
     None
 }
 
-// The data as spans of one length, but for the last, as many as there are workers or fewer.
-fn spans_of<'a>(alloc: Global, records: &'a [u8], size: usize) -> Result<Vec<&'a [u8]>, AllocError>
+// The data as spans of one length, without the last bytes of it, which are that many or fewer. No quotes are counted yet.
+fn spans_of<'a>(alloc: Global, records: &'a [u8], size: usize) -> Result<Vec<Span<'a>>, AllocError>
     requires { 0 < size }
 {
     let mut spans = Vec::new(alloc);
     let mut rest = records;
     while rest.len() > size {
-        spans.push(&rest[..size])?;
+        spans.push(Span {
+            text: &rest[..size],
+            odd: false,
+        })?;
         rest = &rest[size..];
     }
     Ok(spans)
 }
 
-// For each span of the data but the last, whether it has an odd number of quotes.
-fn count_spans<W: Threads + Sync>(
+// The spans of the data, whose quotes were counted by so many workers at most.
+fn count_spans<'a, W: Threads + Sync>(
     rt: &W,
     alloc: Global,
-    records: &[u8],
+    workers: usize,
     size: usize,
+    records: &'a [u8],
     quote_char: Option<u8>,
-) -> Result<Vec<bool>, AllocError>
-    requires { 0 < size }
+) -> Result<Vec<Span<'a>>, AllocError>
+    requires workers { 0 < workers }
+    requires size { 0 < size }
 {
-    let spans = spans_of(alloc, records, size)?;
-    thread::map_vec(rt, spans, &|span| { is_odd(span, quote_char) })
+    let mut spans = spans_of(alloc, records, size)?;
+    let count = |_place: usize, span: &mut Span<'_>| {
+        span.odd = is_odd(span.text, quote_char);
+    };
+    thread::for_each_mut(rt, &mut spans, workers, &count);
+    Ok(spans)
 }
 
-/// The data as so many regions, or fewer, of about one length each. A region ends by a guess: behind a line end that stands behind an
-/// even number of quotes. Refuses only want of memory.
+// How long regions are: a piece each or less, so that there are as many for each worker. A single worker has one region.
+fn region_size(length: usize, workers: usize, piece_size: usize) -> usize
+    requires workers { 0 < workers }
+    requires size { 0 < piece_size }
+    ensures { 0 < result }
+{
+    let share = length.div_ceil(workers);
+    if workers == 1 {
+        return share.max(1);
+    }
+    let rounds = share.div_ceil(piece_size).max(1);
+    share.div_ceil(rounds).max(1)
+}
+
+/// The texts of regions, which are the data one behind the other: of a piece each, or one where there is a single worker. A region
+/// ends by a guess: behind a line end that stands behind an even number of quotes. Refuses only want of memory.
 pub(crate) fn cut_regions<'a, W: Threads + Sync>(
     rt: &W,
     alloc: Global,
     workers: usize,
+    piece_size: usize,
     records: &'a [u8],
     quote_char: Option<u8>,
     eol_char: u8,
-) -> Result<Vec<Region<'a>>, AllocError>
-    requires { 0 < workers }
-    ensures whole { IfOk result (λ regions. region_texts regions.items ≡ records.now) }
-    ensures unread { IfOk result (λ regions. AreUnread regions.items) }
+) -> Result<Vec<&'a [u8]>, AllocError>
+    requires workers { 0 < workers }
+    requires size { 0 < piece_size }
+    ensures { IfOk result (λ texts. concat (map (λ text. text.now) texts.items) ≡ records.now) }
 {
-    let size = records.len().div_ceil(workers).max(1);
-    let odds = count_spans(rt, alloc, records, size, quote_char)?;
-    let mut regions = Vec::new(alloc);
+    let size = region_size(records.len(), workers, piece_size);
+    let spans = count_spans(rt, alloc, workers, size, records, quote_char)?;
+    let look = size.min(LOOK);
+    let mut texts = Vec::new(alloc);
     let mut from = 0;
     let mut to = 0;
     let mut odd = false;
-    for is_odd in odds {
+    for span in spans {
         to = records.len().min(size.saturating_add(to));
-        odd = odd != is_odd;
-        match find_end(records, to, odd, quote_char, eol_char) {
+        odd = odd != span.odd;
+        match find_end(records, to, look, odd, quote_char, eol_char) {
             Some(end) if from < end => {
-                regions.push(Region::new(alloc, &records[from..end]))?;
+                texts.push(&records[from..end])?;
                 from = end;
             }
             _ => {}
         }
     }
-    regions.push(Region::new(alloc, &records[from..]))?;
-    Ok(regions)
+    texts.push(&records[from..])?;
+    Ok(texts)
 }

@@ -5,7 +5,7 @@ ghost use Rattle.pl_write.specs.Options.{cell_options};
 ghost use Rattle.pl_regions.specs.Regions.{CanPrint, IsFrontPrinted};
 
 use crate::cutting::cut_regions;
-use crate::region::print_regions;
+use crate::taking::print_regions;
 use pl_frame::schema::Schema;
 use pl_rows::plan::RangePlan;
 use pl_write::options::SerializeOptions;
@@ -31,9 +31,10 @@ fn make_room(alloc: Global) {
     let _ = room.reserve(ROOM);
 }
 
-/// Reads and prints the records of a text by so many workers, each a region of its own in pieces of about so many bytes, as far as
-/// pieces end where an item does, no row has a fault and memory suffices: from the front on without a gap. Most often that is all of
-/// it but for a last record without a line end. Its last byte counts as the last of the input. Refuses only want of memory.
+/// Reads and prints the records of a text by so many workers, which take regions of about so many bytes as they come, as far as pieces
+/// end where an item does, no row has a fault and memory suffices: from the front on without a gap. A single worker has one region, in
+/// pieces of about so many bytes. Most often that is all of the text but for a last record without a line end. Its last byte counts as
+/// the last of the input. Refuses only want of memory.
 pub fn print_front<W: Threads + Sync>(
     rt: &W,
     alloc: Global,
@@ -51,30 +52,27 @@ pub fn print_front<W: Threads + Sync>(
 {
     make_room(alloc);
     let dialect = plan.dialect;
-    let mut regions = cut_regions(
+    let texts = cut_regions(
         rt,
         alloc,
         workers,
+        piece_size,
         records,
         dialect.quote_char,
         dialect.eol_char,
     )?;
-    print_regions(
-        rt,
-        alloc,
-        workers,
-        &mut regions,
-        schema,
-        plan,
-        options,
-        piece_size,
-    );
+    let places = print_regions(
+        rt, alloc, workers, &texts, schema, plan, options, piece_size,
+    )?;
     let mut front = Front {
         end: 0,
         rows: 0,
         lines: Vec::new(alloc),
     };
-    for region in regions {
+    for place in places {
+        let Some(region) = place else {
+            break;
+        };
         let is_whole = region.end == region.text.len();
         front.end += region.end;
         front.rows += region.rows;

@@ -4,3 +4,4 @@
 mod cutting;
 pub mod front;
 mod region;
+mod taking;

@@ -1,8 +1,8 @@
 //! A region of the data: its pieces are read one after another, and the rows of each are printed.
-ghost use Rattle.std.specs.Prelude.{◌≡◌, ◌<◌, ◌≤◌, ℕ, [], All, length, slice_index_or};
+ghost use Rattle.std.specs.Prelude.{◌≡◌, ◌<◌, ◌≤◌, [], length};
 ghost use Rattle.std.specs.Bool.{OnTrue};
 ghost use Rattle.pl_write.specs.Options.{cell_options};
-ghost use Rattle.pl_regions.specs.Regions.{CanPrint, IsRegionPrinted, IsUnread};
+ghost use Rattle.pl_regions.specs.Regions.{CanPrint, IsRegionPrinted};
 
 use pl_board::cutting::piece_end;
 use pl_frame::schema::Schema;
@@ -12,12 +12,12 @@ use pl_scan::line_ends::CountLines;
 use pl_write::options::SerializeOptions;
 use pl_write::row_printer::RowPrinter;
 use std::alloc::Global;
-use std::thread;
-use std::thread::Threads;
 
-/// A region of the data, and what was printed of it: the lines of so many rows, which are those of so many of its bytes.
+/// A region of the data, by its place among all, and what was printed of it: the lines of so many rows, which are those of so many of
+/// its bytes.
 #[derive(Drop)]
 pub(crate) struct Region<'a> {
+    pub(crate) place: usize,
     pub(crate) text: &'a [u8],
     pub(crate) end: usize,
     pub(crate) rows: usize,
@@ -26,13 +26,15 @@ pub(crate) struct Region<'a> {
 
 impl<'a> Region<'a> {
     /// One of which nothing was printed.
-    pub(crate) fn new(alloc: Global, text: &'a [u8]) -> Region<'a>
+    pub(crate) fn new(alloc: Global, place: usize, text: &'a [u8]) -> Region<'a>
+        ensures place { result.place ≡ place }
         ensures text { result.text.now ≡ text.now }
         ensures end { result.end ≡ 0 }
         ensures rows { result.rows ≡ 0 }
         ensures lines { result.lines.items ≡ [] }
     {
         Region {
+            place,
             text,
             end: 0,
             rows: 0,
@@ -55,6 +57,7 @@ impl<'a> Region<'a> {
         requires printed { IsRegionPrinted plan.now schema.now (cell_options options.now) self.old }
         requires after { self.old.end ≤ to }
         requires within { to ≤ length self.old.text.now }
+        ensures place { self.new.place ≡ self.old.place }
         ensures text { self.new.text.now ≡ self.old.text.now }
         ensures end { OnTrue result (self.new.end ≡ to) }
         ensures printed { IsRegionPrinted plan.now schema.now (cell_options options.now) self.new }
@@ -77,11 +80,12 @@ impl<'a> Region<'a> {
         true
     }
 
-    // Reads the region piece by piece, and prints the rows of each, as far as pieces end where an item does, no row has a fault and
-    // memory suffices.
-    fn print(
+    /// Reads the region piece by piece, and prints the rows of each, as far as pieces end where an item does, no row has a fault and
+    /// memory suffices.
+    pub(crate) fn print(
         &mut self,
         alloc: Global,
+        printer: &mut RowPrinter,
         schema: &Schema,
         plan: &RangePlan<'_>,
         options: &SerializeOptions,
@@ -90,51 +94,19 @@ impl<'a> Region<'a> {
         requires can { CanPrint plan.now schema.now }
         requires size { 0 < piece_size }
         requires printed { IsRegionPrinted plan.now schema.now (cell_options options.now) self.old }
+        ensures place { self.new.place ≡ self.old.place }
         ensures text { self.new.text.now ≡ self.old.text.now }
         ensures printed { IsRegionPrinted plan.now schema.now (cell_options options.now) self.new }
     {
-        let Ok(mut printer) = RowPrinter::new(alloc) else {
-            return;
-        };
         // The lines are about as long as the text; where there is no such room, they get it bit by bit.
         let _ = self.lines.reserve(self.text.len());
         let dialect = plan.dialect;
         let lines = CountLines::new(dialect.quote_char, dialect.eol_char);
         while self.end < self.text.len() {
             let to = piece_end(self.text, self.end, piece_size, &lines);
-            if !self.print_piece(alloc, &mut printer, schema, plan, options, to) {
+            if !self.print_piece(alloc, printer, schema, plan, options, to) {
                 return;
             }
         }
     }
-}
-
-/// Reads and prints each region, side by side: its pieces from the front on, as far as they end where an item does, no row has a
-/// fault and memory suffices.
-pub(crate) fn print_regions<W: Threads + Sync>(
-    rt: &W,
-    alloc: Global,
-    workers: usize,
-    regions: &mut [Region<'_>],
-    schema: &Schema,
-    plan: &RangePlan<'_>,
-    options: &SerializeOptions,
-    piece_size: usize,
-)
-    requires workers { 0 < workers }
-    requires can { CanPrint plan.now schema.now }
-    requires size { 0 < piece_size }
-    requires printed { All (IsRegionPrinted plan.now schema.now (cell_options options.now)) regions.old }
-    ensures { (i : ℕ) (d : Region) → i < length regions.old
-        → ((slice_index_or regions.new i d).text.now ≡ (slice_index_or regions.old i d).text.now)
-        × IsRegionPrinted plan.now schema.now (cell_options options.now) (slice_index_or regions.new i d) }
-{
-    let print = |_place: usize, region: &mut Region<'_>|
-        requires can { CanPrint plan.now schema.now }
-        requires size { 0 < piece_size }
-        requires printed { IsRegionPrinted plan.now schema.now (cell_options options.now) region.old }
-        ensures { (region.new.text.now ≡ region.old.text.now)
-            × IsRegionPrinted plan.entry.now schema.entry.now (cell_options options.entry.now) region.new }
-    { region.print(alloc, schema, plan, options, piece_size) };
-    thread::for_each_mut(rt, regions, workers, &print);
 }

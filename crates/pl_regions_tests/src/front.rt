@@ -144,3 +144,21 @@ fn front_ends_before_a_fault(rt: HostRuntime) {
         );
     }
 }
+
+#[test]
+fn front_of_many_regions_ends_before_a_fault_in_the_middle(rt: HostRuntime) {
+    let alloc = rt.alloc();
+    let mut text = rows(&rt, alloc, 200);
+    let before = text.len();
+    text.extend_from_slice(b"x,y\n").expect(&rt, "memory");
+    let behind = rows(&rt, alloc, 200);
+    text.extend_from_slice(&behind).expect(&rt, "memory");
+    for workers in [1, 2, 8] {
+        let front = front(&rt, alloc, workers, 1, &text);
+        assert!(rt; front.end == before && front.rows == 200, "by {workers}");
+        assert!(rt;
+            lines_of(&rt, alloc, &front).as_slice() == &text[..before],
+            "by {workers}"
+        );
+    }
+}

@@ -1,20 +1,19 @@
-use Rattle.std.proofs.Common.{rules, ◌≡◌, ◌≤◌, [], ◌∷◌, ◌++◌, sym, ◌∙◌, ap, subst, arith}
-use Rattle.pl_regions.specs.Regions.{AreUnread, region_texts}
-use Rattle.pl_regions.proofs.RegionLaws.{cut-more, unread-more}
+use Rattle.std.proofs.Common.{rules, length, refl, ◌∙◌, arith}
+use Rattle.std.proofs.lemmas.List.{take_all}
+use Rattle.pl_regions.proofs.RegionLaws.{cut-more}
 use Rattle.pl_regions.proofs.cutting.cut_regions.Goals as goal
 
-pub loop-is_odd-preserved-then-from-end : goal.loop-is_odd-preserved-then-from-end
-loop-is_odd-preserved-then-from-end g c =
+pub loop-span-preserved-then-from-end : goal.loop-span-preserved-then-from-end
+loop-span-preserved-then-from-end g c = record {
+  from = c.in-Some-find_end.ensures;
+  to = search rules;
+  cut = cut-more c.args.records.now c.loop-span.texts.items c.push.new.self.items _ c.loop-span.from c.in-Some-find_end.end c.loop-span.invariant.cut c.in_ok-push-in-Some-find_end.ensures.items
+      (omega (arith, c.if-from-end.true)) c.in-Some-find_end.ensures refl;
+}
+
+pub returns : goal.returns
+returns g c =
     let records = c.args.records.now in
-    let from = c.loop-is_odd.from in
-    let end = c.in-Some-find_end.end in
-    let region = c.new.result in
-    let regions = c.loop-is_odd.regions.items in
-    let items : c.push.new.self.items ≡ regions ++ region ∷ [] = c.in_ok-push-in-Some-find_end.ensures.items in
-    let after : from ≤ end = omega (arith, c.if-from-end.true) in
-    record {
-      from = c.in-Some-find_end.ensures;
-      to = search rules;
-      cut = ap region_texts items ∙ cut-more records regions region from end c.loop-is_odd.invariant.cut after c.in-Some-find_end.ensures c.new.ensures.text;
-      unread = subst AreUnread (sym items) (unread-more regions region c.loop-is_odd.invariant.unread (record { end_is = c.new.ensures.end; rows_are = c.new.ensures.rows; lines_are = c.new.ensures.lines }));
-    }
+    cut-more records c.loop-span.texts.items c.push-2.new.self.items _ c.loop-span.from (length records) c.loop-span.invariant.cut c.in_ok-push.ensures.items
+    c.loop-span.invariant.from (omega arith) refl
+    ∙ take_all (length records) records (omega arith)

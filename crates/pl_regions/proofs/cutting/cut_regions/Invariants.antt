@@ -1,11 +1,10 @@
-use Rattle.std.proofs.Common.{◌≡◌, ◌≤◌, length, take}
-use Rattle.pl_regions.specs.Regions.{AreUnread, region_texts}
+use Rattle.std.proofs.Common.{◌≡◌, ◌≤◌, length, map, take}
+use Rattle.std.specs.List.{concat}
 use Rattle.pl_regions.proofs.cutting.cut_regions.Given as goal
 
-abbrev pub invariant-loop-is_odd : goal.invariant-loop-is_odd
-invariant-loop-is_odd g l = record {
+abbrev pub invariant-loop-span : goal.invariant-loop-span
+invariant-loop-span g l = record {
   from : l.from ≤ length l.records;
   to : l.to ≤ length l.records;
-  cut : region_texts l.regions.items ≡ take l.from l.records;
-  unread : AreUnread l.regions.items;
+  cut : concat (map (λ text. text.now) l.texts.items) ≡ take l.from l.records;
 }

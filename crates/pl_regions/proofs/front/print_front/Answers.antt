@@ -1,24 +1,25 @@
-use Rattle.std.proofs.Common.{◌≡◌, ℕ, ◌+◌, List, [], ◌∷◌, ◌++◌, length, map, sym, ◌∙◌, ap, subst, arith, Vec, Global}
+use Rattle.std.proofs.Common.{◌≡◌, ℕ, ◌+◌, List, [], ◌∷◌, ◌++◌, length, map, take, sym, ◌∙◌, ap, subst, arith, Vec, Global, Bor}
 use Rattle.std.specs.List.{concat}
-use Rattle.std.proofs.lemmas.List.{map-append}
+use Rattle.std.proofs.lemmas.List.{map-append, length_push}
 use Rattle.pl_write.specs.Options.{cell_options}
-use Rattle.pl_regions.specs.Regions.{IsFrontPrinted, AreRegionsPrinted}
-use Rattle.pl_regions.proofs.RegionLaws.{unread-all, printed-at, IsFrontOf, IsFrontOf-none, IsFrontOf-more, front-part, front-whole, few-printed, next-region, all-regions}
+use Rattle.pl_regions.specs.Regions.{IsFrontPrinted}
+use Rattle.pl_regions.proofs.RegionLaws.{IsFrontOf, IsFrontOf-none, IsFrontOf-more, front-part, front-whole, few-printed, next-region}
 use Rattle.pl_regions.proofs.front.print_front.Goals as goal
 
 -- the lines of texts
 abbrev items_of : List (Vec ℕ Global) → List (List ℕ)
 items_of lines = map (λ l. l.items) lines
 
-pub print_regions-requires-clause-printed : goal.print_regions-requires-clause-printed
-print_regions-requires-clause-printed g c κs within =
-    let plan = c.args.plan.now in
-    let schema = c.args.schema.now in
-    let o = cell_options c.args.options.now in
-    printed-at plan schema o c.deref_mut.result.now (subst (AreRegionsPrinted plan schema o) (sym c.deref_mut.ensures.value) (unread-all plan schema o c.in_ok-regions.regions.items c.in_ok-regions.ensures.unread))
+-- the bytes of texts
+abbrev bytes_of : List (Bor (List ℕ)) → List (List ℕ)
+bytes_of texts = map (λ t. t.now) texts
 
-pub loop-region-init : goal.loop-region-init
-loop-region-init g c =
+-- with one more
+items-more : (now lines : List (Vec ℕ Global)) (one : Vec ℕ Global) → now ≡ lines ++ one ∷ [] → items_of now ≡ items_of lines ++ one.items ∷ []
+items-more now lines one more = ap items_of more ∙ map-append (λ (l : Vec ℕ Global). l.items) lines (one ∷ [])
+
+pub loop-place-init : goal.loop-place-init
+loop-place-init g c =
     let plan = c.args.plan.now in
     let schema = c.args.schema.now in
     let o = cell_options c.args.options.now in
@@ -30,29 +31,32 @@ overflow_add-front g c =
     let schema = c.args.schema.now in
     let o = cell_options c.args.options.now in
     let records = c.args.records.now in
-    let regions = c.in_ok-regions.regions in
+    let texts = c.in_ok-texts.texts.items in
+    let done = c.loop-place.yielded in
+    let region = c.in-Some-place.region in
     let next =
-    next-region plan schema o records regions.items c.deref_mut.result.now c.print_regions.new.regions regions.len c.into_iter-region-iterator.result c.loop-region.yielded c.loop-region.region-iterator c.in-Some.region c.next.new.self
-    c.in_ok-regions.ensures.whole (omega (arith, regions.ok, c.deref_mut.ensures.len)) c.deref_mut.ensures.value (omega (arith, c.print_regions.auto.regions)) c.print_regions.ensures c.into_iter-region-iterator.ensures.into_iter_gives.0
-    c.loop-region.yielded_by c.in-Some.ensures.steps.0 in
-    let part = front-part plan schema o records c.loop-region.yielded next.left c.in-Some.region c.loop-region.front.end c.loop-region.front.rows (items_of c.loop-region.front.lines.items) c.requires.can.dialect next.whole c.loop-region.invariant next.printed in
+    next-region plan schema o texts c.deref.result.now c.in_ok-places.places.items c.into_iter-place-iterator.result done c.loop-place.place-iterator c.in-Some.place region c.next.new.self
+    c.deref.ensures.value c.in_ok-places.ensures c.into_iter-place-iterator.ensures.into_iter_gives.0 c.loop-place.yielded_by c.in-Some.ensures.steps.0 c.in-Some-place.is in
+    let front = c.loop-place.front in
+    let lines = items_of front.lines.items in
+    let part = front-part plan schema o records (bytes_of texts) (length done) region front.end front.rows lines c.requires.can.dialect c.in_ok-texts.ensures next.next c.loop-place.invariant next.printed in
     record { fits = omega (arith, part.within) }
 
-pub overflow_add-front-in-loop-region : goal.overflow_add-front-in-loop-region
-overflow_add-front-in-loop-region g c =
+pub overflow_add-front-in-loop-place : goal.overflow_add-front-in-loop-place
+overflow_add-front-in-loop-place g c =
     let plan = c.args.plan.now in
     let schema = c.args.schema.now in
     let o = cell_options c.args.options.now in
     let records = c.args.records.now in
-    let regions = c.in_ok-regions.regions in
-    let region = c.in-Some.region in
+    let texts = c.in_ok-texts.texts.items in
+    let done = c.loop-place.yielded in
+    let region = c.in-Some-place.region in
     let next =
-    next-region plan schema o records regions.items c.deref_mut.result.now c.print_regions.new.regions regions.len c.into_iter-region-iterator.result c.loop-region.yielded c.loop-region.region-iterator region c.next.new.self
-    c.in_ok-regions.ensures.whole (omega (arith, regions.ok, c.deref_mut.ensures.len)) c.deref_mut.ensures.value (omega (arith, c.print_regions.auto.regions)) c.print_regions.ensures c.into_iter-region-iterator.ensures.into_iter_gives.0
-    c.loop-region.yielded_by c.in-Some.ensures.steps.0 in
-    let front = c.loop-region.front in
+    next-region plan schema o texts c.deref.result.now c.in_ok-places.places.items c.into_iter-place-iterator.result done c.loop-place.place-iterator c.in-Some.place region c.next.new.self
+    c.deref.ensures.value c.in_ok-places.ensures c.into_iter-place-iterator.ensures.into_iter_gives.0 c.loop-place.yielded_by c.in-Some.ensures.steps.0 c.in-Some-place.is in
+    let front = c.loop-place.front in
     let lines = items_of front.lines.items in
-    let part = front-part plan schema o records c.loop-region.yielded next.left region front.end front.rows lines c.requires.can.dialect next.whole c.loop-region.invariant next.printed in
+    let part = front-part plan schema o records (bytes_of texts) (length done) region front.end front.rows lines c.requires.can.dialect c.in_ok-texts.ensures next.next c.loop-place.invariant next.printed in
     let few = few-printed plan schema o records (front.end + region.end) (front.rows + region.rows) (concat (lines ++ region.lines.items ∷ [])) c.requires.can.dialect part in
     record { fits = omega (arith, few) }
 
@@ -62,46 +66,40 @@ returns-then-not-is_whole g c =
     let schema = c.args.schema.now in
     let o = cell_options c.args.options.now in
     let records = c.args.records.now in
-    let regions = c.in_ok-regions.regions in
-    let region = c.in-Some.region in
+    let texts = c.in_ok-texts.texts.items in
+    let done = c.loop-place.yielded in
+    let region = c.in-Some-place.region in
     let next =
-    next-region plan schema o records regions.items c.deref_mut.result.now c.print_regions.new.regions regions.len c.into_iter-region-iterator.result c.loop-region.yielded c.loop-region.region-iterator region c.next.new.self
-    c.in_ok-regions.ensures.whole (omega (arith, regions.ok, c.deref_mut.ensures.len)) c.deref_mut.ensures.value (omega (arith, c.print_regions.auto.regions)) c.print_regions.ensures c.into_iter-region-iterator.ensures.into_iter_gives.0
-    c.loop-region.yielded_by c.in-Some.ensures.steps.0 in
-    let front = c.loop-region.front in
+    next-region plan schema o texts c.deref.result.now c.in_ok-places.places.items c.into_iter-place-iterator.result done c.loop-place.place-iterator c.in-Some.place region c.next.new.self
+    c.deref.ensures.value c.in_ok-places.ensures c.into_iter-place-iterator.ensures.into_iter_gives.0 c.loop-place.yielded_by c.in-Some.ensures.steps.0 c.in-Some-place.is in
+    let front = c.loop-place.front in
     let lines = items_of front.lines.items in
-    let more : items_of c.push.new.self.items ≡ lines ++ region.lines.items ∷ [] = ap items_of c.in_ok-push.ensures.items ∙ map-append (λ (l : Vec ℕ Global). l.items) front.lines.items (region.lines ∷ []) in
-    subst (λ l. IsFrontPrinted plan schema o records (front.end + region.end) (front.rows + region.rows) (concat l)) (sym more)
-    (front-part plan schema o records c.loop-region.yielded next.left region front.end front.rows lines c.requires.can.dialect next.whole c.loop-region.invariant next.printed)
+    let part = front-part plan schema o records (bytes_of texts) (length done) region front.end front.rows lines c.requires.can.dialect c.in_ok-texts.ensures next.next c.loop-place.invariant next.printed in
+    let more : items_of c.push.new.self.items ≡ lines ++ region.lines.items ∷ [] = items-more c.push.new.self.items front.lines.items region.lines c.in_ok-push.ensures.items in
+    subst (λ l. IsFrontPrinted plan schema o records (front.end + region.end) (front.rows + region.rows) (concat l)) (sym more) part
 
-pub loop-region-preserved : goal.loop-region-preserved
-loop-region-preserved g c =
+pub loop-place-preserved : goal.loop-place-preserved
+loop-place-preserved g c =
     let plan = c.args.plan.now in
     let schema = c.args.schema.now in
     let o = cell_options c.args.options.now in
     let records = c.args.records.now in
-    let regions = c.in_ok-regions.regions in
-    let region = c.in-Some.region in
+    let texts = c.in_ok-texts.texts.items in
+    let done = c.loop-place.yielded in
+    let region = c.in-Some-place.region in
     let next =
-    next-region plan schema o records regions.items c.deref_mut.result.now c.print_regions.new.regions regions.len c.into_iter-region-iterator.result c.loop-region.yielded c.loop-region.region-iterator region c.next.new.self
-    c.in_ok-regions.ensures.whole (omega (arith, regions.ok, c.deref_mut.ensures.len)) c.deref_mut.ensures.value (omega (arith, c.print_regions.auto.regions)) c.print_regions.ensures c.into_iter-region-iterator.ensures.into_iter_gives.0
-    c.loop-region.yielded_by c.in-Some.ensures.steps.0 in
-    let front = c.loop-region.front in
+    next-region plan schema o texts c.deref.result.now c.in_ok-places.places.items c.into_iter-place-iterator.result done c.loop-place.place-iterator c.in-Some.place region c.next.new.self
+    c.deref.ensures.value c.in_ok-places.ensures c.into_iter-place-iterator.ensures.into_iter_gives.0 c.loop-place.yielded_by c.in-Some.ensures.steps.0 c.in-Some-place.is in
+    let front = c.loop-place.front in
     let lines = items_of front.lines.items in
-    let more : items_of c.push.new.self.items ≡ lines ++ region.lines.items ∷ [] = ap items_of c.in_ok-push.ensures.items ∙ map-append (λ (l : Vec ℕ Global). l.items) front.lines.items (region.lines ∷ []) in
+    let more : items_of c.push.new.self.items ≡ lines ++ region.lines.items ∷ [] = items-more c.push.new.self.items front.lines.items region.lines c.in_ok-push.ensures.items in
     let whole : region.end ≡ length region.text.now = omega (arith, c.if-not-is_whole.false) in
-    subst (IsFrontOf plan schema o (c.loop-region.yielded ++ region ∷ []) (front.end + region.end) (front.rows + region.rows)) (sym more)
-    (IsFrontOf-more plan schema o c.loop-region.yielded region front.end front.rows lines c.requires.can.dialect c.loop-region.invariant next.printed whole)
+    let count : length (done ++ c.in-Some.place ∷ []) ≡ length done + 1 = length_push done c.in-Some.place in
+    subst (λ t. IsFrontOf plan schema o t (front.end + region.end) (front.rows + region.rows) (items_of c.push.new.self.items)) (sym (ap (λ k. take k (bytes_of texts)) count ∙ next.next))
+    (subst (IsFrontOf plan schema o (take (length done) (bytes_of texts) ++ region.text.now ∷ []) (front.end + region.end) (front.rows + region.rows)) (sym more)
+    (IsFrontOf-more plan schema o (take (length done) (bytes_of texts)) region front.end front.rows lines c.requires.can.dialect c.loop-place.invariant next.printed whole))
 
 pub returns : goal.returns
 returns g c =
-    let plan = c.args.plan.now in
-    let schema = c.args.schema.now in
-    let o = cell_options c.args.options.now in
-    let records = c.args.records.now in
-    let regions = c.in_ok-regions.regions in
-    let whole =
-    all-regions plan schema o records regions.items c.deref_mut.result.now c.print_regions.new.regions regions.len c.into_iter-region-iterator.result c.loop-region.yielded c.loop-region.region-iterator
-    c.in_ok-regions.ensures.whole (omega (arith, regions.ok, c.deref_mut.ensures.len)) c.deref_mut.ensures.value (omega (arith, c.print_regions.auto.regions)) c.print_regions.ensures c.into_iter-region-iterator.ensures.into_iter_gives.0
-    c.loop-region.yielded_by (sym c.loop-region.region-iterator.rest.ok.0 ∙ c.in-None.ensures.steps.0) in
-    front-whole plan schema o records c.loop-region.yielded [] c.loop-region.front.end c.loop-region.front.rows (items_of c.loop-region.front.lines.items) whole c.loop-region.invariant
+    front-whole c.args.plan.now c.args.schema.now (cell_options c.args.options.now) c.args.records.now (bytes_of c.in_ok-texts.texts.items) (length c.loop-place.yielded)
+    c.loop-place.front.end c.loop-place.front.rows (items_of c.loop-place.front.lines.items) c.in_ok-texts.ensures c.loop-place.invariant

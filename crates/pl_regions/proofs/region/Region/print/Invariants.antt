@@ -5,6 +5,7 @@ use Rattle.pl_regions.proofs.region.Region.print.Given as goal
 
 abbrev pub invariant-loop-self : goal.invariant-loop-self
 invariant-loop-self l = record {
+  place : l.self.place ≡ l.fn.self.place;
   text : l.self.text.now ≡ l.fn.self.text.now;
   printed : IsRegionPrinted l.plan l.schema (cell_options l.options) l.self;
 }

@@ -7,7 +7,7 @@ use std::alloc::{AllocError, Global};
 use std::thread;
 use std::thread::Threads;
 
-// How far a line end is looked for where a region is to end, and no further than regions are long.
+// How far a line end is looked for at most where a region is to end; it is never looked for further than regions are long.
 const LOOK: usize = 1 << 20;
 
 // A part of the data, and whether it has an odd number of quotes.

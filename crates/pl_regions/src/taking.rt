@@ -1,5 +1,5 @@
 //! Regions that workers take as they come.
-ghost use Rattle.std.specs.Prelude.{◌≡◌, ◌<◌, ◌≤◌, All, IfOk, IfSome, length, map};
+ghost use Rattle.std.specs.Prelude.{◌≡◌, ◌<◌, All, IfOk, length, map};
 ghost use Rattle.pl_write.specs.Options.{cell_options};
 ghost use Rattle.pl_regions.specs.Regions.{ArePlaced, ArePut, CanPrint, IsRegionOf};
 

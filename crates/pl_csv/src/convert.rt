@@ -80,8 +80,8 @@ fn is_plain(read: &CsvReadOptions, prepared: &Prepared) -> bool
         && !have_categories(&prepared.schema, &prepared.places)
 }
 
-// What data is, read and printed by workers: each prints the rows of its region, and what is left behind the first row that is not
-// printed is read to columns. Refuses the first cause against it, and want of memory.
+// What data is, read and printed by workers: each prints the rows of the regions that it takes, and what is left behind the first row
+// that is not printed is read to columns. Refuses the first cause against it, and want of memory.
 fn print_data<W: Threads + Wait + Sync>(
     rt: &W,
     alloc: Global,

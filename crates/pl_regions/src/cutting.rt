@@ -10,6 +10,9 @@ use std::thread::Threads;
 // How far a line end is looked for at most where a region is to end; it is never looked for further than regions are long.
 const LOOK: usize = 1 << 20;
 
+// So many regions a worker there are at most, however short pieces are.
+const ROUNDS: usize = 1 << 10;
+
 // A part of the data, and whether it has an odd number of quotes.
 #[derive(Drop)]
 struct Span<'a> {
@@ -87,7 +90,8 @@ fn count_spans<'a, W: Threads + Sync>(
     Ok(spans)
 }
 
-// How long regions are: a piece each or less, so that there are as many for each worker. A single worker has one region.
+// How long regions are: a piece each or less, so that there are as many for each worker; longer where there would be too many. A single
+// worker has one region.
 fn region_size(length: usize, workers: usize, piece_size: usize) -> usize
     requires workers { 0 < workers }
     requires size { 0 < piece_size }
@@ -97,7 +101,7 @@ fn region_size(length: usize, workers: usize, piece_size: usize) -> usize
     if workers == 1 {
         return share.max(1);
     }
-    let rounds = share.div_ceil(piece_size).max(1);
+    let rounds = share.div_ceil(piece_size).clamp(1, ROUNDS);
     share.div_ceil(rounds).max(1)
 }
 

@@ -1,6 +1,7 @@
 -- What is printed of data piece by piece is the text of its frame.
 use Rattle.std.proofs.Common.{◌≡◌, ℕ, ◌+◌, ◌<◌, ◌^◌, Bool, true, false, ◌||◌, List, [], ◌∷◌, ◌++◌, map, length, take, drop, refl, sym, ◌∙◌, ap, subst, inl, inr}
 use Rattle.std.specs.Prelude.{◌⊎◌, Option, None, Some, Result, Ok, Err, IfOk, OnOk, IfErr, MatchResult}
+use Rattle.std.specs.Cow.{cow_slice_items}
 use Rattle.std.specs.Io.KnownBytes.{Appends}
 use Rattle.std.specs.List.{concat, list_any}
 use Rattle.std.specs.Option.{option_map}
@@ -184,21 +185,21 @@ left-frame plan o schema records left read can range ended = subst IsFrame (sym 
 -- ---- what is printed of an input
 
 pub printed-or-unread : (read : CsvReadOptions) (schema : List Entry) (input : List ℕ) (write : CsvWriterOptions) (result : Result Printed PolarsError) → schema ≡ settled_schema read input → MayRead read → HasAsciiQuote write
-    → IfOk result (λ printed. printed_text (frame_options write) (names_of printed.rest) (map (λ lines. lines.items) printed.lines.items) printed.rest ≡ text_of_frame (frame_options write) (frame_of read schema input))
+    → IfOk result (λ printed. printed_text (frame_options write) (names_of printed.rest) (map cow_slice_items printed.lines.items) printed.rest ≡ text_of_frame (frame_options write) (frame_of read schema input))
     → OnOk result (late_cause read schema input ≡ None) → IfErr result (IsFault (late_cause read schema input))
     → MatchResult result (IsPrintedRead read write input) (IsUnread read schema input write)
 printed-or-unread read schema input write (Ok printed) schema_is may small text none fault =
-    subst (λ s. printed_text (frame_options write) (names_of printed.rest) (map (λ lines. lines.items) printed.lines.items) printed.rest ≡ text_of_frame (frame_options write) (frame_of read s input) → late_cause read s input ≡ None → IsPrintedRead read write input printed)
+    subst (λ s. printed_text (frame_options write) (names_of printed.rest) (map cow_slice_items printed.lines.items) printed.rest ≡ text_of_frame (frame_options write) (frame_of read s input) → late_cause read s input ≡ None → IsPrintedRead read write input printed)
     (sym schema_is)
     (λ text none. record { frame = frame_of read (settled_schema read input) input; is = valid-read read (settled_schema read input) input write _ may small none refl; text_is = text }) text none
 printed-or-unread read schema input write (Err refusal) schema_is may small text none fault = unread-late read schema input write refusal may small fault
 
 -- all of it was written
 pub written-all : (read : CsvReadOptions) (write : CsvWriterOptions) (input : List ℕ) (printed : Printed) (old now : Option (List ℕ)) → IsPrintedRead read write input printed
-    → Appends old now (printed_text (frame_options write) (names_of printed.rest) (map (λ lines. lines.items) printed.lines.items) printed.rest) → IsConverted read write input old now
+    → Appends old now (printed_text (frame_options write) (names_of printed.rest) (map cow_slice_items printed.lines.items) printed.rest) → IsConverted read write input old now
 written-all read write input printed old now is written = (is.frame, record { is = is.is; written = subst (Appends old now) is.text_is written })
 
 -- or a prefix
 pub written-part : (read : CsvReadOptions) (write : CsvWriterOptions) (input : List ℕ) (printed : Printed) (old now : Option (List ℕ)) → IsPrintedRead read write input printed
-    → AppendsPrefix old now (printed_text (frame_options write) (names_of printed.rest) (map (λ lines. lines.items) printed.lines.items) printed.rest) → IsCutShort read write input old now
+    → AppendsPrefix old now (printed_text (frame_options write) (names_of printed.rest) (map cow_slice_items printed.lines.items) printed.rest) → IsCutShort read write input old now
 written-part read write input printed old now is written = record { frame = is.frame; is = is.is; written = subst (AppendsPrefix old now) is.text_is written }

@@ -1,5 +1,6 @@
 -- An input that is read and printed piece by piece (docs/workers.md, "From an input to regions").
 use Rattle.std.specs.Prelude.{◌≡◌, ℕ, false, List, map, None}
+use Rattle.std.specs.Cow.{cow_slice_items}
 use Rattle.std.specs.List.{list_any}
 use Rattle.pl_frame.specs.Frame.{ColumnValue, names_of}
 use Rattle.pl_frame.specs.Schema.{Entry}
@@ -27,4 +28,4 @@ pub record IsPlain (read : CsvReadOptions) (schema : List Entry) : Type 0 where
 pub record IsPrintedRead (read : CsvReadOptions) (write : CsvWriterOptions) (input : List ℕ) (printed : Printed) : Type 0 where
   pub frame : List ColumnValue
   pub is : IsValidRead read (settled_schema read input) input write frame
-  pub text_is : printed_text (frame_options write) (names_of printed.rest) (map (λ lines. lines.items) printed.lines.items) printed.rest ≡ text_of_frame (frame_options write) frame
+  pub text_is : printed_text (frame_options write) (names_of printed.rest) (map cow_slice_items printed.lines.items) printed.rest ≡ text_of_frame (frame_options write) frame

@@ -1,6 +1,7 @@
 //! From the bytes of an input to the text of its frame, each piece printed as soon as it is read.
 ghost use Rattle.std.specs.Prelude.{◌≡◌, ◌<◌, ◌≤◌, ℕ, None, map, drop, length, slice_index, IfOk, OnOk, IfErr, MatchResult};
 ghost use Rattle.std.specs.Bool.{OnTrue};
+ghost use Rattle.std.specs.Cow.{cow_slice_items};
 ghost use Rattle.std.specs.List.{list_any};
 ghost use Rattle.pl_cells.specs.InitBuffers.{entry_at};
 ghost use Rattle.pl_frame.specs.Frame.{names_of};
@@ -36,13 +37,14 @@ use pl_rows::range::RangeEnd;
 use pl_write::options::CsvWriterOptions;
 use pl_write::printed::write_behind;
 use std::alloc::Global;
+use std::borrow::CowSlice;
 use std::sync::Wait;
 use std::thread::Threads;
 
 /// What was read of an input: the lines of its first rows, and the frame of the others.
 #[derive(Drop)]
-pub(crate) struct Printed {
-    pub(crate) lines: Vec<Vec<u8>>,
+pub(crate) struct Printed<'a> {
+    pub(crate) lines: Vec<CowSlice<'a, u8, Global>>,
     pub(crate) rest: DataFrame,
 }
 
@@ -82,19 +84,19 @@ fn is_plain(read: &CsvReadOptions, prepared: &Prepared) -> bool
 
 // What data is, read and printed by workers: each prints the rows of the regions that it takes, and what is left behind the first row
 // that is not printed is read to columns. Refuses the first cause against it, and want of memory.
-fn print_data<W: Threads + Wait + Sync>(
+fn print_data<'a, W: Threads + Wait + Sync>(
     rt: &W,
     alloc: Global,
-    records: &[u8],
+    records: &'a [u8],
     read: &CsvReadOptions,
     schema: &Schema,
     plan: &RangePlan<'_>,
     n_threads: Option<usize>,
     write: &CsvWriterOptions,
-) -> PolarsResult<Printed>
+) -> PolarsResult<Printed<'a>>
     requires can { CanReadData plan.now read.now schema.now records.now }
     requires plain { IsPlain read.now schema.now }
-    ensures text { IfOk result (λ printed. printed_text (frame_options write.now) (names_of printed.rest) (map (λ lines. lines.items) printed.lines.items) printed.rest
+    ensures text { IfOk result (λ printed. printed_text (frame_options write.now) (names_of printed.rest) (map cow_slice_items printed.lines.items) printed.rest
         ≡ text_of_frame (frame_options write.now) (data_frame read.now schema.now records.now)) }
     ensures sound { OnOk result (data_cause read.now schema.now records.now ≡ None) }
     ensures refused { IfErr result (IsFault (data_cause read.now schema.now records.now)) }
@@ -123,17 +125,17 @@ fn print_data<W: Threads + Wait + Sync>(
 }
 
 // What an input is, of which it is known what its rows are read by.
-fn print_prepared<W: Threads + Wait + Sync>(
+fn print_prepared<'a, W: Threads + Wait + Sync>(
     rt: &W,
     alloc: Global,
-    input: &[u8],
+    input: &'a [u8],
     read: &CsvReadOptions,
     prepared: &Prepared,
     write: &CsvWriterOptions,
-) -> PolarsResult<Printed>
+) -> PolarsResult<Printed<'a>>
     requires allowed { MayRead read.now }
     requires prepared { IsPrepared read.now prepared.now.schema input.now prepared.now }
-    ensures text { IfOk result (λ printed. printed_text (frame_options write.now) (names_of printed.rest) (map (λ lines. lines.items) printed.lines.items) printed.rest
+    ensures text { IfOk result (λ printed. printed_text (frame_options write.now) (names_of printed.rest) (map cow_slice_items printed.lines.items) printed.rest
         ≡ text_of_frame (frame_options write.now) (data_frame read.now prepared.now.schema (drop prepared.now.start input.now))) }
     ensures sound { OnOk result (data_cause read.now prepared.now.schema (drop prepared.now.start input.now) ≡ None) }
     ensures refused { IfErr result (IsFault (data_cause read.now prepared.now.schema (drop prepared.now.start input.now))) }
@@ -163,15 +165,15 @@ fn print_prepared<W: Threads + Wait + Sync>(
 }
 
 // What an input is, where the options may stand and the quote of the output is ASCII.
-fn print_checked<W: Threads + Wait + Sync>(
+fn print_checked<'a, W: Threads + Wait + Sync>(
     rt: &W,
     alloc: Global,
-    input: &[u8],
+    input: &'a [u8],
     read: &CsvReadOptions,
     write: &CsvWriterOptions,
-) -> PolarsResult<Printed>
+) -> PolarsResult<Printed<'a>>
     requires allowed { MayRead read.now }
-    ensures text { IfOk result (λ printed. printed_text (frame_options write.now) (names_of printed.rest) (map (λ lines. lines.items) printed.lines.items) printed.rest
+    ensures text { IfOk result (λ printed. printed_text (frame_options write.now) (names_of printed.rest) (map cow_slice_items printed.lines.items) printed.rest
         ≡ text_of_frame (frame_options write.now) (frame_of read.now (settled_schema read.now input.now) input.now)) }
     ensures sound { OnOk result (late_cause read.now (settled_schema read.now input.now) input.now ≡ None) }
     ensures refused { IfErr result (IsFault (late_cause read.now (settled_schema read.now input.now) input.now)) }
@@ -183,13 +185,13 @@ fn print_checked<W: Threads + Wait + Sync>(
 }
 
 // What an input is that means a frame which can be written. Refuses the first cause against it, and want of memory.
-fn print_valid<W: Threads + Wait + Sync>(
+fn print_valid<'a, W: Threads + Wait + Sync>(
     rt: &W,
     alloc: Global,
-    input: &[u8],
+    input: &'a [u8],
     read: &CsvReadOptions,
     write: &CsvWriterOptions,
-) -> PolarsResult<Printed>
+) -> PolarsResult<Printed<'a>>
     ensures { MatchResult result (IsPrintedRead read.now write.now input.now) (IsUnread read.now (settled_schema read.now input.now) input.now write.now) }
 {
     match check_options(read) {

@@ -1,6 +1,7 @@
 -- Texts that are read and printed apart, one behind the other.
 use Rattle.std.proofs.Common.{◌≡◌, ℕ, true, ◌+◌, ◌-◌, ◌<◌, ◌≤◌, List, [], ◌∷◌, ◌++◌, length, take, drop, get_or, map, Option, None, Some, Bor, refl, sym, ◌∙◌, ap, subst, arith, length-append, length-take, length-drop, append_assoc, append-nil}
 use Rattle.std.specs.Prelude.{Result, Ok, Err, is_ok, IfSome, OnOk, slice_range}
+use Rattle.std.specs.Cow.{cow_slice_items}
 use Rattle.std.specs.Iterator.{Yields}
 use Rattle.std.specs.List.{concat}
 use Rattle.std.specs.Vec.Iter.{into_iter_items, into_iter_steps}
@@ -25,7 +26,8 @@ use Rattle.pl_rows.proofs.SoundTextLaws.{IsSoundText-nil, IsSoundText-append, ro
 use Rattle.pl_table.specs.Rows.{rows}
 use Rattle.pl_write.specs.Batches.{all_lines}
 use Rattle.pl_write.proofs.StackLaws.{lines-stacked}
-use Rattle.pl_regions.specs.Regions.{IsTextPrinted, IsFrontPrinted, IsRegionPrinted, IsRegionOf, ArePlaced}
+use Rattle.pl_regions.specs.Regions.{IsTextPrinted, IsFrontPrinted, IsOpenPrinted, IsRegionPrinted, IsRegionOf, ArePlaced}
+use Rattle.pl_regions.specs.declared.region.OpenRegion.{OpenRegion}
 use Rattle.pl_regions.specs.declared.region.Region.{Region}
 
 -- what holds of a success
@@ -109,11 +111,20 @@ IsFrontPrinted-more plan schema o text end to n k l m apart front after within p
 -- ---- regions
 
 -- of which nothing was printed
-pub unread-region : (plan : RangePlan) (schema : List Entry) (o : WriteOptions) (region : Region) → region.end ≡ 0 → region.rows ≡ 0 → region.lines.items ≡ [] → IsRegionPrinted plan schema o region
-unread-region plan schema o region end rows lines =
+pub unread : (plan : RangePlan) (schema : List Entry) (o : WriteOptions) (region : OpenRegion) → region.end ≡ 0 → region.rows ≡ 0 → region.lines.items ≡ [] → IsOpenPrinted plan schema o region
+unread plan schema o region end rows lines =
     subst (λ e. IsFrontPrinted plan schema o region.text.now e region.rows region.lines.items) (sym end)
     (subst (λ n. IsFrontPrinted plan schema o region.text.now 0 n region.lines.items) (sym rows)
     (subst (IsFrontPrinted plan schema o region.text.now 0 0) (sym lines) (record { within = omega arith; front = IsTextPrinted-nil plan schema o })))
+
+-- what was printed of one stays when it is closed
+pub closed : (plan : RangePlan) (schema : List Entry) (o : WriteOptions) (before : OpenRegion) (region : Region) → IsOpenPrinted plan schema o before → region.text.now ≡ before.text.now → region.end ≡ before.end
+    → region.rows ≡ before.rows → cow_slice_items region.lines ≡ before.lines.items → IsRegionPrinted plan schema o region
+closed plan schema o before region is text end rows lines =
+    subst (λ t. IsFrontPrinted plan schema o t region.end region.rows (cow_slice_items region.lines)) (sym text)
+    (subst (λ e. IsFrontPrinted plan schema o before.text.now e region.rows (cow_slice_items region.lines)) (sym end)
+    (subst (λ n. IsFrontPrinted plan schema o before.text.now before.end n (cow_slice_items region.lines)) (sym rows)
+    (subst (IsFrontPrinted plan schema o before.text.now before.end before.rows) (sym lines) is)))
 
 -- ---- texts one behind the other
 
@@ -143,16 +154,16 @@ IsFrontOf-none plan schema o = record { end_is = refl; front = IsTextPrinted-nil
 
 pub IsFrontOf-more : (plan : RangePlan) (schema : List Entry) (o : WriteOptions) (done : List (List ℕ)) (region : Region) (end n : ℕ) (lines : List (List ℕ)) → IsDialect (marks_of plan.dialect) (comment_of plan.dialect)
     → IsFrontOf plan schema o done end n lines → IsRegionPrinted plan schema o region → region.end ≡ length region.text.now
-    → IsFrontOf plan schema o (done ++ region.text.now ∷ []) (end + region.end) (n + region.rows) (lines ++ region.lines.items ∷ [])
+    → IsFrontOf plan schema o (done ++ region.text.now ∷ []) (end + region.end) (n + region.rows) (lines ++ cow_slice_items region.lines ∷ [])
 IsFrontOf-more plan schema o done region end n lines apart is printed whole =
     let text = region.text.now in
     let more = concat-more done text in
-    let here : IsTextPrinted plan schema o text region.rows region.lines.items = subst (λ t. IsTextPrinted plan schema o t region.rows region.lines.items) (take_all region.end text (omega (arith, whole))) printed.front in
-    let both = IsTextPrinted-append plan schema o (concat done) text n region.rows (concat lines) region.lines.items apart is.front here in
+    let here : IsTextPrinted plan schema o text region.rows (cow_slice_items region.lines) = subst (λ t. IsTextPrinted plan schema o t region.rows (cow_slice_items region.lines)) (take_all region.end text (omega (arith, whole))) printed.front in
+    let both = IsTextPrinted-append plan schema o (concat done) text n region.rows (concat lines) (cow_slice_items region.lines) apart is.front here in
     record {
       end_is = omega (arith, is.end_is, whole, ap length more, length-append (concat done) text);
-      front = subst (λ t. IsTextPrinted plan schema o t (n + region.rows) (concat (lines ++ region.lines.items ∷ []))) (sym more)
-          (subst (IsTextPrinted plan schema o (concat done ++ text) (n + region.rows)) (sym (concat-more lines region.lines.items)) both);
+      front = subst (λ t. IsTextPrinted plan schema o t (n + region.rows) (concat (lines ++ cow_slice_items region.lines ∷ []))) (sym more)
+          (subst (IsTextPrinted plan schema o (concat done ++ text) (n + region.rows)) (sym (concat-more lines (cow_slice_items region.lines))) both);
     }
 
 -- they are the front of the data
@@ -172,7 +183,7 @@ front-whole plan schema o records texts count end n lines whole is =
 pub front-part : (plan : RangePlan) (schema : List Entry) (o : WriteOptions) (records : List ℕ) (texts : List (List ℕ)) (count : ℕ) (region : Region) (end n : ℕ) (lines : List (List ℕ))
     → IsDialect (marks_of plan.dialect) (comment_of plan.dialect) → concat texts ≡ records → take (count + 1) texts ≡ take count texts ++ region.text.now ∷ []
     → IsFrontOf plan schema o (take count texts) end n lines → IsRegionPrinted plan schema o region
-    → IsFrontPrinted plan schema o records (end + region.end) (n + region.rows) (concat (lines ++ region.lines.items ∷ []))
+    → IsFrontPrinted plan schema o records (end + region.end) (n + region.rows) (concat (lines ++ cow_slice_items region.lines ∷ []))
 front-part plan schema o records texts count region end n lines apart whole next is printed =
     let D = concat (take count texts) in
     let T = region.text.now in
@@ -182,11 +193,11 @@ front-part plan schema o records texts count region end n lines apart whole next
     sym parts ∙ ap (λ l. concat l ++ L) (sym next) ∙ sym (concat-append (take (count + 1) texts) (drop (count + 1) texts)) ∙ ap concat (take-append-drop (count + 1) texts) ∙ whole in
     let text : D ++ take region.end T ≡ take (end + region.end) records =
     sym (take-append-add D (T ++ L) region.end ∙ ap (λ l. D ++ l) (take-append-le region.end T L printed.within)) ∙ (λ j. take (sym is.end_is j + region.end) (all j)) in
-    let both = IsTextPrinted-append plan schema o D (take region.end T) n region.rows (concat lines) region.lines.items apart is.front printed.front in
+    let both = IsTextPrinted-append plan schema o D (take region.end T) n region.rows (concat lines) (cow_slice_items region.lines) apart is.front printed.front in
     record {
       within = omega (arith, is.end_is, printed.within, length-append D (T ++ L), length-append T L, ap length all);
-      front = subst (λ t. IsTextPrinted plan schema o t (n + region.rows) (concat (lines ++ region.lines.items ∷ []))) text
-          (subst (IsTextPrinted plan schema o (D ++ take region.end T) (n + region.rows)) (sym (concat-more lines region.lines.items)) both);
+      front = subst (λ t. IsTextPrinted plan schema o t (n + region.rows) (concat (lines ++ cow_slice_items region.lines ∷ []))) text
+          (subst (IsTextPrinted plan schema o (D ++ take region.end T) (n + region.rows)) (sym (concat-more lines (cow_slice_items region.lines))) both);
     }
 
 -- it has no more rows than the data has bytes

@@ -1,5 +1,6 @@
 -- Regions of a text that are read and printed apart (docs/workers.md, "From an input to regions").
 use Rattle.std.specs.Prelude.{◌≡◌, ◌⊎◌, ℕ, ◌<◌, ◌≤◌, List, [], length, take, get_or, Option, None, Some, IfSome, Contains, slice_index_or}
+use Rattle.std.specs.Cow.{cow_slice_items}
 use Rattle.pl_frame.specs.Dialect.{IsDialect}
 use Rattle.pl_frame.specs.Schema.{Entry}
 use Rattle.pl_frame.specs.Text.{WriteOptions}
@@ -11,6 +12,7 @@ use Rattle.pl_rows.specs.Plan.{AreRising}
 use Rattle.pl_rows.specs.WholePieces.{IsSoundText, text_frame}
 use Rattle.pl_table.specs.Rows.{rows}
 use Rattle.pl_write.specs.Batches.{all_lines}
+use Rattle.pl_regions.specs.declared.region.OpenRegion.{OpenRegion}
 use Rattle.pl_regions.specs.declared.region.Region.{Region}
 
 -- ---- what is asked of a caller
@@ -39,9 +41,13 @@ pub record IsFrontPrinted (plan : RangePlan) (schema : List Entry) (o : WriteOpt
 
 -- ---- regions
 
+-- the front of a region that is being read was printed, as far as it tells
+abbrev pub IsOpenPrinted : RangePlan → List Entry → WriteOptions → OpenRegion → Type 0
+IsOpenPrinted plan schema o region = IsFrontPrinted plan schema o region.text.now region.end region.rows region.lines.items
+
 -- the front of a region was printed, as far as it tells
 abbrev pub IsRegionPrinted : RangePlan → List Entry → WriteOptions → Region → Type 0
-IsRegionPrinted plan schema o region = IsFrontPrinted plan schema o region.text.now region.end region.rows region.lines.items
+IsRegionPrinted plan schema o region = IsFrontPrinted plan schema o region.text.now region.end region.rows (cow_slice_items region.lines)
 
 -- a region is that of its place among the texts of regions, and its front was printed
 pub record IsRegionOf (plan : RangePlan) (schema : List Entry) (o : WriteOptions) (texts : List (List ℕ)) (region : Region) : Type 0 where

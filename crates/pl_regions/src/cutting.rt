@@ -90,23 +90,19 @@ fn count_spans<'a, W: Threads + Sync>(
     Ok(spans)
 }
 
-// How long regions are: a piece each or less, so that there are as many for each worker; longer where there would be too many. A single
-// worker has one region.
+// How long regions are: a piece each or less, so that there are as many for each worker; longer where there would be too many.
 fn region_size(length: usize, workers: usize, piece_size: usize) -> usize
     requires workers { 0 < workers }
     requires size { 0 < piece_size }
     ensures { 0 < result }
 {
     let share = length.div_ceil(workers);
-    if workers == 1 {
-        return share.max(1);
-    }
     let rounds = share.div_ceil(piece_size).clamp(1, ROUNDS);
     share.div_ceil(rounds).max(1)
 }
 
-/// The texts of regions, which are the data one behind the other: of a piece each, or one where there is a single worker. A region
-/// ends by a guess: behind a line end that stands behind an even number of quotes. Refuses only want of memory.
+/// The texts of regions, which are the data one behind the other: of about a piece each. A region ends by a guess: behind a line end
+/// that stands behind an even number of quotes. Refuses only want of memory.
 pub(crate) fn cut_regions<'a, W: Threads + Sync>(
     rt: &W,
     alloc: Global,

@@ -1,5 +1,6 @@
 //! The front of the data, read and printed by workers.
 ghost use Rattle.std.specs.Prelude.{◌≡◌, ◌<◌, IfOk, map};
+ghost use Rattle.std.specs.Cow.{cow_slice_items};
 ghost use Rattle.std.specs.List.{concat};
 ghost use Rattle.pl_write.specs.Options.{cell_options};
 ghost use Rattle.pl_regions.specs.Regions.{CanPrint, IsFrontPrinted};
@@ -10,14 +11,16 @@ use pl_frame::schema::Schema;
 use pl_rows::plan::RangePlan;
 use pl_write::options::SerializeOptions;
 use std::alloc::{AllocError, Global};
+use std::borrow::CowSlice;
 use std::thread::Threads;
 
 /// The front of a text whose rows were printed: so many bytes, with so many rows, and the lines of these, one text behind the other.
+/// Lines that are the bytes they were read from are lent from there.
 #[derive(Drop)]
-pub struct Front {
+pub struct Front<'a> {
     pub end: usize,
     pub rows: usize,
-    pub lines: Vec<Vec<u8>>,
+    pub lines: Vec<CowSlice<'a, u8, Global>>,
 }
 
 // So much memory is taken and given back before the first piece.
@@ -32,23 +35,22 @@ fn make_room(alloc: Global) {
 }
 
 /// Reads and prints the records of a text by so many workers, which take regions of about so many bytes as they come, as far as pieces
-/// end where an item does, no row has a fault and memory suffices: from the front on without a gap. A single worker has one region, in
-/// pieces of about so many bytes. Most often that is all of the text but for a last record without a line end. Its last byte counts as
-/// the last of the input. Refuses only want of memory.
-pub fn print_front<W: Threads + Sync>(
+/// end where an item does, no row has a fault and memory suffices: from the front on without a gap. Most often that is all of the text
+/// but for a last record without a line end. Its last byte counts as the last of the input. Refuses only want of memory.
+pub fn print_front<'a, W: Threads + Sync>(
     rt: &W,
     alloc: Global,
     workers: usize,
-    records: &[u8],
+    records: &'a [u8],
     schema: &Schema,
     plan: &RangePlan<'_>,
     options: &SerializeOptions,
     piece_size: usize,
-) -> Result<Front, AllocError>
+) -> Result<Front<'a>, AllocError>
     requires workers { 0 < workers }
     requires can { CanPrint plan.now schema.now }
     requires size { 0 < piece_size }
-    ensures { IfOk result (λ front. IsFrontPrinted plan.now schema.now (cell_options options.now) records.now front.end front.rows (concat (map (λ lines. lines.items) front.lines.items))) }
+    ensures { IfOk result (λ front. IsFrontPrinted plan.now schema.now (cell_options options.now) records.now front.end front.rows (concat (map cow_slice_items front.lines.items))) }
 {
     make_room(alloc);
     let dialect = plan.dialect;

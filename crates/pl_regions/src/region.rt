@@ -1,8 +1,9 @@
 //! A region of the data: its pieces are read one after another, and the rows of each are printed.
 ghost use Rattle.std.specs.Prelude.{◌≡◌, ◌<◌, ◌≤◌, [], length};
 ghost use Rattle.std.specs.Bool.{OnTrue};
+ghost use Rattle.std.specs.Cow.{cow_slice_items};
 ghost use Rattle.pl_write.specs.Options.{cell_options};
-ghost use Rattle.pl_regions.specs.Regions.{CanPrint, IsRegionPrinted};
+ghost use Rattle.pl_regions.specs.Regions.{CanPrint, IsOpenPrinted, IsRegionPrinted};
 
 use pl_board::cutting::piece_end;
 use pl_frame::schema::Schema;
@@ -12,29 +13,37 @@ use pl_scan::line_ends::CountLines;
 use pl_write::options::SerializeOptions;
 use pl_write::row_printer::RowPrinter;
 use std::alloc::Global;
+use std::borrow::CowSlice;
 
 /// A region of the data, by its place among all, and what was printed of it: the lines of so many rows, which are those of so many of
-/// its bytes.
+/// its bytes. Where the lines are these bytes, they are lent.
 #[derive(Drop)]
 pub(crate) struct Region<'a> {
     pub(crate) place: usize,
     pub(crate) text: &'a [u8],
     pub(crate) end: usize,
     pub(crate) rows: usize,
-    pub(crate) lines: Vec<u8>,
+    pub(crate) lines: CowSlice<'a, u8, Global>,
 }
 
-impl<'a> Region<'a> {
-    /// One of which nothing was printed.
-    pub(crate) fn new(alloc: Global, place: usize, text: &'a [u8]) -> Region<'a>
-        ensures place { result.place ≡ place }
+// A region while it is read, and what was printed of it so far.
+#[derive(Drop)]
+struct OpenRegion<'a> {
+    text: &'a [u8],
+    end: usize,
+    rows: usize,
+    lines: Vec<u8>,
+}
+
+impl<'a> OpenRegion<'a> {
+    // One of which nothing was printed.
+    fn new(alloc: Global, text: &'a [u8]) -> OpenRegion<'a>
         ensures text { result.text.now ≡ text.now }
         ensures end { result.end ≡ 0 }
         ensures rows { result.rows ≡ 0 }
         ensures lines { result.lines.items ≡ [] }
     {
-        Region {
-            place,
+        OpenRegion {
             text,
             end: 0,
             rows: 0,
@@ -54,13 +63,12 @@ impl<'a> Region<'a> {
         to: usize,
     ) -> bool
         requires can { CanPrint plan.now schema.now }
-        requires printed { IsRegionPrinted plan.now schema.now (cell_options options.now) self.old }
+        requires printed { IsOpenPrinted plan.now schema.now (cell_options options.now) self.old }
         requires after { self.old.end ≤ to }
         requires within { to ≤ length self.old.text.now }
-        ensures place { self.new.place ≡ self.old.place }
         ensures text { self.new.text.now ≡ self.old.text.now }
         ensures end { OnTrue result (self.new.end ≡ to) }
-        ensures printed { IsRegionPrinted plan.now schema.now (cell_options options.now) self.new }
+        ensures printed { IsOpenPrinted plan.now schema.now (cell_options options.now) self.new }
     {
         let piece = &self.text[self.end..to];
         let Ok(Some(read)) = read_piece_frame(alloc, schema, piece, plan) else {
@@ -80,9 +88,23 @@ impl<'a> Region<'a> {
         true
     }
 
-    /// Reads the region piece by piece, and prints the rows of each, as far as pieces end where an item does, no row has a fault and
-    /// memory suffices.
-    pub(crate) fn print(
+    // The end of the next piece: all that is left is one, where it is shorter than two.
+    fn next_end(&self, piece_size: usize, lines: &CountLines) -> usize
+        requires some { 0 < piece_size }
+        requires left { self.now.end < length self.now.text.now }
+        ensures after { self.now.end < result }
+        ensures within { result ≤ length self.now.text.now }
+    {
+        if self.text.len() - self.end < piece_size.saturating_mul(2) {
+            self.text.len()
+        } else {
+            piece_end(self.text, self.end, piece_size, lines)
+        }
+    }
+
+    // Reads the region piece by piece, and prints the rows of each, as far as pieces end where an item does, no row has a fault and
+    // memory suffices.
+    fn print(
         &mut self,
         alloc: Global,
         printer: &mut RowPrinter,
@@ -93,20 +115,74 @@ impl<'a> Region<'a> {
     )
         requires can { CanPrint plan.now schema.now }
         requires size { 0 < piece_size }
-        requires printed { IsRegionPrinted plan.now schema.now (cell_options options.now) self.old }
-        ensures place { self.new.place ≡ self.old.place }
+        requires printed { IsOpenPrinted plan.now schema.now (cell_options options.now) self.old }
         ensures text { self.new.text.now ≡ self.old.text.now }
-        ensures printed { IsRegionPrinted plan.now schema.now (cell_options options.now) self.new }
+        ensures printed { IsOpenPrinted plan.now schema.now (cell_options options.now) self.new }
     {
         // The lines are about as long as the text; where there is no such room, they get it bit by bit.
         let _ = self.lines.reserve(self.text.len());
         let dialect = plan.dialect;
         let lines = CountLines::new(dialect.quote_char, dialect.eol_char);
         while self.end < self.text.len() {
-            let to = piece_end(self.text, self.end, piece_size, &lines);
+            let to = self.next_end(piece_size, &lines);
             if !self.print_piece(alloc, printer, schema, plan, options, to) {
                 return;
             }
         }
+    }
+
+    // Lends the lines, where they are what was read, and lets their memory go.
+    fn close(self, place: usize) -> Region<'a>
+        requires within { self.end ≤ length self.text.now }
+        ensures place { result.place ≡ place }
+        ensures text { result.text.now ≡ self.entry.text.now }
+        ensures end { result.end ≡ self.entry.end }
+        ensures rows { result.rows ≡ self.entry.rows }
+        ensures lines { cow_slice_items result.lines ≡ self.entry.lines.items }
+    {
+        let OpenRegion {
+            text,
+            end,
+            rows,
+            lines,
+        } = self;
+        let read = &text[..end];
+        let lines = if lines.as_slice() == read {
+            CowSlice::Borrowed(read)
+        } else {
+            CowSlice::Owned(lines)
+        };
+        Region {
+            place,
+            text,
+            end,
+            rows,
+            lines,
+        }
+    }
+}
+
+impl<'a> Region<'a> {
+    /// The region of a place, read piece by piece, and the rows of each piece printed, as far as pieces end where an item does, no row
+    /// has a fault and memory suffices.
+    pub(crate) fn printed(
+        alloc: Global,
+        place: usize,
+        text: &'a [u8],
+        printer: &mut RowPrinter,
+        schema: &Schema,
+        plan: &RangePlan<'_>,
+        options: &SerializeOptions,
+        piece_size: usize,
+    ) -> Region<'a>
+        requires can { CanPrint plan.now schema.now }
+        requires size { 0 < piece_size }
+        ensures place { result.place ≡ place }
+        ensures text { result.text.now ≡ text.now }
+        ensures printed { IsRegionPrinted plan.now schema.now (cell_options options.now) result }
+    {
+        let mut region = OpenRegion::new(alloc, text);
+        region.print(alloc, printer, schema, plan, options, piece_size);
+        region.close(place)
     }
 }

@@ -36,8 +36,16 @@ fn take_regions<'a>(
         if place >= texts.len() {
             return taken;
         }
-        let mut region = Region::new(alloc, place, texts[place]);
-        region.print(alloc, &mut printer, schema, plan, options, piece_size);
+        let region = Region::printed(
+            alloc,
+            place,
+            texts[place],
+            &mut printer,
+            schema,
+            plan,
+            options,
+            piece_size,
+        );
         if taken.push(region).is_err() {
             return taken;
         }

@@ -11,6 +11,7 @@ use pl_rows::plan::{Projection, RangePlan, RowOptions};
 use pl_scan::dialect::Dialect;
 use pl_write::options::CsvWriterOptions;
 use std::alloc::Global;
+use std::borrow::CowSlice;
 use std::process::Abort;
 use std::thread::Threads;
 
@@ -32,13 +33,13 @@ fn schema(rt: &impl Abort, alloc: Global) -> Schema
 }
 
 // The front of a text of such rows, by so many workers in pieces of so many bytes.
-fn front<W: Abort + Threads + Sync>(
+fn front<'a, W: Abort + Threads + Sync>(
     rt: &W,
     alloc: Global,
     workers: usize,
     piece_size: usize,
-    text: &[u8],
-) -> Front
+    text: &'a [u8],
+) -> Front<'a>
     requires workers { 0 < workers }
     requires size { 0 < piece_size }
 {
@@ -75,10 +76,10 @@ fn front<W: Abort + Threads + Sync>(
 }
 
 // The lines, one text behind the other.
-fn lines_of(rt: &impl Abort, alloc: Global, front: &Front) -> Vec<u8> {
+fn lines_of(rt: &impl Abort, alloc: Global, front: &Front<'_>) -> Vec<u8> {
     let mut all = Vec::new(alloc);
     for lines in &front.lines {
-        all.extend_from_slice(lines).expect(rt, "memory");
+        all.extend_from_slice(lines.as_slice()).expect(rt, "memory");
     }
     all
 }
@@ -111,6 +112,38 @@ fn all_of_a_sound_text_is_printed(rt: HostRuntime) {
                 "by {workers} in {piece_size}"
             );
         }
+    }
+}
+
+// How many of the texts of lines were copied, and do not stand in the input.
+fn copies(front: &Front<'_>) -> usize {
+    let lines = front.lines.iter();
+    lines
+        .filter(|text| matches!(text, CowSlice::Owned(_)))
+        .count()
+}
+
+// Twenty rows, such a row, and twenty rows.
+fn rows_around(rt: &impl Abort, alloc: Global, row: &[u8]) -> Vec<u8> {
+    let mut text = rows(rt, alloc, 20);
+    text.extend_from_slice(row).expect(rt, "memory");
+    text.extend_from_slice(&rows(rt, alloc, 20))
+        .expect(rt, "memory");
+    text
+}
+
+#[test]
+fn lines_are_copied_where_they_are_not_their_piece(rt: HostRuntime) {
+    let alloc = rt.alloc();
+    let plain = rows_around(&rt, alloc, b"7,x\n");
+    let text = rows_around(&rt, alloc, b"007,x\n");
+    for workers in [1, 3] {
+        let kept = front(&rt, alloc, workers, 1, &plain);
+        assert!(rt; copies(&kept) == 0, "by {workers}");
+        let front = front(&rt, alloc, workers, 1, &text);
+        assert!(rt; front.end == text.len() && front.rows == 41);
+        assert!(rt; copies(&front) == 1, "by {workers}");
+        assert!(rt; lines_of(&rt, alloc, &front) == plain, "by {workers}");
     }
 }
 

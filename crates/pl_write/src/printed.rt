@@ -1,5 +1,6 @@
 //! The text of a frame whose first rows were printed before.
 ghost use Rattle.std.specs.Prelude.{◌≤◌, ◌<◌, ◌++◌, map, OnOk, IsErrOf};
+ghost use Rattle.std.specs.Cow.{cow_slice_items};
 ghost use Rattle.std.specs.Io.KnownBytes.{Appends};
 ghost use Rattle.std.specs.List.{concat};
 ghost use Rattle.pl_frame.specs.Causes.{Rose};
@@ -16,13 +17,14 @@ use crate::writer::write_rows_behind;
 use pl_frame::column::Column;
 use pl_frame::sink::{Sink, SinkFault, write_all};
 use std::alloc::Global;
+use std::borrow::CowSlice;
 use std::thread::Threads;
 
 // Appends texts to a sink, one behind the other. Refuses a fault of the device, and want of memory in the sink. A prefix of the
 // texts was then appended.
-fn write_texts<Si: Sink>(texts: &[Vec<u8>], sink: &mut Si) -> Result<(), SinkFault>
-    ensures text { OnOk result (Appends (Si.received sink.old) (Si.received sink.new) (concat (map (λ text. text.items) texts.now))) }
-    ensures prefix { AppendsPrefix (Si.received sink.old) (Si.received sink.new) (concat (map (λ text. text.items) texts.now)) }
+fn write_texts<Si: Sink>(texts: &[CowSlice<'_, u8, Global>], sink: &mut Si) -> Result<(), SinkFault>
+    ensures text { OnOk result (Appends (Si.received sink.old) (Si.received sink.new) (concat (map cow_slice_items texts.now))) }
+    ensures prefix { AppendsPrefix (Si.received sink.old) (Si.received sink.new) (concat (map cow_slice_items texts.now)) }
     ensures later { Si.faults sink.old ≤ Si.faults sink.new }
     ensures later_wants { Si.wants sink.old ≤ Si.wants sink.new }
     ensures device { IsErrOf result SinkFault.Device → Rose (Si.faults sink.old) (Si.faults sink.new) }
@@ -43,15 +45,15 @@ fn write_printed<W: Threads + Sync, Si: Sink>(
     rt: &W,
     alloc: Global,
     workers: usize,
-    printed: &[Vec<u8>],
+    printed: &[CowSlice<'_, u8, Global>],
     columns: &[Column],
     options: &CsvWriterOptions,
     sink: &mut Si,
 ) -> Result<(), SinkFault>
     requires workers { 0 < workers }
     requires columns { HaveHeight (height_of columns.now) columns.now }
-    ensures text { OnOk result (Appends (Si.received sink.old) (Si.received sink.new) (concat (map (λ lines. lines.items) printed.now) ++ all_lines (cell_options options.now.serialize_options) columns.now)) }
-    ensures prefix { AppendsPrefix (Si.received sink.old) (Si.received sink.new) (concat (map (λ lines. lines.items) printed.now) ++ all_lines (cell_options options.now.serialize_options) columns.now) }
+    ensures text { OnOk result (Appends (Si.received sink.old) (Si.received sink.new) (concat (map cow_slice_items printed.now) ++ all_lines (cell_options options.now.serialize_options) columns.now)) }
+    ensures prefix { AppendsPrefix (Si.received sink.old) (Si.received sink.new) (concat (map cow_slice_items printed.now) ++ all_lines (cell_options options.now.serialize_options) columns.now) }
     ensures later { Si.faults sink.old ≤ Si.faults sink.new }
     ensures later_wants { Si.wants sink.old ≤ Si.wants sink.new }
     ensures device { IsErrOf result SinkFault.Device → Rose (Si.faults sink.old) (Si.faults sink.new) }
@@ -81,15 +83,15 @@ pub fn write_behind<W: Threads + Sync, Si: Sink>(
     rt: &W,
     alloc: Global,
     workers: usize,
-    printed: &[Vec<u8>],
+    printed: &[CowSlice<'_, u8, Global>],
     columns: &[Column],
     options: &CsvWriterOptions,
     sink: &mut Si,
 ) -> Result<(), SinkFault>
     requires workers { 0 < workers }
     requires columns { HaveHeight (height_of columns.now) columns.now }
-    ensures text { OnOk result (Appends (Si.received sink.old) (Si.received sink.new) (printed_text (frame_options options.now) (names_of columns.now) (map (λ lines. lines.items) printed.now) columns.now)) }
-    ensures prefix { AppendsPrefix (Si.received sink.old) (Si.received sink.new) (printed_text (frame_options options.now) (names_of columns.now) (map (λ lines. lines.items) printed.now) columns.now) }
+    ensures text { OnOk result (Appends (Si.received sink.old) (Si.received sink.new) (printed_text (frame_options options.now) (names_of columns.now) (map cow_slice_items printed.now) columns.now)) }
+    ensures prefix { AppendsPrefix (Si.received sink.old) (Si.received sink.new) (printed_text (frame_options options.now) (names_of columns.now) (map cow_slice_items printed.now) columns.now) }
     ensures later { Si.faults sink.old ≤ Si.faults sink.new }
     ensures later_wants { Si.wants sink.old ≤ Si.wants sink.new }
     ensures device { IsErrOf result SinkFault.Device → Rose (Si.faults sink.old) (Si.faults sink.new) }

@@ -8,6 +8,7 @@ use pl_write::options::CsvWriterOptions;
 use pl_write::printed::write_behind;
 use pl_write::row_printer::RowPrinter;
 use std::alloc::Global;
+use std::borrow::CowSlice;
 use std::process::Abort;
 use std::thread::Threads;
 
@@ -45,11 +46,12 @@ fn write_in_parts<W: Abort + Threads + Sync, Si: Sink>(
     options.batch_size = 3;
     let frame = frame(rt, alloc);
     let mut printer = RowPrinter::new(alloc).expect(rt, "a printer");
-    let mut printed = Vec::new(alloc);
-    for first in [0, count] {
-        let lines = lines_of(rt, alloc, &mut printer, &frame, first, count, &options);
-        printed.push(lines).expect(rt, "lines");
-    }
+    let first = lines_of(rt, alloc, &mut printer, &frame, 0, count, &options);
+    let second = lines_of(rt, alloc, &mut printer, &frame, count, count, &options);
+    let printed = [
+        CowSlice::Owned(first),
+        CowSlice::Borrowed(second.as_slice()),
+    ];
     let rest = frame.slice(2 * count, 60).expect(rt, "a part");
     write_behind(rt, alloc, workers, &printed, rest.columns(), &options, sink)
 }

@@ -1,4 +1,6 @@
-use Rattle.std.proofs.Common.{◌≡◌, ℕ, ◌<◌, ◌^◌, List, length, map, drop, refl, inl, sym, subst, arith, Vec, Global}
+use Rattle.std.proofs.Common.{◌≡◌, ℕ, ◌<◌, ◌^◌, List, length, map, drop, refl, inl, sym, subst, arith, Global}
+use Rattle.std.specs.Cow.{cow_slice_items}
+use Rattle.std.specs.declared.borrow.CowSlice.{CowSlice}
 use Rattle.pl_frame.specs.Frame.{names_of}
 use Rattle.pl_frame.specs.Text.{text_of_frame}
 use Rattle.pl_rows.specs.Ranges.{IsRangeRead}
@@ -10,8 +12,8 @@ use Rattle.pl_csv.proofs.ConvertLaws.{can-print, data-text, data-sound, data-fau
 use Rattle.pl_csv.proofs.convert.print_data.Goals as goal
 
 -- the lines of texts
-abbrev items_of : List (Vec ℕ Global) → List (List ℕ)
-items_of lines = map (λ l. l.items) lines
+abbrev items_of : List (CowSlice ℕ Global) → List (List ℕ)
+items_of lines = map cow_slice_items lines
 
 pub print_front-requires-clause-can : goal.print_front-requires-clause-can
 print_front-requires-clause-can g c κs within = can-print c.args.plan.now c.args.read.now c.args.schema.now c.args.records.now c.requires.can c.requires.plain
@@ -55,8 +57,8 @@ returns-in-Fault-clause-refused g c =
     let range = subst (λ l. IsRangeRead plan schema l rest) (rest-is front.end records records refl) c.in-Ok-read_by_workers.ensures in
     inl (data-fault plan c.args.read.now schema records c.args.write.now front.end front.rows (items_of front.lines.items) rest c.in-Fault.row c.in-Fault.column c.in-Fault.kind c.requires.can c.requires.plain c.in-Ok.ensures range c.in-Fault.is)
 
-pub returns-in-Closed : goal.returns-in-Closed
-returns-in-Closed g c =
+pub returns : goal.returns
+returns g c =
     let plan = c.args.plan.now in
     let o = c.args.read.now in
     let schema = c.args.schema.now in

@@ -1,5 +1,7 @@
-use Rattle.std.proofs.Common.{◌≡◌, ℕ, ◌+◌, List, [], ◌∷◌, ◌++◌, length, map, take, sym, ◌∙◌, ap, subst, arith, Vec, Global, Bor}
+use Rattle.std.proofs.Common.{◌≡◌, ℕ, ◌+◌, List, [], ◌∷◌, ◌++◌, length, map, take, sym, ◌∙◌, ap, subst, arith, Global, Bor}
+use Rattle.std.specs.Cow.{cow_slice_items}
 use Rattle.std.specs.List.{concat}
+use Rattle.std.specs.declared.borrow.CowSlice.{CowSlice}
 use Rattle.std.proofs.lemmas.List.{map-append, length_push}
 use Rattle.pl_write.specs.Options.{cell_options}
 use Rattle.pl_regions.specs.Regions.{IsFrontPrinted}
@@ -7,16 +9,16 @@ use Rattle.pl_regions.proofs.RegionLaws.{IsFrontOf, IsFrontOf-none, IsFrontOf-mo
 use Rattle.pl_regions.proofs.front.print_front.Goals as goal
 
 -- the lines of texts
-abbrev items_of : List (Vec ℕ Global) → List (List ℕ)
-items_of lines = map (λ l. l.items) lines
+abbrev items_of : List (CowSlice ℕ Global) → List (List ℕ)
+items_of lines = map cow_slice_items lines
 
 -- the bytes of texts
 abbrev bytes_of : List (Bor (List ℕ)) → List (List ℕ)
 bytes_of texts = map (λ t. t.now) texts
 
 -- with one more
-items-more : (now lines : List (Vec ℕ Global)) (one : Vec ℕ Global) → now ≡ lines ++ one ∷ [] → items_of now ≡ items_of lines ++ one.items ∷ []
-items-more now lines one more = ap items_of more ∙ map-append (λ (l : Vec ℕ Global). l.items) lines (one ∷ [])
+items-more : (now lines : List (CowSlice ℕ Global)) (one : CowSlice ℕ Global) → now ≡ lines ++ one ∷ [] → items_of now ≡ items_of lines ++ cow_slice_items one ∷ []
+items-more now lines one more = ap items_of more ∙ map-append cow_slice_items lines (one ∷ [])
 
 pub loop-place-init : goal.loop-place-init
 loop-place-init g c =
@@ -57,7 +59,7 @@ overflow_add-front-in-loop-place g c =
     let front = c.loop-place.front in
     let lines = items_of front.lines.items in
     let part = front-part plan schema o records (bytes_of texts) (length done) region front.end front.rows lines c.requires.can.dialect c.in_ok-texts.ensures next.next c.loop-place.invariant next.printed in
-    let few = few-printed plan schema o records (front.end + region.end) (front.rows + region.rows) (concat (lines ++ region.lines.items ∷ [])) c.requires.can.dialect part in
+    let few = few-printed plan schema o records (front.end + region.end) (front.rows + region.rows) (concat (lines ++ cow_slice_items region.lines ∷ [])) c.requires.can.dialect part in
     record { fits = omega (arith, few) }
 
 pub returns-then-not-is_whole : goal.returns-then-not-is_whole
@@ -75,7 +77,7 @@ returns-then-not-is_whole g c =
     let front = c.loop-place.front in
     let lines = items_of front.lines.items in
     let part = front-part plan schema o records (bytes_of texts) (length done) region front.end front.rows lines c.requires.can.dialect c.in_ok-texts.ensures next.next c.loop-place.invariant next.printed in
-    let more : items_of c.push.new.self.items ≡ lines ++ region.lines.items ∷ [] = items-more c.push.new.self.items front.lines.items region.lines c.in_ok-push.ensures.items in
+    let more : items_of c.push.new.self.items ≡ lines ++ cow_slice_items region.lines ∷ [] = items-more c.push.new.self.items front.lines.items region.lines c.in_ok-push.ensures.items in
     subst (λ l. IsFrontPrinted plan schema o records (front.end + region.end) (front.rows + region.rows) (concat l)) (sym more) part
 
 pub loop-place-preserved : goal.loop-place-preserved
@@ -92,7 +94,7 @@ loop-place-preserved g c =
     c.deref.ensures.value c.in_ok-places.ensures c.into_iter-place-iterator.ensures.into_iter_gives.0 c.loop-place.yielded_by c.in-Some.ensures.steps.0 c.in-Some-place.is in
     let front = c.loop-place.front in
     let lines = items_of front.lines.items in
-    let more : items_of c.push.new.self.items ≡ lines ++ region.lines.items ∷ [] = items-more c.push.new.self.items front.lines.items region.lines c.in_ok-push.ensures.items in
+    let more : items_of c.push.new.self.items ≡ lines ++ cow_slice_items region.lines ∷ [] = items-more c.push.new.self.items front.lines.items region.lines c.in_ok-push.ensures.items in
     let whole : region.end ≡ length region.text.now = omega (arith, c.if-not-is_whole.false) in
     let count : length (done ++ c.in-Some.place ∷ []) ≡ length done + 1 = length_push done c.in-Some.place in
     subst (λ t. IsFrontOf plan schema o t (front.end + region.end) (front.rows + region.rows) (items_of c.push.new.self.items)) (sym (ap (λ k. take k (bytes_of texts)) count ∙ next.next))

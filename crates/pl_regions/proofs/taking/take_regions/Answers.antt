@@ -4,25 +4,19 @@ use Rattle.std.proofs.lemmas.List.{get_or-map, length-map}
 use Rattle.std.proofs.lemmas.List.Elements.{All-push}
 use Rattle.pl_write.specs.Options.{cell_options}
 use Rattle.pl_regions.specs.Regions.{IsRegionOf}
-use Rattle.pl_regions.proofs.RegionLaws.{unread-region}
 use Rattle.pl_regions.proofs.taking.take_regions.Goals as goal
-
-pub print-requires-clause-printed : goal.print-requires-clause-printed
-print-requires-clause-printed c =
-    unread-region c.args.plan.now c.args.schema.now (cell_options c.args.options.now) c.new-region.result c.new-region.ensures.end c.new-region.ensures.rows c.new-region.ensures.lines
 
 pub loop-preserved : goal.loop-preserved
 loop-preserved c =
     let texts = map (λ text. text.now) c.args.texts.now in
     let P = IsRegionOf c.args.plan.now c.args.schema.now (cell_options c.args.options.now) texts in
-    let region = c.print.new.self in
+    let region = c.printed-region.result in
     let taken = c.loop.taken.items in
     let pushed = c.is_err.ensures.negation ∙ ap not c.if-is_err.false in
     let items : c.push.new.self.items ≡ taken ++ region ∷ [] = c.push.ensures.items ∙ ap (λ t. if t then taken ++ region ∷ [] else taken) pushed in
-    let text = c.print.ensures.text ∙ c.new-region.ensures.text in
     let own : P region = record {
-      inside = omega (arith, c.if-place-texts.false, c.print.ensures.place, c.new-region.ensures.place, length-map c.args.texts.now (λ (t : Bor (List ℕ)). t.now));
-      text_is = text ∙ sym (ap (λ k. get_or texts k []) (c.print.ensures.place ∙ c.new-region.ensures.place) ∙ get_or-map (λ (t : Bor (List ℕ)). t.now) c.args.texts.now c.fetch_add-place.result _ [] (omega (arith, c.if-place-texts.false)));
-      printed = c.print.ensures.printed;
+      inside = omega (arith, c.if-place-texts.false, c.printed-region.ensures.place, length-map c.args.texts.now (λ (t : Bor (List ℕ)). t.now));
+      text_is = c.printed-region.ensures.text ∙ sym (ap (λ k. get_or texts k []) c.printed-region.ensures.place ∙ get_or-map (λ (t : Bor (List ℕ)). t.now) c.args.texts.now c.fetch_add-place.result _ [] (omega (arith, c.if-place-texts.false)));
+      printed = c.printed-region.ensures.printed;
     } in
     subst (All P) (sym items) (All-push P taken region c.loop.invariant own)

@@ -1,11 +1,12 @@
 use Rattle.std.proofs.Common.{◌≤◌, [], drop, map}
+use Rattle.std.specs.Cow.{cow_slice_items}
 use Rattle.std.specs.List.{concat}
 use Rattle.pl_write.proofs.WriteLaws.{IsWriting}
 use Rattle.pl_write.proofs.printed.write_texts.Given as goal
 
 abbrev pub invariant-loop-text : goal.invariant-loop-text
 invariant-loop-text g l = record {
-  writing : IsWriting (g.Si.Sink.received l.fn.sink) (g.Si.Sink.received l.sink) [] (concat (map (λ text. text.items) (drop l.text-index l.texts))) (concat (map (λ text. text.items) l.texts));
+  writing : IsWriting (g.Si.Sink.received l.fn.sink) (g.Si.Sink.received l.sink) [] (concat (map cow_slice_items (drop l.text-index l.texts))) (concat (map cow_slice_items l.texts));
   later : g.Si.Sink.faults l.fn.sink ≤ g.Si.Sink.faults l.sink;
   later_wants : g.Si.Sink.wants l.fn.sink ≤ g.Si.Sink.wants l.sink;
 }

@@ -1,13 +1,12 @@
 use Rattle.std.proofs.Common.{◌≡◌, length, ◌-◌}
 use Rattle.pl_write.specs.Options.{cell_options}
-use Rattle.pl_regions.specs.Regions.{IsRegionPrinted}
-use Rattle.pl_regions.proofs.region.Region.print.Given as goal
+use Rattle.pl_regions.specs.Regions.{IsOpenPrinted}
+use Rattle.pl_regions.proofs.region.OpenRegion.print.Given as goal
 
 abbrev pub invariant-loop-self : goal.invariant-loop-self
 invariant-loop-self l = record {
-  place : l.self.place ≡ l.fn.self.place;
   text : l.self.text.now ≡ l.fn.self.text.now;
-  printed : IsRegionPrinted l.plan l.schema (cell_options l.options) l.self;
+  printed : IsOpenPrinted l.plan l.schema (cell_options l.options) l.self;
 }
 
 abbrev pub decreases-loop-self : goal.decreases-loop-self

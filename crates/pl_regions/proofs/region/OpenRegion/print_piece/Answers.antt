@@ -6,7 +6,7 @@ use Rattle.pl_write.specs.Options.{cell_options}
 use Rattle.pl_rows.specs.WholePieces.{IsPieceFound}
 use Rattle.pl_regions.specs.Regions.{IsFrontPrinted}
 use Rattle.pl_regions.proofs.RegionLaws.{ok-holds, level-piece, IsTextPrinted-piece, IsFrontPrinted-more}
-use Rattle.pl_regions.proofs.region.Region.print_piece.Goals as goal
+use Rattle.pl_regions.proofs.region.OpenRegion.print_piece.Goals as goal
 
 pub print-requires : goal.print-requires
 print-requires c =

@@ -1,4 +1,3 @@
-use Rattle.std.proofs.Common.{◌≡◌, ◌∙◌}
 use Rattle.pl_write.specs.Options.{cell_options}
 use Rattle.pl_regions.proofs.RegionLaws.{unread, closed}
 use Rattle.pl_regions.proofs.region.Region.printed.Goals as goal

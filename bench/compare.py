@@ -61,6 +61,7 @@ PANDAS = python_with_pandas()
 TASKS = [
     ("pl_csv", lambda: True, lambda w, i, o: ([f"{TOP}/pl_csv", "--schema", ours(w), "--workers", "1"], i, o), "types as told; every cell, date and UTF-8 text is checked"),
     ("pl_csv, 4 workers", lambda: True, lambda w, i, o: ([f"{TOP}/pl_csv", "--schema", ours(w), "--workers", "4"], i, o), "the same; four workers read and print"),
+    ("pl_csv, as `;`", lambda: True, lambda w, i, o: ([f"{TOP}/pl_csv", "--schema", ours(w), "--workers", "1", "--out-sep", ";"], i, o), "the same as pl_csv; semicolons are written, so each cell is read to a value and printed"),
     ("pl_csv, no schema", lambda: True, lambda w, i, o: ([f"{TOP}/pl_csv", "--dates", "--workers", "1"], i, o), "types by a sample; every cell and UTF-8 text is checked"),
     ("data.table", has_data_table, lambda w, i, o: (["Rscript", f"{HERE}/peers/datatable.R", i, o, neutral(w)], None, None), "types by a sample; decimals as doubles; doubled quotes stay"),
     ("pandas", lambda: PANDAS, lambda w, i, o: ([PANDAS, f"{HERE}/peers/pandas_peer.py", i, o, neutral(w)], None, None), "types as told; decimals as doubles"),
@@ -125,13 +126,15 @@ def page(workloads, tasks, sizes, best, rounds):
     lines += ["", "| Workload | |", "|---|---|", *[f"| {it} | {ABOUT[it]} |" for it in workloads]]
     lines += ["", "Not all do the same work:", "", "| Program | What it checks |", "|---|---|", *[f"| {task[0]} | {task[3]} |" for task in tasks]]
     lines += ["", "The time of R and of pandas is without the start of the language; that of the others is the whole process. Programs that are not in the table were not run. "
-              "Without a schema and with dates tried, `pl_csv` takes decimals for texts, since it infers none."]
+              "Without a schema and with dates tried, `pl_csv` takes decimals for texts, since it infers none.", "",
+              "The rows of mixed, ints, strings and wide are written as they were read, and of quoted and taxi what is written stands in the fields but for zeros. So `pl_csv` tests each cell and copies it "
+              "([workers.md](workers.md#rows-that-are-written-as-they-were-read)). Where it writes another separator it reads and prints each cell: that is what a conversion costs that changes values."]
     return "\n".join(lines) + "\n"
 
 
 def plot(workloads, tasks, sizes, best):
     """Returns docs/speed.svg: a group of bars for each workload."""
-    colors = ["#1b6ca8", "#0b3d63", "#7fb2d6", "#c8553d", "#e0a458", "#8a8d91", "#b7c0a6", "#d8c4b6"]
+    colors = ["#1b6ca8", "#0b3d63", "#4f8f8b", "#7fb2d6", "#c8553d", "#e0a458", "#8a8d91", "#b7c0a6", "#d8c4b6"]
     bar, gap, left, width = 13, 16, 70, 640
     most = max(sizes[at[1]] / 1e6 / found[0] for at, found in best.items() if found)
     rows, y = [], 40

@@ -48,8 +48,8 @@ use Rattle.pl_write.specs.Printed.{printed_text}
 use Rattle.pl_write.specs.Writing.{AppendsPrefix}
 use Rattle.pl_write.specs.declared.options.CsvWriterOptions.{CsvWriterOptions}
 use Rattle.pl_write.proofs.PrintedLaws.{lines-alone, printed-is-text}
-use Rattle.pl_regions.specs.Regions.{CanPrint, IsFrontPrinted}
-use Rattle.pl_regions.proofs.RegionLaws.{level-text}
+use Rattle.pl_verbatim.specs.Printing.{CanPrint, IsFrontPrinted}
+use Rattle.pl_verbatim.proofs.PrintingLaws.{level-text}
 use Rattle.pl_csv.specs.Converting.{IsPlain, IsPrintedRead}
 use Rattle.pl_csv.specs.Transcoding.{HasAsciiQuote, IsUnread, IsConverted, IsCutShort}
 use Rattle.pl_csv.specs.declared.convert.Printed.{Printed}

@@ -1,6 +1,6 @@
 -- Texts that are read and printed apart, one behind the other.
-use Rattle.std.proofs.Common.{◌≡◌, ℕ, true, ◌+◌, ◌-◌, ◌<◌, ◌≤◌, List, [], ◌∷◌, ◌++◌, length, take, drop, get_or, map, Option, None, Some, Bor, refl, sym, ◌∙◌, ap, subst, arith, length-append, length-take, length-drop, append_assoc, append-nil}
-use Rattle.std.specs.Prelude.{Result, Ok, Err, is_ok, IfSome, OnOk, slice_range}
+use Rattle.std.proofs.Common.{◌≡◌, ℕ, true, ◌+◌, ◌<◌, ◌≤◌, List, [], ◌∷◌, ◌++◌, length, take, drop, get_or, map, Option, None, Some, Bor, refl, sym, ◌∙◌, ap, subst, inl, inr, arith, length-append, length-take, append_assoc, append-nil}
+use Rattle.std.specs.Prelude.{◌⊎◌, Result, Ok, Err, is_ok, IfSome, OnOk, slice_range}
 use Rattle.std.specs.Cow.{cow_slice_items}
 use Rattle.std.specs.Iterator.{Yields}
 use Rattle.std.specs.List.{concat}
@@ -8,25 +8,23 @@ use Rattle.std.specs.Vec.Iter.{into_iter_items, into_iter_steps}
 use Rattle.std.specs.declared.vec.IntoIter.{IntoIter}
 use Rattle.std.proofs.Math.Seq.{take-append_seam, take-append-add}
 use Rattle.std.proofs.lemmas.List.{map-append, take-append-drop, take-append-le, take_all, take_more}
-use Rattle.std.proofs.lemmas.List.Folds.{concat-append, drop_split}
+use Rattle.std.proofs.lemmas.List.Folds.{concat-append}
 use Rattle.pl_frame.specs.Dialect.{IsDialect}
-use Rattle.pl_frame.specs.Frame.{ColumnValue, HaveHeight, height_of}
+use Rattle.pl_frame.specs.Frame.{HaveHeight, height_of}
 use Rattle.pl_frame.specs.Schema.{Entry}
 use Rattle.pl_frame.specs.Text.{WriteOptions}
 use Rattle.pl_scan.specs.Dialect.{marks_of, comment_of}
 use Rattle.pl_rows.specs.declared.plan.RangePlan.{RangePlan}
 use Rattle.pl_rows.specs.declared.whole_pieces.PieceFrame.{PieceFrame}
-use Rattle.pl_rows.specs.Cells.{RowRules}
-use Rattle.pl_rows.specs.Columns.{frame_of_rows, entries_in}
-use Rattle.pl_rows.specs.Plan.{rules_of}
-use Rattle.pl_rows.specs.WholePieces.{text_frame, IsPieceFrame}
+use Rattle.pl_rows.specs.WholePieces.{IsPieceFrame}
 use Rattle.pl_cells.proofs.CastWorkerLaws.{taken_front}
-use Rattle.pl_rows.proofs.RangeLaws.{rows-nil, few_rows}
-use Rattle.pl_rows.proofs.SoundTextLaws.{IsSoundText-nil, IsSoundText-append, rows-behind, text_frame-append, height-text, same-columns}
-use Rattle.pl_table.specs.Rows.{rows}
+use Rattle.pl_rows.proofs.RangeLaws.{few_rows}
 use Rattle.pl_write.specs.Batches.{all_lines}
-use Rattle.pl_write.proofs.StackLaws.{lines-stacked}
-use Rattle.pl_regions.specs.Regions.{IsTextPrinted, IsFrontPrinted, IsOpenPrinted, IsRegionPrinted, IsRegionOf, ArePlaced}
+use Rattle.pl_verbatim.specs.declared.verbatim.Verbatim.{Verbatim}
+use Rattle.pl_verbatim.specs.Printing.{CanPrint, IsTextPrinted, IsFrontPrinted}
+use Rattle.pl_verbatim.specs.Verbatim.{IsVerbatimOf, AreRowsCopied}
+use Rattle.pl_verbatim.proofs.PrintingLaws.{level-text, IsTextPrinted-nil, IsTextPrinted-append, front-slice, IsFrontPrinted-none, IsFrontPrinted-more}
+use Rattle.pl_regions.specs.Regions.{IsOpenPrinted, IsRegionPrinted, IsRegionOf, ArePlaced}
 use Rattle.pl_regions.specs.declared.region.OpenRegion.{OpenRegion}
 use Rattle.pl_regions.specs.declared.region.Region.{Region}
 
@@ -36,43 +34,6 @@ ok-holds (Ok a) P ok holds = holds
 ok-holds (Err e) P ok holds = absurd (cc)
 
 -- ---- texts
-
--- columns of one height have that of the first
-pub level : (n : ℕ) (columns : List ColumnValue) → HaveHeight n columns → HaveHeight (height_of columns) columns
-level n [] have = tt
-level n (c ∷ cs) have = subst (λ k. HaveHeight k (c ∷ cs)) (sym have.0) have
-
-pub level-text : (plan : RangePlan) (schema : List Entry) (text : List ℕ) → HaveHeight (height_of (text_frame plan schema text)) (text_frame plan schema text)
-level-text plan schema text = level _ (text_frame plan schema text) (height-text plan schema text)
-
--- no rows have no lines
-none-lines : (o : WriteOptions) (rules : RowRules) (columns : List (ℕ × Entry)) → all_lines o (frame_of_rows rules columns []) ≡ []
-none-lines o rules [] = refl
-none-lines o rules (column ∷ columns) = refl
-
--- no text
-pub IsTextPrinted-nil : (plan : RangePlan) (schema : List Entry) (o : WriteOptions) → IsTextPrinted plan schema o [] 0 []
-IsTextPrinted-nil plan schema o =
-    let none = rows-nil (marks_of plan.dialect) (comment_of plan.dialect) in
-    record {
-      sound = IsSoundText-nil plan schema;
-      count_is = sym (ap length none);
-      lines_are = sym (ap (λ given. all_lines o (frame_of_rows (rules_of plan) (entries_in schema plan.projection.places.now) given)) none ∙ none-lines o (rules_of plan) (entries_in schema plan.projection.places.now));
-    }
-
--- two texts
-pub IsTextPrinted-append : (plan : RangePlan) (schema : List Entry) (o : WriteOptions) (a b : List ℕ) (n k : ℕ) (l m : List ℕ) → IsDialect (marks_of plan.dialect) (comment_of plan.dialect)
-    → IsTextPrinted plan schema o a n l → IsTextPrinted plan schema o b k m → IsTextPrinted plan schema o (a ++ b) (n + k) (l ++ m)
-IsTextPrinted-append plan schema o a b n k l m apart first second =
-    let all = rows-behind plan.dialect a b apart first.sound.ends in
-    let sizes = length-append (rows (marks_of plan.dialect) (comment_of plan.dialect) a) (rows (marks_of plan.dialect) (comment_of plan.dialect) b) in
-    record {
-      sound = IsSoundText-append plan schema a b apart first.sound second.sound;
-      count_is = omega (arith, first.count_is, second.count_is, ap length all, sizes);
-      lines_are = (λ j. first.lines_are j ++ second.lines_are j)
-          ∙ sym (lines-stacked o (text_frame plan schema a) (text_frame plan schema b) (same-columns plan schema a b) (level-text plan schema a))
-          ∙ ap (all_lines o) (text_frame-append plan schema a b apart first.sound.ends);
-    }
 
 -- a piece that was read and whose rows were printed
 pub IsTextPrinted-piece : (plan : RangePlan) (schema : List Entry) (o : WriteOptions) (text printed : List ℕ) (read : PieceFrame) → IsPieceFrame plan schema text read → printed ≡ all_lines o read.columns.items
@@ -87,27 +48,6 @@ IsTextPrinted-piece plan schema o text printed read is lines = record {
 pub level-piece : (plan : RangePlan) (schema : List Entry) (text : List ℕ) (read : PieceFrame) → IsPieceFrame plan schema text read → HaveHeight (height_of read.columns.items) read.columns.items
 level-piece plan schema text read is = subst (λ columns. HaveHeight (height_of columns) columns) (sym is.columns_are) (level-text plan schema text)
 
--- the front of a text, and what stands behind it up to another place
-front-slice : (text : List ℕ) (end to : ℕ) → end ≤ to → to ≤ length text → take end text ++ slice_range text end to ≡ take to text
-front-slice text end to after within =
-    let piece = slice_range text end to in
-    let both = take end text ++ piece in
-    let whole : both ++ drop to text ≡ text =
-    append_assoc (take end text) piece (drop to text) ∙ ap (λ l. take end text ++ l) (sym (drop_split text end to after)) ∙ take-append-drop end text in
-    let size : length both ≡ to =
-    omega (arith, after, within, length-append (take end text) piece, length-take end text, length-take (to - end) (drop end text), length-drop end text) in
-    sym (take-append_seam both (drop to text)) ∙ (λ j. take (size j) (whole j))
-
--- the front of a text, and a piece behind it
-pub IsFrontPrinted-more : (plan : RangePlan) (schema : List Entry) (o : WriteOptions) (text : List ℕ) (end to n k : ℕ) (l m : List ℕ) → IsDialect (marks_of plan.dialect) (comment_of plan.dialect)
-    → IsFrontPrinted plan schema o text end n l → end ≤ to → to ≤ length text → IsTextPrinted plan schema o (slice_range text end to) k m → IsFrontPrinted plan schema o text to (n + k) (l ++ m)
-IsFrontPrinted-more plan schema o text end to n k l m apart front after within piece =
-    let whole = front-slice text end to after within in
-    record {
-      within = within;
-      front = subst (λ t. IsTextPrinted plan schema o t (n + k) (l ++ m)) whole (IsTextPrinted-append plan schema o (take end text) (slice_range text end to) n k l m apart front.front piece);
-    }
-
 -- ---- regions
 
 -- of which nothing was printed
@@ -115,7 +55,29 @@ pub unread : (plan : RangePlan) (schema : List Entry) (o : WriteOptions) (region
 unread plan schema o region end rows lines =
     subst (λ e. IsFrontPrinted plan schema o region.text.now e region.rows region.lines.items) (sym end)
     (subst (λ n. IsFrontPrinted plan schema o region.text.now 0 n region.lines.items) (sym rows)
-    (subst (IsFrontPrinted plan schema o region.text.now 0 0) (sym lines) (record { within = omega arith; front = IsTextPrinted-nil plan schema o })))
+    (subst (IsFrontPrinted plan schema o region.text.now 0 0) (sym lines) (IsFrontPrinted-none plan schema o region.text.now)))
+
+-- of which nothing was printed, or a front that is written as it was read
+pub begun : (plan : RangePlan) (schema : List Entry) (o : WriteOptions) (text : List ℕ) (end rows : ℕ) (region : OpenRegion) → IsFrontPrinted plan schema o text end rows (take end text) → region.text.now ≡ text
+    → ((region.end ≡ end) × (region.rows ≡ rows) × (region.lines.items ≡ take end text)) ⊎ ((region.end ≡ 0) × (region.rows ≡ 0) × (region.lines.items ≡ [])) → IsOpenPrinted plan schema o region
+begun plan schema o text end rows region front same (inl is) =
+    subst (λ t. IsFrontPrinted plan schema o t region.end region.rows region.lines.items) (sym same)
+    (subst (λ e. IsFrontPrinted plan schema o text e region.rows region.lines.items) (sym is.0)
+    (subst (λ n. IsFrontPrinted plan schema o text end n region.lines.items) (sym is.1)
+    (subst (IsFrontPrinted plan schema o text end rows) (sym is.2) front)))
+begun plan schema o text end rows region front same (inr is) = unread plan schema o region is.0 is.1 is.2
+
+-- rows more that were copied
+pub copied : (plan : RangePlan) (schema : List Entry) (o : WriteOptions) (verbatim : Verbatim) (region : OpenRegion) (end rows : ℕ) (lines : List ℕ) → CanPrint plan schema → IsVerbatimOf plan schema o verbatim
+    → IsOpenPrinted plan schema o region → AreRowsCopied verbatim region.text.now region.end end rows region.lines.items lines → IsFrontPrinted plan schema o region.text.now end (region.rows + rows) lines
+copied plan schema o verbatim region end rows lines can is printed are =
+    subst (IsFrontPrinted plan schema o region.text.now end (region.rows + rows)) (sym are.now_is)
+    (IsFrontPrinted-more plan schema o region.text.now region.end end region.rows rows region.lines.items are.copy can.dialect printed are.after are.within (are.printed plan schema o can is))
+
+-- a text that is written as it was read
+pub whole : (plan : RangePlan) (schema : List Entry) (o : WriteOptions) (text : List ℕ) (end rows : ℕ) → IsFrontPrinted plan schema o text end rows (take end text) → end ≡ length text
+    → IsFrontPrinted plan schema o text end rows text
+whole plan schema o text end rows front all = subst (IsFrontPrinted plan schema o text end rows) (take_all end text (omega (arith, all))) front
 
 -- what was printed of one stays when it is closed
 pub closed : (plan : RangePlan) (schema : List Entry) (o : WriteOptions) (before : OpenRegion) (region : Region) → IsOpenPrinted plan schema o before → region.text.now ≡ before.text.now → region.end ≡ before.end

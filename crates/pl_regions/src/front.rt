@@ -3,12 +3,13 @@ ghost use Rattle.std.specs.Prelude.{◌≡◌, ◌<◌, IfOk, map};
 ghost use Rattle.std.specs.Cow.{cow_slice_items};
 ghost use Rattle.std.specs.List.{concat};
 ghost use Rattle.pl_write.specs.Options.{cell_options};
-ghost use Rattle.pl_regions.specs.Regions.{CanPrint, IsFrontPrinted};
+ghost use Rattle.pl_verbatim.specs.Printing.{CanPrint, IsFrontPrinted};
 
 use crate::cutting::cut_regions;
 use crate::taking::print_regions;
 use pl_frame::schema::Schema;
 use pl_rows::plan::RangePlan;
+use pl_verbatim::verbatim::Verbatim;
 use pl_write::options::SerializeOptions;
 use std::alloc::{AllocError, Global};
 use std::borrow::CowSlice;
@@ -53,18 +54,18 @@ pub fn print_front<'a, W: Threads + Sync>(
     ensures { IfOk result (λ front. IsFrontPrinted plan.now schema.now (cell_options options.now) records.now front.end front.rows (concat (map cow_slice_items front.lines.items))) }
 {
     make_room(alloc);
-    let dialect = plan.dialect;
     let texts = cut_regions(
         rt,
         alloc,
         workers,
         piece_size,
         records,
-        dialect.quote_char,
-        dialect.eol_char,
+        &plan.dialect,
+        plan.projection.width,
     )?;
+    let verbatim = Verbatim::of(alloc, schema, plan, options)?;
     let places = print_regions(
-        rt, alloc, workers, &texts, schema, plan, options, piece_size,
+        rt, alloc, workers, &texts, schema, plan, options, &verbatim, piece_size,
     )?;
     let mut front = Front {
         end: 0,

@@ -1,15 +1,18 @@
 //! A region of the data: its pieces are read one after another, and the rows of each are printed.
-ghost use Rattle.std.specs.Prelude.{◌≡◌, ◌<◌, ◌≤◌, [], length};
+ghost use Rattle.std.specs.Prelude.{◌≡◌, ◌⊎◌, ◌<◌, ◌≤◌, [], length, take};
 ghost use Rattle.std.specs.Bool.{OnTrue};
 ghost use Rattle.std.specs.Cow.{cow_slice_items};
 ghost use Rattle.pl_write.specs.Options.{cell_options};
-ghost use Rattle.pl_regions.specs.Regions.{CanPrint, IsOpenPrinted, IsRegionPrinted};
+ghost use Rattle.pl_verbatim.specs.Printing.{CanPrint};
+ghost use Rattle.pl_verbatim.specs.Verbatim.{IsVerbatimOf};
+ghost use Rattle.pl_regions.specs.Regions.{IsOpenPrinted, IsRegionPrinted};
 
 use pl_board::cutting::piece_end;
 use pl_frame::schema::Schema;
 use pl_rows::plan::RangePlan;
 use pl_rows::whole_pieces::read_piece_frame;
 use pl_scan::line_ends::CountLines;
+use pl_verbatim::verbatim::{Verbatim, VerbatimFront};
 use pl_write::options::SerializeOptions;
 use pl_write::row_printer::RowPrinter;
 use std::alloc::Global;
@@ -49,6 +52,42 @@ impl<'a> OpenRegion<'a> {
             rows: 0,
             lines: Vec::new(alloc),
         }
+    }
+
+    // One whose front is written as it was read; where memory is wanting, one of which nothing was printed. It has room for lines as
+    // long as the text; where there is no such room, they get it bit by bit.
+    fn behind(alloc: Global, text: &'a [u8], front: VerbatimFront) -> OpenRegion<'a>
+        requires within { front.end ≤ length text.now }
+        ensures text { result.text.now ≡ text.now }
+        ensures front { (result.end ≡ front.end) × (result.rows ≡ front.rows) × (result.lines.items ≡ take front.end text.now)
+            ⊎ (result.end ≡ 0) × (result.rows ≡ 0) × (result.lines.items ≡ []) }
+    {
+        let mut region = OpenRegion::new(alloc, text);
+        let _ = region.lines.reserve(text.len());
+        if region.lines.extend_from_slice(&text[..front.end]).is_ok() {
+            region.end = front.end;
+            region.rows = front.rows;
+        }
+        region
+    }
+
+    // Appends what is written of the rows behind those so far, as far as it stands in their fields.
+    fn copy(
+        &mut self,
+        schema: &Schema,
+        plan: &RangePlan<'_>,
+        options: &SerializeOptions,
+        verbatim: &Verbatim,
+    )
+        requires can { CanPrint plan.now schema.now }
+        requires verbatim { IsVerbatimOf plan.now schema.now (cell_options options.now) verbatim.now }
+        requires printed { IsOpenPrinted plan.now schema.now (cell_options options.now) self.old }
+        ensures text { self.new.text.now ≡ self.old.text.now }
+        ensures printed { IsOpenPrinted plan.now schema.now (cell_options options.now) self.new }
+    {
+        let copied = verbatim.copy(self.text, self.end, &mut self.lines);
+        self.end = copied.end;
+        self.rows += copied.rows;
     }
 
     // Reads the piece up to a place, prints its rows, and answers whether it did: where the piece does not end where an item does, a
@@ -119,8 +158,6 @@ impl<'a> OpenRegion<'a> {
         ensures text { self.new.text.now ≡ self.old.text.now }
         ensures printed { IsOpenPrinted plan.now schema.now (cell_options options.now) self.new }
     {
-        // The lines are about as long as the text; where there is no such room, they get it bit by bit.
-        let _ = self.lines.reserve(self.text.len());
         let dialect = plan.dialect;
         let lines = CountLines::new(dialect.quote_char, dialect.eol_char);
         while self.end < self.text.len() {
@@ -163,8 +200,8 @@ impl<'a> OpenRegion<'a> {
 }
 
 impl<'a> Region<'a> {
-    /// The region of a place, read piece by piece, and the rows of each piece printed, as far as pieces end where an item does, no row
-    /// has a fault and memory suffices.
+    /// The region of a place, and the lines of its rows: those at the front that are written as they were read are these bytes; the
+    /// others are read piece by piece and printed, as far as pieces end where an item does, no row has a fault and memory suffices.
     pub(crate) fn printed(
         alloc: Global,
         place: usize,
@@ -173,15 +210,28 @@ impl<'a> Region<'a> {
         schema: &Schema,
         plan: &RangePlan<'_>,
         options: &SerializeOptions,
+        verbatim: &Verbatim,
         piece_size: usize,
     ) -> Region<'a>
         requires can { CanPrint plan.now schema.now }
+        requires verbatim { IsVerbatimOf plan.now schema.now (cell_options options.now) verbatim.now }
         requires size { 0 < piece_size }
         ensures place { result.place ≡ place }
         ensures text { result.text.now ≡ text.now }
         ensures printed { IsRegionPrinted plan.now schema.now (cell_options options.now) result }
     {
-        let mut region = OpenRegion::new(alloc, text);
+        let front = verbatim.front(text);
+        if front.end == text.len() {
+            return Region {
+                place,
+                text,
+                end: front.end,
+                rows: front.rows,
+                lines: CowSlice::Borrowed(text),
+            };
+        }
+        let mut region = OpenRegion::behind(alloc, text, front);
+        region.copy(schema, plan, options, verbatim);
         region.print(alloc, printer, schema, plan, options, piece_size);
         region.close(place)
     }

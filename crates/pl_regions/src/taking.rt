@@ -1,11 +1,14 @@
 //! Regions that workers take as they come.
 ghost use Rattle.std.specs.Prelude.{◌≡◌, ◌<◌, All, IfOk, length, map};
 ghost use Rattle.pl_write.specs.Options.{cell_options};
-ghost use Rattle.pl_regions.specs.Regions.{ArePlaced, ArePut, CanPrint, IsRegionOf};
+ghost use Rattle.pl_verbatim.specs.Printing.{CanPrint};
+ghost use Rattle.pl_verbatim.specs.Verbatim.{IsVerbatimOf};
+ghost use Rattle.pl_regions.specs.Regions.{ArePlaced, ArePut, IsRegionOf};
 
 use crate::region::Region;
 use pl_frame::schema::Schema;
 use pl_rows::plan::RangePlan;
+use pl_verbatim::verbatim::Verbatim;
 use pl_write::options::SerializeOptions;
 use pl_write::row_printer::RowPrinter;
 use std::alloc::{AllocError, Global};
@@ -21,9 +24,11 @@ fn take_regions<'a>(
     schema: &Schema,
     plan: &RangePlan<'_>,
     options: &SerializeOptions,
+    verbatim: &Verbatim,
     piece_size: usize,
 ) -> Vec<Region<'a>>
     requires can { CanPrint plan.now schema.now }
+    requires verbatim { IsVerbatimOf plan.now schema.now (cell_options options.now) verbatim.now }
     requires size { 0 < piece_size }
     ensures { All (IsRegionOf plan.now schema.now (cell_options options.now) (map (λ text. text.now) texts.now)) result.items }
 {
@@ -44,6 +49,7 @@ fn take_regions<'a>(
             schema,
             plan,
             options,
+            verbatim,
             piece_size,
         );
         if taken.push(region).is_err() {
@@ -87,18 +93,25 @@ pub(crate) fn print_regions<'a, W: Threads + Sync>(
     schema: &Schema,
     plan: &RangePlan<'_>,
     options: &SerializeOptions,
+    verbatim: &Verbatim,
     piece_size: usize,
 ) -> Result<Vec<Option<Region<'a>>>, AllocError>
     requires can { CanPrint plan.now schema.now }
+    requires verbatim { IsVerbatimOf plan.now schema.now (cell_options options.now) verbatim.now }
     requires size { 0 < piece_size }
     ensures { IfOk result (λ places. ArePlaced plan.now schema.now (cell_options options.now) (map (λ text. text.now) texts.now) places.items) }
 {
     let next = AtomicUsize::new(0);
     let take = |_worker: usize| -> Vec<Region<'_>>
         requires can { CanPrint plan.now schema.now }
+        requires verbatim { IsVerbatimOf plan.now schema.now (cell_options options.now) verbatim.now }
         requires size { 0 < piece_size }
         ensures { All (IsRegionOf plan.entry.now schema.entry.now (cell_options options.entry.now) (map (λ text. text.now) texts.entry.now)) result.items }
-    { take_regions(alloc, texts, &next, schema, plan, options, piece_size) };
+    {
+        take_regions(
+            alloc, texts, &next, schema, plan, options, verbatim, piece_size,
+        )
+    };
     let all = thread::map_indices(rt, alloc, workers.min(texts.len()), &take)?;
     let mut places = empty_places(alloc, texts.len())?;
     for taken in all {

@@ -1,7 +1,7 @@
 use Rattle.std.proofs.Common.{rules, length, refl, ◌∙◌, arith}
 use Rattle.std.proofs.lemmas.List.{take_all}
 use Rattle.pl_regions.proofs.RegionLaws.{cut-more}
-use Rattle.pl_regions.proofs.cutting.cut_regions.Goals as goal
+use Rattle.pl_regions.proofs.cutting.count_regions.Goals as goal
 
 pub loop-span-preserved-then-from-end : goal.loop-span-preserved-then-from-end
 loop-span-preserved-then-from-end g c = record {

@@ -1,6 +1,6 @@
 use Rattle.std.proofs.Common.{◌≡◌, ◌≤◌, length, map, take}
 use Rattle.std.specs.List.{concat}
-use Rattle.pl_regions.proofs.cutting.cut_regions.Given as goal
+use Rattle.pl_regions.proofs.cutting.count_regions.Given as goal
 
 abbrev pub invariant-loop-span : goal.invariant-loop-span
 invariant-loop-span g l = record {

@@ -1,0 +1,112 @@
+-- Texts of values are cells of the types that hold the values.
+use Rattle.std.proofs.Common.{◌≡◌, ℕ, Bool, true, false, List, Some, ℤ, refl, sym, ap₂, ◌∙◌, subst, arith}
+use Rattle.std.specs.Fmt.{signed_decimal}
+use Rattle.pl_frame.specs.declared.data_type.DataType.{DataType}
+use Rattle.pl_frame.specs.declared.data_type.DataType.TheVariants as dtype
+use Rattle.pl_frame.specs.Frame.{Truth, Number, Letters, Scalar}
+use Rattle.pl_frame.specs.Printed.{number_text, printed, decimal_text}
+use Rattle.pl_frame.specs.Columns.{is_value_of}
+use Rattle.pl_frame.specs.Text.{WriteOptions, written_text, written_value}
+use Rattle.pl_frame.specs.Types.{is_numeric, is_whole_number}
+use Rattle.pl_round_trip.specs.RoundTrip.{fits_count}
+use Rattle.pl_round_trip.specs.Fits.{FitsValue}
+use Rattle.pl_verbatim.specs.declared.kinds.Kind.{Kind}
+use Rattle.pl_verbatim.specs.declared.kinds.Kind.TheVariants as kind
+use Rattle.pl_verbatim.specs.CellTexts.{IsWholeText, IsDecimalText, IsBooleanText, IsDateText, IsWrittenText, written, IsCellOptions, IsCellOf}
+use Rattle.pl_verbatim.specs.Kinds.{HoldsWholes, HoldsDecimals, IsKindOf}
+
+-- a text is that of a cell of each type of the kind
+abbrev pub IsCellOfKind : ℕ → ℕ → Kind → List ℕ → Type 0
+IsCellOfKind separator quote kind text = (o : WriteOptions) (type : DataType) → IsCellOptions o separator quote → IsKindOf type kind → IsCellOf o type text
+
+-- ---- quoted where necessary
+
+bare : (o : WriteOptions) (numeric : Bool) (text : List ℕ) → o.style ≡ 0 → written_value o numeric text ≡ text
+bare o numeric text e = rw e refl
+
+needed : (o : WriteOptions) (text : List ℕ) → o.style ≡ 0 → written_text o text ≡ written o.separator o.quote text
+needed o text e = rw e refl
+
+-- a value of the type fits
+fits : (o : WriteOptions) (separator quote : ℕ) (type : DataType) (value : Scalar) → IsCellOptions o separator quote → is_value_of type value ≡ true → fits_count type value ≡ true
+    → FitsValue o type value
+fits o separator quote type value is held counted = record {
+  held = held;
+  counted = counted;
+  apart = λ some. absurd (some is.null_is);
+  bare = λ never texts. absurd (omega (arith, never, is.style_is));
+}
+
+-- ---- whole numbers
+
+whole-counted : (type : DataType) (n : ℤ) → is_whole_number type ≡ true → fits_count type (Number n) ≡ true
+whole-counted (dtype.Datetime unit) n e = cc
+whole-counted type n e = refl
+
+whole-printed : (type : DataType) (n : ℤ) → is_whole_number type ≡ true → number_text type n ≡ signed_decimal n
+whole-printed dtype.Date n e = cc
+whole-printed dtype.Time n e = cc
+whole-printed (dtype.Datetime unit) n e = cc
+whole-printed (dtype.Decimal precision scale) n e = cc
+whole-printed type n e = refl
+
+-- ---- cells
+
+text-cell : (o : WriteOptions) (separator quote : ℕ) (type : DataType) (text : List ℕ) → IsCellOptions o separator quote → IsKindOf type kind.Text → IsWrittenText separator quote text → IsCellOf o type text
+text-cell o separator quote type text is holds w = subst (λ t. IsCellOf o t text) (sym holds) (record {
+  value = Some (Letters w.inner);
+  fits = fits o separator quote dtype.String (Letters w.inner) is (rw w.utf8 refl) refl;
+  text_is = w.text_is ∙ sym (needed o w.inner is.style_is ∙ ap₂ (λ s q. written s q w.inner) is.separator_is is.quote_is);
+})
+
+whole-cell : (o : WriteOptions) (separator quote : ℕ) (digits : ℕ) (is_signed : Bool) (type : DataType) (text : List ℕ) → IsCellOptions o separator quote → HoldsWholes digits is_signed type
+    → IsWholeText digits is_signed text → IsCellOf o type text
+whole-cell o separator quote digits is_signed type text is holds w = record {
+  value = Some (Number w.number);
+  fits = fits o separator quote type (Number w.number) is (holds.held w.number w.few w.sign) (whole-counted type w.number holds.whole);
+  text_is = w.text_is ∙ sym (bare o (is_numeric type) (printed type (Number w.number)) is.style_is ∙ whole-printed type w.number holds.whole);
+}
+
+boolean-cell : (o : WriteOptions) (separator quote : ℕ) (type : DataType) (text : List ℕ) → IsCellOptions o separator quote → IsKindOf type kind.Boolean → IsBooleanText text → IsCellOf o type text
+boolean-cell o separator quote type text is holds w = subst (λ t. IsCellOf o t text) (sym holds) (record {
+  value = Some (Truth w.truth);
+  fits = fits o separator quote dtype.Boolean (Truth w.truth) is refl refl;
+  text_is = w.text_is ∙ sym (bare o false (printed dtype.Boolean (Truth w.truth)) is.style_is);
+})
+
+date-cell : (o : WriteOptions) (separator quote : ℕ) (type : DataType) (text : List ℕ) → IsCellOptions o separator quote → IsKindOf type kind.Date → IsDateText text → IsCellOf o type text
+date-cell o separator quote type text is holds w = subst (λ t. IsCellOf o t text) (sym holds) (record {
+  value = Some (Number w.day);
+  fits = fits o separator quote dtype.Date (Number w.day) is w.within refl;
+  text_is = w.text_is ∙ sym (bare o false (printed dtype.Date (Number w.day)) is.style_is);
+})
+
+decimal-cell : (o : WriteOptions) (separator quote : ℕ) (digits scale : ℕ) (type : DataType) (text : List ℕ) → IsCellOptions o separator quote → HoldsDecimals digits scale type
+    → IsDecimalText digits scale text → IsCellOf o type text
+decimal-cell o separator quote digits scale type text is holds w =
+    let own = dtype.Decimal holds.precision (Some scale) in
+    let held : is_value_of own (Number w.number) ≡ true = subst (λ t. is_value_of t (Number w.number) ≡ true) holds.type_is (holds.held w.number w.few) in
+    subst (λ t. IsCellOf o t text) (sym holds.type_is) (record {
+      value = Some (Number w.number);
+      fits = fits o separator quote own (Number w.number) is held refl;
+      text_is = w.text_is ∙ sym (bare o true (decimal_text scale w.number) is.style_is);
+    })
+
+-- ---- cells of a kind
+
+pub text-kind : (separator quote : ℕ) (own : Kind) (text : List ℕ) → own ≡ kind.Text → IsWrittenText separator quote text → IsCellOfKind separator quote own text
+text-kind separator quote own text is w = subst (λ k. IsCellOfKind separator quote k text) (sym is) (λ o type options holds. text-cell o separator quote type text options holds w)
+
+pub whole-kind : (separator quote : ℕ) (own : Kind) (digits : ℕ) (is_signed : Bool) (text : List ℕ) → own ≡ kind.Whole digits is_signed → IsWholeText digits is_signed text → IsCellOfKind separator quote own text
+whole-kind separator quote own digits is_signed text is w =
+    subst (λ k. IsCellOfKind separator quote k text) (sym is) (λ o type options holds. whole-cell o separator quote digits is_signed type text options holds w)
+
+pub boolean-kind : (separator quote : ℕ) (own : Kind) (text : List ℕ) → own ≡ kind.Boolean → IsBooleanText text → IsCellOfKind separator quote own text
+boolean-kind separator quote own text is w = subst (λ k. IsCellOfKind separator quote k text) (sym is) (λ o type options holds. boolean-cell o separator quote type text options holds w)
+
+pub date-kind : (separator quote : ℕ) (own : Kind) (text : List ℕ) → own ≡ kind.Date → IsDateText text → IsCellOfKind separator quote own text
+date-kind separator quote own text is w = subst (λ k. IsCellOfKind separator quote k text) (sym is) (λ o type options holds. date-cell o separator quote type text options holds w)
+
+pub decimal-kind : (separator quote : ℕ) (own : Kind) (digits scale : ℕ) (text : List ℕ) → own ≡ kind.Decimal digits scale → IsDecimalText digits scale text → IsCellOfKind separator quote own text
+decimal-kind separator quote own digits scale text is w =
+    subst (λ k. IsCellOfKind separator quote k text) (sym is) (λ o type options holds. decimal-cell o separator quote digits scale type text options holds w)

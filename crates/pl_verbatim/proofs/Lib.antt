@@ -1,0 +1,19 @@
+pub mod PrintingLaws
+mod LineLaws
+mod SchemaLaws
+mod RowLaws
+mod KindLaws
+mod CellLaws
+mod CellSizeLaws
+mod DigitLaws
+mod NumberLaws
+mod WholeLaws
+mod DecimalLaws
+mod DateLaws
+mod TextInnerLaws
+mod TextLaws
+mod FrontLaws
+mod CopyLaws
+mod RowCopyLaws
+mod MomentTextLaws
+mod MomentCellLaws

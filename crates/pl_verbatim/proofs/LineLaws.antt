@@ -1,0 +1,293 @@
+-- A line of fields whose cells are known is a row, and what is written of it is known; so a line of texts that are written of cells is
+-- written as it was read.
+use Rattle.std.proofs.Common.{◌≡◌, ℕ, zero, suc, ◌+◌, ◌<◌, Bool, true, false, cond, not, ◌&&◌, ◌||◌, ◌==◌, List, [], ◌∷◌, ◌++◌, length, map, Option, None, Some, refl, sym, ◌∙◌, ap, subst, arith, append-nil, length-append}
+use Rattle.std.specs.Prelude.{Ok, drop, find, nat_lt}
+use Rattle.std.specs.List.{AllByRecursion, filter_map, flat_map, join_with_byte, last_or, list_any, range_with_len}
+use Rattle.std.specs.Option.{option_map}
+use Rattle.std.proofs.lemmas.Bool.Decides.{nat_tests}
+use Rattle.pl_frame.specs.declared.data_type.DataType.{DataType}
+use Rattle.pl_frame.specs.declared.error.FaultKind.{FaultKind}
+use Rattle.pl_frame.specs.declared.error.FaultKind.TheVariants as fault
+use Rattle.pl_frame.specs.Dialect.{AreDistinct}
+use Rattle.pl_frame.specs.Frame.{ColumnValue, cell_at, height_of}
+use Rattle.pl_frame.specs.Schema.{Entry}
+use Rattle.pl_frame.specs.Text.{WriteOptions, written_cell, row_line}
+use Rattle.pl_frame.specs.Types.{is_readable}
+use Rattle.pl_scan.specs.Closing.{ends_open, have_open_end}
+use Rattle.pl_scan.specs.Comment.{prefix_of}
+use Rattle.pl_scan.specs.Dialect.{marks_of, comment_of}
+use Rattle.pl_scan.specs.Fields.{extent}
+use Rattle.pl_scan.specs.Laws.{IsEnded}
+use Rattle.pl_scan.proofs.RecordLaws.{have_open_end-closed}
+use Rattle.pl_table.specs.Rows.{Row, rows, row_at, ended_row}
+use Rattle.pl_cells.specs.Cells.{fault_of, value_of}
+use Rattle.pl_cells.specs.Cells as cells
+use Rattle.pl_cells.specs.InitBuffers.{entry_at, first_unreadable}
+use Rattle.pl_cells.specs.NullValues.{means_null}
+use Rattle.pl_rows.specs.declared.plan.RangePlan.{RangePlan}
+use Rattle.pl_rows.specs.Cells.{cell}
+use Rattle.pl_rows.specs.Columns.{read_column, frame_of_rows, entries_in, columns_in}
+use Rattle.pl_rows.specs.Pieces.{EndsItem}
+use Rattle.pl_rows.specs.Plan.{rules_of}
+use Rattle.pl_rows.specs.Rows.{field_at, column_fault, is_forgiven, passes_excess, first_fault}
+use Rattle.pl_rows.specs.WholePieces.{IsSoundText, text_frame}
+use Rattle.pl_rows.proofs.OpenLaws.{is_open_row, open_rows}
+use Rattle.pl_rows.proofs.RangeLaws.{rows-step}
+use Rattle.pl_write.specs.Batches.{all_lines}
+use Rattle.pl_round_trip.specs.Fits.{FitsOptions}
+use Rattle.pl_round_trip.specs.RoundTrip.{IsFieldText, RowsReturn, line_marks, line_of}
+use Rattle.pl_verbatim.specs.CellTexts.{IsCopyOf}
+use Rattle.pl_verbatim.specs.Kinds.{AreReadable}
+use Rattle.pl_verbatim.specs.Printing.{CanPrint, IsTextPrinted}
+use Rattle.pl_verbatim.proofs.CopyLaws.{cell-copy}
+use Rattle.pl_verbatim.specs.Verbatim.{AreCellsOf, AreCopiesOf, IsLineOf, IsLineCopyOf, IsWrittenAsRead}
+
+-- no fault for fields past the columns
+none-past : (p q : Bool) (found : ℕ × FaultKind) → cond (not p && (false && q)) (Some found) None ≡ None
+none-past true q found = refl
+none-past false q found = refl
+
+-- the first of two lists that are the same
+first-of : {X : Type 0} {x y : X} {xs ys : List X} → x ∷ xs ≡ y ∷ ys → x ≡ y
+first-of same = cc
+
+-- ---- columns of a schema
+
+-- a list made of the columns of a schema, numbered from a number on
+abbrev pub spread : {X : Type 0} → (ℕ → Entry → X) → ℕ → List Entry → List X
+spread g a [] = []
+spread g a (entry ∷ schema) = g a entry ∷ spread g (a + 1) schema
+
+-- what is made of all places is made of all columns
+spread-from : {X : Type 0} (g : ℕ → Entry → X) (schema : List Entry) (a : ℕ) (rest : List Entry) → ((k : ℕ) → k < length rest → entry_at schema (a + k) ≡ entry_at rest k)
+    → map (λ place. g place (entry_at schema place)) (range_with_len a (length rest)) ≡ spread g a rest
+spread-from g schema a [] same = refl
+spread-from g schema a (entry ∷ rest) same =
+    let here : entry_at schema a ≡ entry = ap (entry_at schema) (let k : a ≡ a + 0 = omega arith in k) ∙ same 0 (omega arith) in
+    ap (λ e. g a e ∷ map (λ place. g place (entry_at schema place)) (range_with_len (a + 1) (length rest))) here
+    ∙ ap (λ l. g a entry ∷ l) (spread-from g schema (a + 1) rest
+    (λ k below. ap (entry_at schema) (let same_place : a + 1 + k ≡ a + suc k = omega arith in same_place) ∙ same (suc k) (omega (arith, below))))
+
+pub spread-is : {X : Type 0} (g : ℕ → Entry → X) (schema : List Entry) (places : List ℕ) → places ≡ range_with_len 0 (length schema)
+    → map (λ place. g place (entry_at schema place)) places ≡ spread g 0 schema
+spread-is g schema places all = ap (map (λ place. g place (entry_at schema place))) all ∙ spread-from g schema 0 schema (λ k below. ap (entry_at schema) (let same : 0 + k ≡ k = omega arith in same))
+
+-- each of these places passes where none is found that fails
+none-found : (f : ℕ → Bool) (a n k : ℕ) → find f (range_with_len a n) ≡ None → k < n → f (a + k) ≡ false
+none-found f a zero k none below = absurd (omega (arith, below))
+none-found f a (suc n) k none below = by (f a) refl k none below (λ j rest less. none-found f (a + 1) n j rest less)
+  where
+    by : (t : Bool) → f a ≡ t → (k : ℕ) → cond t (Some a) (find f (range_with_len (a + 1) n)) ≡ None → k < suc n
+        → ((j : ℕ) → find f (range_with_len (a + 1) n) ≡ None → j < n → f (a + 1 + j) ≡ false) → f (a + k) ≡ false
+    by true is k none below later = absurd (cc)
+    by false is zero none below later = ap f (let same : a + 0 ≡ a = omega arith in same) ∙ is
+    by false is (suc k) none below later = ap f (let same : a + suc k ≡ a + 1 + k = omega arith in same) ∙ later k none (omega (arith, below))
+
+readable-each : (schema : List Entry) → ((k : ℕ) → k < length schema → not (is_readable (entry_at schema k).1) ≡ false) → AreReadable schema
+readable-each [] each = tt
+readable-each (entry ∷ schema) each = (can (is_readable entry.1) (each 0 (omega arith)), readable-each schema (λ k below. each (suc k) (omega (arith, below))))
+  where
+    can : (t : Bool) → not t ≡ false → t ≡ true
+    can true is = refl
+    can false is = absurd (cc)
+
+pub are-readable : (schema : List Entry) (places : List ℕ) → places ≡ range_with_len 0 (length schema) → first_unreadable schema places ≡ None → AreReadable schema
+are-readable schema places all none =
+    let f : ℕ → Bool = λ place. not (is_readable (entry_at schema place).1) in
+    readable-each schema (λ k below. ap f (let same : k ≡ 0 + k = omega arith in same) ∙ none-found f 0 (length schema) k (sym (ap (find f) all) ∙ none) below)
+
+-- ---- fields
+
+-- there is one for each column
+pub count-fields : (o : WriteOptions) (schema : List Entry) (texts written : List (List ℕ)) → AreCopiesOf o schema texts written → length texts ≡ length schema
+count-fields o [] [] [] are = refl
+count-fields o [] [] (one ∷ others) are = absurd are
+count-fields o [] (text ∷ texts) written are = absurd are
+count-fields o (entry ∷ schema) [] written are = absurd are
+count-fields o (entry ∷ schema) (text ∷ texts) [] are = absurd are
+count-fields o (entry ∷ schema) (text ∷ texts) (one ∷ others) are = omega (arith, count-fields o schema texts others are.1)
+
+-- each stands in a line
+pub field-texts : (o : WriteOptions) (schema : List Entry) (texts written : List (List ℕ)) → AreCopiesOf o schema texts written → AllByRecursion (IsFieldText (line_marks o)) texts
+field-texts o [] [] [] are = tt
+field-texts o [] [] (one ∷ others) are = absurd are
+field-texts o [] (text ∷ texts) written are = absurd are
+field-texts o (entry ∷ schema) [] written are = absurd are
+field-texts o (entry ∷ schema) (text ∷ texts) [] are = absurd are
+field-texts o (entry ∷ schema) (text ∷ texts) (one ∷ others) are = (are.0.field_text, field-texts o schema texts others are.1)
+
+-- the columns of one row with their cells
+abbrev pub cell_columns : (o : WriteOptions) (schema : List Entry) (texts written : List (List ℕ)) → AreCopiesOf o schema texts written → List ColumnValue
+cell_columns o (entry ∷ schema) (text ∷ texts) (one ∷ others) are = record { name = entry.0; dtype = entry.1; values = are.0.value ∷ [] } ∷ cell_columns o schema texts others are.1
+cell_columns o schema texts written are = []
+
+-- what is written of them
+pub written-columns : (o : WriteOptions) (schema : List Entry) (texts written : List (List ℕ)) (are : AreCopiesOf o schema texts written)
+    → map (λ column. written_cell o column.dtype (cell_at column 0)) (cell_columns o schema texts written are) ≡ written
+written-columns o [] [] [] are = refl
+written-columns o [] [] (one ∷ others) are = absurd are
+written-columns o [] (text ∷ texts) written are = absurd are
+written-columns o (entry ∷ schema) [] written are = absurd are
+written-columns o (entry ∷ schema) (text ∷ texts) [] are = absurd are
+written-columns o (entry ∷ schema) (text ∷ texts) (one ∷ others) are = (λ j. sym are.0.written_is j ∷ written-columns o schema texts others are.1 j)
+
+one-high : (o : WriteOptions) (schema : List Entry) (texts written : List (List ℕ)) (are : AreCopiesOf o schema texts written) → 0 < length schema → height_of (cell_columns o schema texts written are) ≡ 1
+one-high o [] texts written are some = absurd (omega (arith, some))
+one-high o (entry ∷ schema) [] written are some = absurd are
+one-high o (entry ∷ schema) (text ∷ texts) [] are some = absurd are
+one-high o (entry ∷ schema) (text ∷ texts) (one ∷ others) are some = refl
+
+module _ (plan : RangePlan) (schema : List Entry) (o : WriteOptions) (can : CanPrint plan schema) (given : IsWrittenAsRead plan schema o) (returns : RowsReturn) where
+  quote-is : plan.dialect.quote_char ≡ Some o.quote
+  quote-is = ap (λ m. m.quote) given.marks
+
+  no-comment : comment_of plan.dialect ≡ None
+  no-comment = ap prefix_of given.comments
+
+  apart : AreDistinct (line_marks o)
+  apart = given.fits.dialect.distinct
+
+  nulls-are : (rules_of plan).nulls ≡ None
+  nulls-are = ap (option_map (λ nulls. nulls.now)) given.nulls
+
+  -- the cell of a field
+  cell-is : (column : ℕ) (type : DataType) (text written : List ℕ) (here : IsCopyOf o type text written) → cell (rules_of plan) column type text ≡ Ok here.value
+  cell-is column type text written here =
+      let reading = (rules_of plan).reading in
+      ap (λ n. cells.cell reading (means_null n column) plan.dialect.quote_char type text) nulls-are
+      ∙ ap (λ q. cells.cell reading (means_null None column) q type text) quote-is
+      ∙ here.cell_is reading column given.missing
+
+  -- cells without a fault, from a column on
+  no-faults : (all : List (List ℕ)) (a : ℕ) (rest : List Entry) (texts written : List (List ℕ)) → AreCopiesOf o rest texts written → ((k : ℕ) → field_at all (a + k) ≡ field_at texts k)
+      → filter_map (column_fault (rules_of plan) all) (spread (λ k entry. (k, entry.1)) a rest) ≡ []
+  no-faults all a [] texts written are same = refl
+  no-faults all a (entry ∷ rest) [] written are same = absurd are
+  no-faults all a (entry ∷ rest) (text ∷ texts) [] are same = absurd are
+  no-faults all a (entry ∷ rest) (text ∷ texts) (one ∷ others) are same =
+      let field : field_at all a ≡ text = ap (field_at all) (let k : a ≡ a + 0 = omega arith in k) ∙ same 0 in
+      let sound : column_fault (rules_of plan) all (a, entry.1) ≡ None =
+      ap (λ c. elim (fault_of c) [ None ↦ None | Some kind ↦ Some (a, kind) ]) (ap (cell (rules_of plan) a entry.1) field ∙ cell-is a entry.1 text one are.0) in
+      let later = no-faults all (a + 1) rest texts others are.1 (λ k. ap (field_at all) (let next : a + 1 + k ≡ a + suc k = omega arith in next) ∙ same (suc k)) in
+      rw sound later
+
+  -- their columns
+  columns-are : (all : List (List ℕ)) (a : ℕ) (rest : List Entry) (texts written : List (List ℕ)) (are : AreCopiesOf o rest texts written) → ((k : ℕ) → field_at all (a + k) ≡ field_at texts k)
+      → map (read_column (rules_of plan) (ended_row all ∷ [])) (spread (λ k entry. (k, entry)) a rest) ≡ cell_columns o rest texts written are
+  columns-are all a [] texts written are same = refl
+  columns-are all a (entry ∷ rest) [] written are same = absurd are
+  columns-are all a (entry ∷ rest) (text ∷ texts) [] are same = absurd are
+  columns-are all a (entry ∷ rest) (text ∷ texts) (one ∷ others) are same =
+      let field : field_at all a ≡ text = ap (field_at all) (let k : a ≡ a + 0 = omega arith in k) ∙ same 0 in
+      let value : value_of (cell (rules_of plan) a entry.1 (field_at all a)) ≡ are.0.value =
+      ap value_of (ap (cell (rules_of plan) a entry.1) field ∙ cell-is a entry.1 text one are.0) in
+      let later = columns-are all (a + 1) rest texts others are.1 (λ k. ap (field_at all) (let next : a + 1 + k ≡ a + suc k = omega arith in next) ∙ same (suc k)) in
+      (λ j. record { name = entry.0; dtype = entry.1; values = value j ∷ [] } ∷ later j)
+
+  module _ (line copy : List ℕ) (is : IsLineCopyOf o schema line copy) where
+    abbrev texts : List (List ℕ)
+    texts = is.fields
+
+    count : length texts ≡ length schema
+    count = count-fields o schema texts is.written is.copies
+
+    some : 0 < length texts
+    some = omega (arith, count, given.some)
+
+    are-fields : AllByRecursion (IsFieldText (line_marks o)) texts
+    are-fields = field-texts o schema texts is.written is.copies
+
+    one-row : rows (line_marks o) None line ≡ ended_row texts ∷ []
+    one-row =
+        ap (rows (line_marks o) None) (is.line_is ∙ sym (append-nil (line_of (line_marks o) texts)))
+        ∙ returns (line_marks o) (texts ∷ []) apart ((some, are-fields), tt)
+
+    its-row : rows (marks_of plan.dialect) (comment_of plan.dialect) line ≡ ended_row texts ∷ []
+    its-row = ap (λ m. rows m (comment_of plan.dialect) line) given.marks ∙ ap (λ c. rows (line_marks o) c line) no-comment ∙ one-row
+
+    -- the row that is read at the front is this one
+    first-row : row_at (line_marks o) line ≡ ended_row texts
+    first-row =
+        let long : 0 < length line = omega (arith, ap length is.line_is, length-append (join_with_byte o.separator texts) (10 ∷ [])) in
+        let step = rows-step (line_marks o) None line apart long refl in
+        first-of (sym step ∙ one-row)
+
+    not-open : have_open_end (line_marks o) texts ≡ false
+    not-open =
+        let m = line_marks o in
+        let left : (length (drop (extent m line) line) == 0) ≡ false = ap (λ (row : Row). row.is_end) first-row in
+        behind (drop (extent m line) line) refl left
+      where
+        behind : (rest : List ℕ) → drop (extent (line_marks o) line) line ≡ rest → (length rest == 0) ≡ false → have_open_end (line_marks o) texts ≡ false
+        behind [] left some = absurd (cc)
+        behind (x ∷ rest) left some = ap (λ (row : Row). have_open_end (line_marks o) row.fields) (sym first-row) ∙ have_open_end-closed (line_marks o) line x rest apart left
+
+    closed : ends_open (marks_of plan.dialect) (comment_of plan.dialect) line ≡ false
+    closed =
+        ap (λ m. ends_open m (comment_of plan.dialect) line) given.marks ∙ ap (λ c. ends_open (line_marks o) c line) no-comment
+        ∙ open_rows (line_marks o) None line apart ∙ ap (list_any (is_open_row (line_marks o))) one-row ∙ ap (λ t. t || false) not-open
+
+    last-is : (first : Option ℕ) (b : List ℕ) → last_or first (b ++ 10 ∷ []) ≡ Some 10
+    last-is first [] = refl
+    last-is first (x ∷ b) = last-is (Some x) b
+
+    ended : IsEnded plan.dialect.eol_char line
+    ended =
+        let eol : plan.dialect.eol_char ≡ 10 = ap (λ m. m.line_end) given.marks in
+        ap (last_or (Some plan.dialect.eol_char)) is.line_is ∙ last-is (Some plan.dialect.eol_char) (join_with_byte o.separator texts) ∙ ap (λ e. Some e) (sym eol)
+
+    ends : EndsItem plan.dialect line
+    ends = record { ended = ended; closed = closed }
+
+    typed : (columns_in schema plan.projection.places.now).read ≡ spread (λ k entry. (k, entry.1)) 0 schema
+    typed = spread-is (λ k entry. (k, entry.1)) schema plan.projection.places.now given.places
+
+    no-excess : nat_lt (length schema) (length texts) ≡ false
+    no-excess = grind (arith, nat_tests, count)
+
+    no-fault : first_fault (rules_of plan) (columns_in schema plan.projection.places.now) (ended_row texts) ≡ None
+    no-fault =
+        let none = ap (filter_map (column_fault (rules_of plan) texts)) typed ∙ no-faults texts 0 schema texts is.written is.copies (λ k. ap (field_at texts) (let same : 0 + k ≡ k = omega arith in same)) in
+        rw (none, no-excess) (none-past (passes_excess (rules_of plan) (columns_in schema plan.projection.places.now)) (is_forgiven (length schema) (ended_row texts)) (length schema, fault.Fields))
+
+    sound : IsSoundText plan schema line
+    sound = record {
+      ends = ends;
+      sound = subst (AllByRecursion (λ row. first_fault (rules_of plan) (columns_in schema plan.projection.places.now) row ≡ None)) (sym its-row) (no-fault, tt);
+    }
+
+    frame : text_frame plan schema line ≡ cell_columns o schema texts is.written is.copies
+    frame =
+        ap (frame_of_rows (rules_of plan) (entries_in schema plan.projection.places.now)) its-row
+        ∙ ap (map (read_column (rules_of plan) (ended_row texts ∷ []))) (spread-is (λ k entry. (k, entry)) schema plan.projection.places.now given.places)
+        ∙ columns-are texts 0 schema texts is.written is.copies (λ k. ap (field_at texts) (let same : 0 + k ≡ k = omega arith in same))
+
+    lines : all_lines o (text_frame plan schema line) ≡ copy
+    lines =
+        let columns = cell_columns o schema texts is.written is.copies in
+        ap (all_lines o) frame
+        ∙ ap (λ n. flat_map (row_line o columns) (range_with_len 0 n)) (one-high o schema texts is.written is.copies given.some)
+        ∙ append-nil (row_line o columns 0)
+        ∙ (λ j. join_with_byte o.separator (written-columns o schema texts is.written is.copies j) ++ given.terminator j)
+        ∙ sym is.copy_is
+
+    pub copy-printed : IsTextPrinted plan schema o line 1 copy
+    copy-printed = record { sound = sound; count_is = sym (ap length its-row); lines_are = sym lines }
+
+-- ---- a line that is written as it was read
+
+written-copies : (o : WriteOptions) (schema : List Entry) (fields : List (List ℕ)) → FitsOptions o → o.null ≡ [] → AreReadable schema → AreCellsOf o schema fields → AreCopiesOf o schema fields fields
+written-copies o [] [] fits null can are = tt
+written-copies o [] (field ∷ fields) fits null can are = absurd are
+written-copies o (entry ∷ schema) [] fits null can are = absurd are
+written-copies o (entry ∷ schema) (field ∷ fields) fits null can are = (cell-copy o entry.1 field fits null can.0 are.0, written-copies o schema fields fits null can.1 are.1)
+
+pub line-printed : (plan : RangePlan) (schema : List Entry) (o : WriteOptions) → CanPrint plan schema → IsWrittenAsRead plan schema o → RowsReturn → (line : List ℕ) → IsLineOf o schema line → IsTextPrinted plan schema o line 1 line
+line-printed plan schema o can given returns line is =
+    copy-printed plan schema o can given returns line line (record {
+      fields = is.fields;
+      written = is.fields;
+      copies = written-copies o schema is.fields given.fits given.null (are-readable schema plan.projection.places.now given.places can.readable) is.cells;
+      line_is = is.line_is;
+      copy_is = is.line_is;
+    })

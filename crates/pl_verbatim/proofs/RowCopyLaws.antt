@@ -1,0 +1,229 @@
+-- What is copied of a row is what is written of a cell, and behind its separator what is written of the rest of the row.
+use Rattle.std.proofs.Common.{◌≡◌, ℕ, zero, suc, ◌+◌, ◌-◌, ◌<◌, ◌≤◌, Bool, true, false, cond, List, [], ◌∷◌, ◌++◌, length, get_or, take, drop, replicate, Option, None, Some, refl, sym, ap, ap₂, ◌∙◌, subst, arith, append_assoc, append-nil, add-one}
+use Rattle.std.specs.Prelude.{slice_index, slice_range}
+use Rattle.std.specs.Bool.{OnTrue}
+use Rattle.std.specs.List.{join_with_byte}
+use Rattle.std.proofs.lemmas.List.{drop_all}
+use Rattle.pl_frame.specs.Schema.{Entry}
+use Rattle.pl_frame.specs.Text.{WriteOptions}
+use Rattle.pl_round_trip.specs.Fits.{FitsOptions}
+use Rattle.pl_verbatim.specs.declared.kinds.Kind.{Kind}
+use Rattle.pl_verbatim.specs.CellTexts.{IsCellOptions, zeros_text}
+use Rattle.pl_verbatim.specs.Kinds.{AreKindsOf, AreReadable}
+use Rattle.pl_verbatim.specs.Verbatim.{AreCopiesOf, HasGrown, IsCellCopied, IsLineCopyOf, IsRowCopied}
+use Rattle.pl_verbatim.proofs.CellLaws.{IsCellOfKind}
+use Rattle.pl_verbatim.proofs.CopyLaws.{IsCopyOfKind, cell-kind_copy}
+use Rattle.pl_verbatim.proofs.RowLaws.{cut, nothing, from}
+
+-- a text is what is written of a line, for each schema of the kinds
+abbrev pub IsLineCopyOfKinds : ℕ → ℕ → List Kind → List ℕ → List ℕ → Type 0
+IsLineCopyOfKinds separator quote kinds line copy =
+    (o : WriteOptions) (schema : List Entry) → FitsOptions o → IsCellOptions o separator quote → AreReadable schema → AreKindsOf schema kinds → IsLineCopyOf o schema line copy
+
+-- Fields of the first kinds stand before a place, each with a separator behind it, and lines grew by what is written of their cells: a line of the
+-- other kinds that stands there ends one of all, and what is written of it ends what is written of all.
+pub record AreCopiedBefore (text : List ℕ) (start : ℕ) (kinds : List Kind) (separator quote : ℕ) (index at : ℕ) (before now : List ℕ) : Type 0 where
+  pub after : start ≤ at
+  pub within : at ≤ length text
+  pub copy : List ℕ
+  pub now_is : now ≡ before ++ copy
+  pub line : (end : ℕ) (rest : List ℕ) → at ≤ end → IsLineCopyOfKinds separator quote (drop index kinds) (slice_range text at end) rest
+      → IsLineCopyOfKinds separator quote kinds (slice_range text start end) (copy ++ rest)
+
+-- ---- zeros
+
+take-replicate : (n m x : ℕ) → n ≤ m → take n (replicate m x) ≡ replicate n x
+take-replicate zero m x few = refl
+take-replicate (suc n) zero x few = absurd (omega (arith, few))
+take-replicate (suc n) (suc m) x few = ap (λ l. x ∷ l) (take-replicate n m x (omega (arith, few)))
+
+-- a point and nine zeros
+abbrev pub point-zeros : List ℕ
+point-zeros = 46 ∷ 48 ∷ 48 ∷ 48 ∷ 48 ∷ 48 ∷ 48 ∷ 48 ∷ 48 ∷ 48 ∷ []
+
+-- the point and so many of the zeros
+pub zeros-taken : (n : ℕ) → 0 < n → n ≤ 9 → take (n + 1) point-zeros ≡ zeros_text n
+zeros-taken zero some few = absurd (omega (arith, some))
+zeros-taken (suc n) some few = ap (λ k. take k (46 ∷ replicate 9 48)) (add-one (suc n)) ∙ ap (λ l. 46 ∷ l) (take-replicate (suc n) 9 48 few)
+
+-- there are none
+pub no-zeros : (n : ℕ) → n ≤ 0 → zeros_text n ≡ []
+no-zeros zero none = refl
+no-zeros (suc n) none = absurd (omega (arith, none))
+
+-- ---- growth
+
+-- what grows where a test holds has grown
+pub grown-maybe : (t : Bool) (before now copy : List ℕ) → now ≡ cond t (before ++ copy) before → HasGrown before now
+grown-maybe true before now copy is = record { copy = copy; now_is = is }
+grown-maybe false before now copy is = record { copy = []; now_is = is ∙ sym (append-nil before) }
+
+-- and what grows twice
+pub grown-twice : (before now later : List ℕ) → HasGrown before now → HasGrown now later → HasGrown before later
+grown-twice before now later first second = record {
+  copy = first.copy ++ second.copy;
+  now_is = second.now_is ∙ ap (λ l. l ++ second.copy) first.now_is ∙ append_assoc before first.copy second.copy;
+}
+
+-- what grows where a test holds, which holds
+pub added : (t : Bool) (before now copy : List ℕ) → t ≡ true → now ≡ cond t (before ++ copy) before → now ≡ before ++ copy
+added true before now copy holds is = is
+added false before now copy holds is = absurd (cc)
+
+-- a text, so many zeros, and a mark are appended
+pub cell-copied : (t : Bool) (before first second now text zeros : List ℕ) (mark : ℕ) → first ≡ before ++ text → second ≡ first ++ zeros → now ≡ cond t (second ++ mark ∷ []) second
+    → OnTrue t (now ≡ before ++ (text ++ zeros) ++ mark ∷ [])
+cell-copied false before first second now text zeros mark e f is = tt
+cell-copied true before first second now text zeros mark e f is =
+    is ∙ ap (λ l. l ++ mark ∷ []) (f ∙ ap (λ l. l ++ zeros) e ∙ append_assoc before text zeros)
+
+-- ---- cells
+
+-- lines grew by what is written of a cell, and the mark behind its field
+pub cell-marked : (text : List ℕ) (at end next : ℕ) (kind : Kind) (mark separator quote : ℕ) (before now written : List ℕ) → next ≡ end + 1 → at ≤ end → end < length text → slice_index text end ≡ mark
+    → IsCopyOfKind separator quote kind (slice_range text at end) written → now ≡ before ++ written ++ mark ∷ [] → IsCellCopied text at kind mark separator quote before now (Some next)
+cell-marked text at end next kind mark separator quote before now written place after within is cell grown = record {
+  copy = written ++ mark ∷ [];
+  now_is = grown ∙ append_assoc before written (mark ∷ []);
+  cell = record { end = end; next_is = place; after = after; within = within; mark_is = is; written = written; cell = cell; copy_is = refl };
+}
+
+-- by what stands between quotes, with no zeros behind it
+pub cell-inner_marked : (text : List ℕ) (at to : ℕ) (kind : Kind) (mark separator quote : ℕ) (before now : List ℕ) → at + 1 < to → to + 1 < length text → slice_index text (to + 1) ≡ mark
+    → IsCopyOfKind separator quote kind (slice_range text at (to + 1)) (slice_range text (at + 1) to) → now ≡ before ++ (slice_range text (at + 1) to ++ zeros_text 0) ++ mark ∷ []
+    → IsCellCopied text at kind mark separator quote before now (Some (to + 2))
+cell-inner_marked text at to kind mark separator quote before now after within is cell grown =
+    cell-marked text at (to + 1) (to + 2) kind mark separator quote before now (slice_range text (at + 1) to) (omega arith) (omega arith) within is cell
+    (grown ∙ ap (λ l. before ++ l ++ mark ∷ []) (append-nil (slice_range text (at + 1) to)))
+
+-- by a field that stands as it is written, and the mark as it stands
+pub cell-whole : (t : Bool) (text : List ℕ) (at end : ℕ) (kind : Kind) (mark separator quote : ℕ) (before now : List ℕ) → at ≤ end → end < length text → slice_index text end ≡ mark
+    → IsCellOfKind separator quote kind (slice_range text at end) → t ≡ true → now ≡ cond t (before ++ slice_range text at (end + 1)) before
+    → IsCellCopied text at kind mark separator quote before now (Some (end + 1))
+cell-whole t text at end kind mark separator quote before now after within is cell holds grown =
+    let field = slice_range text at end in
+    let whole : slice_range text at (end + 1) ≡ field ++ mark ∷ [] = cut text at end (end + 1) mark after within is (omega arith) ∙ ap (λ l. field ++ mark ∷ l) (nothing text (end + 1)) in
+    cell-marked text at end (end + 1) kind mark separator quote before now field refl after within is (cell-kind_copy separator quote kind field cell)
+    (added t before now (slice_range text at (end + 1)) holds grown ∙ ap (λ l. before ++ l) whole ∙ sym (append_assoc before field (mark ∷ [])))
+
+-- ---- lines
+
+-- the last field, with a line feed behind it
+last : (separator quote : ℕ) (kind : Kind) (field written : List ℕ) → IsCopyOfKind separator quote kind field written
+    → IsLineCopyOfKinds separator quote (kind ∷ []) (field ++ 10 ∷ []) (written ++ 10 ∷ [])
+last separator quote kind field written cell o [] fits is can are = absurd are
+last separator quote kind field written cell o (entry ∷ []) fits is can are = record {
+  fields = field ∷ [];
+  written = written ∷ [];
+  copies = (cell o entry.1 fits is can.0 are.0, tt);
+  line_is = refl;
+  copy_is = refl;
+}
+last separator quote kind field written cell o (entry ∷ other ∷ schema) fits is can are = absurd are.1
+
+-- a field, a separator, and a line of one kind or more
+more : (separator quote : ℕ) (kind second : Kind) (kinds : List Kind) (field written rest copy : List ℕ) → IsCopyOfKind separator quote kind field written
+    → IsLineCopyOfKinds separator quote (second ∷ kinds) rest copy → IsLineCopyOfKinds separator quote (kind ∷ second ∷ kinds) (field ++ separator ∷ rest) (written ++ separator ∷ copy)
+more separator quote kind second kinds field written rest copy cell line o [] fits is can are = absurd are
+more separator quote kind second kinds field written rest copy cell line o (entry ∷ []) fits is can are = absurd are.1
+more separator quote kind second kinds field written rest copy cell line o (entry ∷ other ∷ schema) fits is can are =
+    let own = line o (other ∷ schema) fits is can.1 are.1 in
+    by own.fields own.written own.copies own.line_is own.copy_is
+  where
+    by : (fields others : List (List ℕ)) → AreCopiesOf o (other ∷ schema) fields others → rest ≡ join_with_byte o.separator fields ++ 10 ∷ [] → copy ≡ join_with_byte o.separator others ++ 10 ∷ []
+        → IsLineCopyOf o (entry ∷ other ∷ schema) (field ++ separator ∷ rest) (written ++ separator ∷ copy)
+    by [] others copies e f = absurd copies
+    by (first ∷ fields) [] copies e f = absurd copies
+    by (first ∷ fields) (next ∷ others) copies e f = record {
+      fields = field ∷ first ∷ fields;
+      written = written ∷ next ∷ others;
+      copies = (cell o entry.1 fits is can.0 are.0, copies);
+      line_is = ap₂ (λ s r. field ++ s ∷ r) (sym is.separator_is) e ∙ sym (append_assoc field (o.separator ∷ join_with_byte o.separator (first ∷ fields)) (10 ∷ []));
+      copy_is = ap₂ (λ s r. written ++ s ∷ r) (sym is.separator_is) f ∙ sym (append_assoc written (o.separator ∷ join_with_byte o.separator (next ∷ others)) (10 ∷ []));
+    }
+
+-- ---- steps
+
+-- behind one field more
+copied-step : (text : List ℕ) (start : ℕ) (kinds : List Kind) (separator quote index at end : ℕ) (any : Kind) (before now later written : List ℕ)
+    → AreCopiedBefore text start kinds separator quote index at before now → index + 1 < length kinds → at ≤ end → end < length text → slice_index text end ≡ separator
+    → IsCopyOfKind separator quote (get_or kinds index any) (slice_range text at end) written → later ≡ now ++ written ++ separator ∷ []
+    → AreCopiedBefore text start kinds separator quote (index + 1) (end + 1) before later
+copied-step text start kinds separator quote index at end any before now later written copied few after within is cell grown =
+    let own = get_or kinds index any in
+    let second = get_or kinds (index + 1) any in
+    let behind = drop (index + 1 + 1) kinds in
+    let others : drop (index + 1) kinds ≡ second ∷ behind = from kinds (index + 1) any few in
+    let all : drop index kinds ≡ own ∷ second ∷ behind = from kinds index any (omega arith) ∙ ap (λ ks. own ∷ ks) others in
+    let part = written ++ separator ∷ [] in
+    let done = copied.copy in
+    record {
+      after = omega (arith, copied.after);
+      within = omega arith;
+      copy = done ++ part;
+      now_is = grown ∙ append_assoc now written (separator ∷ []) ∙ ap (λ l. l ++ part) copied.now_is ∙ append_assoc before done part;
+      line = λ to rest room lines.
+          let line : IsLineCopyOfKinds separator quote (second ∷ behind) (slice_range text (end + 1) to) rest =
+          subst (λ ks. IsLineCopyOfKinds separator quote ks (slice_range text (end + 1) to) rest) others lines in
+          let both : IsLineCopyOfKinds separator quote (own ∷ second ∷ behind) (slice_range text at end ++ separator ∷ slice_range text (end + 1) to) (written ++ separator ∷ rest) =
+          more separator quote own second behind (slice_range text at end) written (slice_range text (end + 1) to) rest cell line in
+          let whole : IsLineCopyOfKinds separator quote (drop index kinds) (slice_range text at to) (written ++ separator ∷ rest) =
+          subst (λ ks. IsLineCopyOfKinds separator quote ks (slice_range text at to) (written ++ separator ∷ rest)) (sym all)
+          (subst (λ l. IsLineCopyOfKinds separator quote (own ∷ second ∷ behind) l (written ++ separator ∷ rest)) (sym (cut text at end to separator after within is room)) both) in
+          let joined : done ++ (written ++ separator ∷ rest) ≡ done ++ part ++ rest = sym (append_assoc done part rest ∙ ap (λ l. done ++ l) (append_assoc written (separator ∷ []) rest)) in
+          subst (IsLineCopyOfKinds separator quote kinds (slice_range text start to)) joined (copied.line to (written ++ separator ∷ rest) (omega arith) whole);
+    }
+
+-- and behind the last
+copied-last : (text : List ℕ) (start : ℕ) (kinds : List Kind) (separator quote index at end : ℕ) (any : Kind) (before now later written : List ℕ)
+    → AreCopiedBefore text start kinds separator quote index at before now → index ≡ length kinds - 1 → 0 < length kinds → at ≤ end → end < length text → slice_index text end ≡ 10
+    → IsCopyOfKind separator quote (get_or kinds (length kinds - 1) any) (slice_range text at end) written → later ≡ now ++ written ++ 10 ∷ []
+    → IsRowCopied text start kinds separator quote before later (Some (end + 1))
+copied-last text start kinds separator quote index at end any before now later written copied last_is some after within is cell grown =
+    let own = get_or kinds index any in
+    let behind : drop (index + 1) kinds ≡ [] = drop_all (index + 1) kinds (omega arith) in
+    let only : drop index kinds ≡ own ∷ [] = from kinds index any (omega arith) ∙ ap (λ ks. own ∷ ks) behind in
+    let whole : slice_range text at (end + 1) ≡ slice_range text at end ++ 10 ∷ [] = cut text at end (end + 1) 10 after within is (omega arith) ∙ ap (λ l. slice_range text at end ++ 10 ∷ l) (nothing text (end + 1)) in
+    let field : IsCopyOfKind separator quote own (slice_range text at end) written = subst (λ n. IsCopyOfKind separator quote (get_or kinds n any) (slice_range text at end) written) (sym last_is) cell in
+    let part = written ++ 10 ∷ [] in
+    record {
+      copy = copied.copy ++ part;
+      now_is = grown ∙ append_assoc now written (10 ∷ []) ∙ ap (λ l. l ++ part) copied.now_is ∙ append_assoc before copied.copy part;
+      line =
+          copied.line (end + 1) part (omega arith)
+          (subst (λ ks. IsLineCopyOfKinds separator quote ks (slice_range text at (end + 1)) part) (sym only)
+          (subst (λ l. IsLineCopyOfKinds separator quote (own ∷ []) l part) (sym whole) (last separator quote own (slice_range text at end) written field)));
+    }
+
+-- ---- what was copied of a cell
+
+-- is what is written of it, where there is an answer
+pub copied-cell : (text : List ℕ) (start : ℕ) (kinds : List Kind) (separator quote index at next : ℕ) (any : Kind) (before now later : List ℕ)
+    → AreCopiedBefore text start kinds separator quote index at before now → index + 1 < length kinds → IsCellCopied text at (get_or kinds index any) separator separator quote now later (Some next)
+    → AreCopiedBefore text start kinds separator quote (index + 1) next before later
+copied-cell text start kinds separator quote index at next any before now later copied few one =
+    let own = one.cell in
+    subst (λ n. AreCopiedBefore text start kinds separator quote (index + 1) n before later) (sym own.next_is)
+    (copied-step text start kinds separator quote index at own.end any before now later own.written copied few own.after own.within own.mark_is own.cell
+    (one.now_is ∙ ap (λ l. now ++ l) own.copy_is ∙ sym (append_assoc now own.written (separator ∷ []))))
+
+-- and else a part of it
+copied-part : (text : List ℕ) (start : ℕ) (kinds : List Kind) (separator quote index at : ℕ) (kind : Kind) (mark : ℕ) (before now later : List ℕ)
+    → AreCopiedBefore text start kinds separator quote index at before now → IsCellCopied text at kind mark separator quote now later None → IsRowCopied text start kinds separator quote before later None
+copied-part text start kinds separator quote index at kind mark before now later copied one = record {
+  copy = copied.copy ++ one.copy;
+  now_is = one.now_is ∙ ap (λ l. l ++ one.copy) copied.now_is ∙ append_assoc before copied.copy one.copy;
+  line = tt;
+}
+
+-- the last ends the row
+pub copied-row : (result : Option ℕ) (text : List ℕ) (start : ℕ) (kinds : List Kind) (separator quote index at : ℕ) (any : Kind) (before now later : List ℕ)
+    → AreCopiedBefore text start kinds separator quote index at before now → index ≡ length kinds - 1 → 0 < length kinds
+    → IsCellCopied text at (get_or kinds (length kinds - 1) any) 10 separator quote now later result → IsRowCopied text start kinds separator quote before later result
+copied-row None text start kinds separator quote index at any before now later copied last_is some one =
+    copied-part text start kinds separator quote index at (get_or kinds (length kinds - 1) any) 10 before now later copied one
+copied-row (Some next) text start kinds separator quote index at any before now later copied last_is some one =
+    let own = one.cell in
+    subst (λ n. IsRowCopied text start kinds separator quote before later (Some n)) (sym own.next_is)
+    (copied-last text start kinds separator quote index at own.end any before now later own.written copied last_is some own.after own.within own.mark_is own.cell
+    (one.now_is ∙ ap (λ l. now ++ l) own.copy_is ∙ sym (append_assoc now own.written (10 ∷ []))))

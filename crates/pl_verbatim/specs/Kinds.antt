@@ -1,0 +1,64 @@
+-- How the cells of a column stand in rows that are written as they were read.
+use Rattle.std.specs.Prelude.{◌≡◌, ℕ, ◌<◌, ◌^◌, ℤ, unsigned_abs, Bool, true, false, ◌&&◌, nat_le, List, [], ◌∷◌, Option, Some}
+use Rattle.std.specs.Int.{is_negative}
+use Rattle.std.specs.List.{AllByRecursion}
+use Rattle.pl_frame.specs.declared.data_type.DataType.{DataType}
+use Rattle.pl_frame.specs.declared.data_type.DataType.TheVariants as dtype
+use Rattle.pl_frame.specs.declared.data_type.TimeUnit.{TimeUnit}
+use Rattle.pl_frame.specs.Columns.{is_value_of}
+use Rattle.pl_frame.specs.Frame.{Number}
+use Rattle.pl_frame.specs.Printed.{places_of}
+use Rattle.pl_frame.specs.Schema.{Entry}
+use Rattle.pl_frame.specs.Types.{is_readable, is_whole_number, datetime_range, is_narrow, units_in_second}
+use Rattle.pl_verbatim.specs.declared.kinds.Kind.{Kind}
+use Rattle.pl_verbatim.specs.declared.kinds.Kind.TheVariants as kind
+
+-- ---- kinds
+
+-- a whole number has at most 38 digits, a decimal too, at least one of them behind the point, and a datetime 1 to 9 behind it
+abbrev pub is_sound_kind : Kind → Bool
+is_sound_kind (kind.Whole digits is_signed) = nat_le digits 38
+is_sound_kind (kind.Decimal digits scale) = nat_le digits 38 && nat_le 1 scale
+is_sound_kind (kind.Datetime places) = nat_le 1 places && nat_le places 9
+is_sound_kind _ = true
+
+-- ---- kinds of types
+
+-- a type holds each whole number of at most so many digits, below zero only where numbers are signed
+pub record HoldsWholes (digits : ℕ) (is_signed : Bool) (type : DataType) : Type 0 where
+  pub whole : is_whole_number type ≡ true
+  pub held : (n : ℤ) → unsigned_abs n < 10 ^ digits → (is_signed ≡ false → is_negative n ≡ false) → is_value_of type (Number n) ≡ true
+
+-- a type holds each decimal of at most so many digits, with so many of them behind the point
+pub record HoldsDecimals (digits scale : ℕ) (type : DataType) : Type 0 where
+  pub precision : Option ℕ
+  pub type_is : type ≡ dtype.Decimal precision (Some scale)
+  pub some : 0 < scale
+  pub can : is_readable type ≡ true
+  pub held : (n : ℤ) → unsigned_abs n < 10 ^ digits → is_value_of type (Number n) ≡ true
+
+-- a type holds each datetime with a fraction in so many digits: it counts what one of the last of these is, and each count fits 64 bits
+pub record HoldsMoments (places : ℕ) (type : DataType) : Type 0 where
+  pub unit : TimeUnit
+  pub type_is : type ≡ dtype.Datetime unit
+  pub places_is : places ≡ places_of unit
+  pub fits : is_narrow (datetime_range (units_in_second unit)) ≡ true
+
+-- a kind is one of a type: each of its texts is that of a value of the type
+abbrev pub IsKindOf : DataType → Kind → Type 0
+IsKindOf type kind.Text = type ≡ dtype.String
+IsKindOf type (kind.Whole digits is_signed) = HoldsWholes digits is_signed type
+IsKindOf type kind.Boolean = type ≡ dtype.Boolean
+IsKindOf type kind.Date = type ≡ dtype.Date
+IsKindOf type (kind.Decimal digits scale) = HoldsDecimals digits scale type
+IsKindOf type (kind.Datetime places) = HoldsMoments places type
+
+-- each is one of its column's type
+abbrev pub AreKindsOf : List Entry → List Kind → Type 0
+AreKindsOf [] [] = Unit {0}
+AreKindsOf (entry ∷ schema) (kind ∷ kinds) = IsKindOf entry.1 kind × AreKindsOf schema kinds
+AreKindsOf schema kinds = ⊥
+
+-- the type of each column can be read
+abbrev pub AreReadable : List Entry → Type 0
+AreReadable schema = AllByRecursion (λ entry. is_readable entry.1 ≡ true) schema

@@ -1,0 +1,4 @@
+pub mod Printing
+pub mod CellTexts
+pub mod Kinds
+pub mod Verbatim

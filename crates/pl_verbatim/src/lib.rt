@@ -1,0 +1,16 @@
+//! Rows that are written as they were read: they are found by their bytes, and their cells are neither read nor printed.
+#![tactic(auto)]
+
+mod booleans;
+mod cells;
+mod copies;
+mod dates;
+mod decimals;
+mod digits;
+mod front;
+pub mod kinds;
+mod moments;
+mod rows;
+mod texts;
+pub mod verbatim;
+mod wholes;

@@ -1,0 +1,72 @@
+//! A row that stands as it is written.
+ghost use Rattle.std.specs.Prelude.{◌≡◌, ◌<◌, ◌≤◌, List, true, length, slice_range, IfSome};
+ghost use Rattle.std.specs.List.{All};
+ghost use Rattle.pl_frame.specs.Schema.{Entry};
+ghost use Rattle.pl_frame.specs.Text.{WriteOptions};
+ghost use Rattle.pl_verbatim.specs.CellTexts.{IsCellOptions};
+ghost use Rattle.pl_verbatim.specs.Kinds.{AreKindsOf, is_sound_kind};
+ghost use Rattle.pl_verbatim.specs.Verbatim.{IsLineOf, IsRowCopied};
+
+use crate::cells::cell_end;
+use crate::copies::copy_cell;
+use crate::kinds::Kind;
+
+/// The place behind the line that stands at a place as a row with cells of these kinds is written.
+#[inline]
+pub(crate) fn row_end(
+    text: &[u8],
+    start: usize,
+    kinds: &[Kind],
+    separator: u8,
+    quote: u8,
+) -> Option<usize>
+    requires inside { start ≤ length text.now }
+    requires sound { All (λ kind. is_sound_kind kind ≡ true) kinds.now }
+    requires ascii { quote < 128 }
+    ensures some { IfSome result (λ end. 0 < length kinds.now) }
+    ensures after { IfSome result (λ end. start < end) }
+    ensures within { IfSome result (λ end. end ≤ length text.now) }
+    ensures line { IfSome result (λ end. (o : WriteOptions) (schema : List Entry) → IsCellOptions o separator quote → AreKindsOf schema kinds.now → IsLineOf o schema (slice_range text.now start end)) }
+{
+    if kinds.is_empty() {
+        return None;
+    }
+    let last = kinds.len() - 1;
+    let mut at = start;
+    for index in 0..last {
+        let end = cell_end(text, at, kinds[index], separator, separator, quote)?;
+        at = end + 1;
+    }
+    let end = cell_end(text, at, kinds[last], b'\n', separator, quote)?;
+    Some(end + 1)
+}
+
+/// Appends what is written of the row at a place to lines, and answers the place behind its own line. Where no such row is found, or memory
+/// is wanting, the lines may have a part of it.
+#[inline]
+pub(crate) fn copy_row(
+    text: &[u8],
+    start: usize,
+    kinds: &[Kind],
+    separator: u8,
+    quote: u8,
+    lines: &mut Vec<u8>,
+) -> Option<usize>
+    requires inside { start ≤ length text.now }
+    requires sound { All (λ kind. is_sound_kind kind ≡ true) kinds.now }
+    requires ascii { quote < 128 }
+    ensures some { IfSome result (λ end. 0 < length kinds.now) }
+    ensures after { IfSome result (λ end. start < end) }
+    ensures within { IfSome result (λ end. end ≤ length text.now) }
+    ensures copied { IsRowCopied text.now start kinds.now separator quote lines.old.items lines.new.items result }
+{
+    if kinds.is_empty() {
+        return None;
+    }
+    let last = kinds.len() - 1;
+    let mut at = start;
+    for index in 0..last {
+        at = copy_cell(text, at, kinds[index], separator, separator, quote, lines)?;
+    }
+    copy_cell(text, at, kinds[last], b'\n', separator, quote, lines)
+}

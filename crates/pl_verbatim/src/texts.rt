@@ -1,0 +1,132 @@
+//! Texts that stand as they are written.
+ghost use Rattle.std.specs.Prelude.{◌≡◌, ◌<◌, ◌≤◌, ◌||◌, not, nat_le, length, slice_range, slice_index, IfSome};
+ghost use Rattle.std.specs.List.{prefix_len};
+ghost use Rattle.pl_frame.specs.Text.{is_special};
+ghost use Rattle.pl_verbatim.specs.CellTexts.{IsWrittenText, IsBareText};
+
+use memchr::memchr;
+use pl_cells::utf8::validate_utf8;
+use std::simd::prelude::*;
+
+// How many of 32 bytes stand before the first that only a quoted text may hold, or that is not ASCII.
+#[inline(always)]
+fn count_before_stop(bytes: &[u8], separator: u8, quote: u8) -> usize
+    requires { length bytes.now ≡ 32 }
+    ensures { result ≡ prefix_len (λ x. not (is_special separator quote x || nat_le 128 x)) bytes.now }
+{
+    let v = u8x32::from_slice(bytes);
+    let stops = (v.simd_eq(u8x32::splat(separator))
+        | v.simd_eq(u8x32::splat(b'\n'))
+        | v.simd_eq(u8x32::splat(b'\r'))
+        | v.simd_eq(u8x32::splat(quote))
+        | v.simd_ge(u8x32::splat(128))).to_bitmask();
+    if stops == 0 {
+        32
+    } else {
+        stops.trailing_zeros() as usize
+    }
+}
+
+// Whether only a quoted text may hold a byte.
+#[inline(always)]
+fn is_special_byte(byte: u8, separator: u8, quote: u8) -> bool
+    ensures { result ≡ is_special separator quote byte }
+{
+    byte == separator || byte == b'\n' || byte == b'\r' || byte == quote
+}
+
+// How many bytes stand before the first that only a quoted text may hold.
+fn count_before_special(bytes: &[u8], separator: u8, quote: u8) -> usize
+    ensures value { result ≡ prefix_len (λ x. not (is_special separator quote x)) bytes.now }
+    ensures within { result ≤ length bytes.now }
+{
+    for (count, byte) in bytes.iter().enumerate() {
+        if is_special_byte(*byte, separator, quote) {
+            return count;
+        }
+    }
+    bytes.len()
+}
+
+// The place behind the text at a place that is not quoted: any text, found byte by byte.
+fn bare_end(text: &[u8], at: usize, separator: u8, quote: u8) -> Option<usize>
+    requires { at ≤ length text.now }
+    ensures within { IfSome result (λ end. end ≤ length text.now) }
+    ensures bare { IfSome result (λ end. IsBareText separator quote (slice_range text.now at end)) }
+    ensures written { IfSome result (λ end. IsWrittenText separator quote (slice_range text.now at end)) }
+{
+    let count = count_before_special(&text[at..], separator, quote);
+    if count > 0 && validate_utf8(&text[at..at + count]) {
+        Some(at + count)
+    } else {
+        None
+    }
+}
+
+// The place behind the text between quotes that begins at a place. None where it needs no quotes.
+fn quoted_end(text: &[u8], at: usize, separator: u8, quote: u8) -> Option<usize>
+    requires inside { at < length text.now }
+    requires quote { slice_index text.now at ≡ quote }
+    requires ascii { quote < 128 }
+    ensures within { IfSome result (λ end. end ≤ length text.now) }
+    ensures written { IfSome result (λ end. IsWrittenText separator quote (slice_range text.now at end)) }
+{
+    let mut from = at + 1;
+    let mut is_needed = false;
+    while from < text.len() {
+        let count = memchr(quote, &text[from..])?;
+        let part = &text[from..from + count];
+        if !validate_utf8(part) {
+            return None;
+        }
+        is_needed = is_needed || count_before_special(part, separator, quote) < count;
+        let end = from + count + 1;
+        if end >= text.len() || text[end] != quote {
+            return if is_needed || end == at + 2 {
+                Some(end)
+            } else {
+                None
+            };
+        }
+        is_needed = true;
+        from = end + 1;
+    }
+    None
+}
+
+/// The place behind the text that stands at a place without quotes.
+#[inline(always)]
+pub(crate) fn bare_text_end(text: &[u8], at: usize, separator: u8, quote: u8) -> Option<usize>
+    requires { at < length text.now }
+    ensures within { IfSome result (λ end. end ≤ length text.now) }
+    ensures bare { IfSome result (λ end. IsBareText separator quote (slice_range text.now at end)) }
+{
+    if text.len() - at >= 32 {
+        let count = count_before_stop(&text[at..at + 32], separator, quote);
+        if 0 < count && count < 32 && text[at + count] < 128 {
+            return Some(at + count);
+        }
+    }
+    bare_end(text, at, separator, quote)
+}
+
+/// The place behind the text that stands at a place as it is written.
+#[inline(always)]
+pub(crate) fn text_end(text: &[u8], at: usize, separator: u8, quote: u8) -> Option<usize>
+    requires inside { at < length text.now }
+    requires ascii { quote < 128 }
+    ensures within { IfSome result (λ end. end ≤ length text.now) }
+    ensures written { IfSome result (λ end. IsWrittenText separator quote (slice_range text.now at end)) }
+{
+    if text.len() - at >= 32 {
+        let count = count_before_stop(&text[at..at + 32], separator, quote);
+        if 0 < count && count < 32 && text[at + count] < 128 {
+            return Some(at + count);
+        }
+    }
+    if text[at] == quote {
+        quoted_end(text, at, separator, quote)
+    } else {
+        bare_end(text, at, separator, quote)
+    }
+}

@@ -1,0 +1,38 @@
+//! A test of rows: whether they are written as they were read.
+ghost use Rattle.std.specs.Prelude.{◌≡◌, ◌<◌, [], true};
+ghost use Rattle.std.specs.List.{All};
+ghost use Rattle.pl_verbatim.specs.Kinds.{is_sound_kind};
+
+use crate::kinds::Kind;
+use std::alloc::Global;
+
+/// How rows stand that are written as they were read, where such rows are looked for.
+#[derive(Drop)]
+pub struct Verbatim {
+    // One for each column; none where no rows are looked for.
+    pub(crate) kinds: Vec<Kind>,
+    pub(crate) separator: u8,
+    pub(crate) quote_char: u8,
+    ghost sound: { All (λ kind. is_sound_kind kind ≡ true) kinds.items },
+    ghost ascii: { quote_char < 128 },
+}
+
+/// The rows at the front of a text that are written as they were read: so many of its bytes, and so many rows.
+#[derive(Clone, Copy)]
+pub struct VerbatimFront {
+    pub end: usize,
+    pub rows: usize,
+}
+
+impl Verbatim {
+    // No rows are looked for.
+    pub(crate) fn none(alloc: Global) -> Verbatim
+        ensures { result.kinds.items ≡ [] }
+    {
+        Verbatim {
+            kinds: Vec::new(alloc),
+            separator: b',',
+            quote_char: b'"',
+        }
+    }
+}

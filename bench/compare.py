@@ -139,7 +139,7 @@ def plot(workloads, tasks, sizes, best):
     most = max(sizes[at[1]] / 1e6 / found[0] for at, found in best.items() if found)
     rows, y = [], 40
     for i, task in enumerate(tasks):
-        rows.append(f'<rect x="{left + i * 118}" y="10" width="10" height="10" fill="{colors[i]}"/><text x="{left + 14 + i * 118}" y="19">{task[0]}</text>')
+        rows.append(f'<rect x="{left + i * 118}" y="10" width="10" height="10" fill="{colors[i]}"/><text x="{left + 14 + i * 118}" y="19">{task[0].replace("`", "")}</text>')
     for it in workloads:
         rows.append(f'<text x="{left - 8}" y="{y + bar * len(tasks) / 2 + 4:.0f}" text-anchor="end">{it}</text>')
         for i, task in enumerate(tasks):

@@ -22,6 +22,7 @@ use Rattle.pl_infer.specs.Text as infer
 use Rattle.pl_infer.specs.declared.read_options.CsvReadOptions.{CsvReadOptions}
 use Rattle.pl_schema.specs.Schemas.{is_categorical}
 use Rattle.pl_table.specs.Rows.{Row}
+use Rattle.pl_regions.specs.declared.front.Front.{Front}
 use Rattle.pl_rows.specs.Cells.{RowRules}
 use Rattle.pl_rows.specs.Columns.{read_column, entries_in, columns_in, frame_of_rows}
 use Rattle.pl_rows.specs.Pieces.{end_behind, IsRowFit}
@@ -51,6 +52,7 @@ use Rattle.pl_write.proofs.PrintedLaws.{lines-alone, printed-is-text}
 use Rattle.pl_verbatim.specs.Printing.{CanPrint, IsFrontPrinted}
 use Rattle.pl_verbatim.proofs.PrintingLaws.{level-text}
 use Rattle.pl_csv.specs.Converting.{IsPlain, IsPrintedRead}
+use Rattle.pl_csv.specs.Sources.{IsLeftOf}
 use Rattle.pl_csv.specs.Transcoding.{HasAsciiQuote, IsUnread, IsConverted, IsCutShort}
 use Rattle.pl_csv.specs.declared.convert.Printed.{Printed}
 use Rattle.pl_csv.proofs.TranscodeLaws.{unread-late, valid-read}
@@ -181,6 +183,11 @@ data-fits plan o schema records write upto n lines read row column kind can fron
 pub left-frame : (plan : RangePlan) (o : CsvReadOptions) (schema : List Entry) (records left : List ℕ) (read : RangeColumns) → CanReadData plan o schema records → IsRangeRead plan schema left read
     → (read.end ≡ end.Closed) ⊎ (read.end ≡ end.Open) → IsFrame read.columns.items
 left-frame plan o schema records left read can range ended = subst IsFrame (sym (columns-are plan o schema left read can.plan_is range ended)) (IsFrame-columns o schema left can.distinct)
+
+-- a front of data that was printed, and what is left of it
+pub is-left-of : (plan : RangePlan) (o : CsvReadOptions) (schema : List Entry) (write : CsvWriterOptions) (records : List ℕ) (front : Front) (left : List ℕ) → CanReadData plan o schema records → IsPlain o schema → length records < 2 ^ 64
+    → IsFrontPrinted plan schema (cell_options write.serialize_options) records front.end front.rows (concat (map cow_slice_items front.lines.items)) → left ≡ drop front.end records → IsLeftOf plan o schema write records front left
+is-left-of plan o schema write records front left can plain small printed left_is = record { can = can; plain = plain; small = small; printed = printed; left_is = left_is }
 
 -- ---- what is printed of an input
 

@@ -1,3 +1,4 @@
+pub mod AheadLaws
 pub mod ConvertLaws
 pub mod CountingLaws
 pub mod DueLaws
@@ -10,5 +11,6 @@ pub mod MatchingLaws
 pub mod OutcomeLaws
 pub mod ReturnLaws
 pub mod RunLaws
+pub mod SourceLaws
 pub mod TellLaws
 pub mod TranscodeLaws

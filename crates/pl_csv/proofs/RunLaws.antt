@@ -20,10 +20,12 @@ use Rattle.pl_words.specs.declared.job.Job.{Job}
 use Rattle.pl_words.specs.declared.job.Job.TheVariants as job
 use Rattle.pl_words.specs.Words.{Conversion, converting, job_of_words}
 use Rattle.pl_write.specs.declared.options.CsvWriterOptions.{CsvWriterOptions}
+use Rattle.pl_csv.specs.declared.convert_source.Unconverted.TheVariants as unconverted
 use Rattle.pl_csv.specs.declared.run.Refusal.{Refusal}
 use Rattle.pl_csv.specs.declared.run.Refusal.TheVariants as refusal
 use Rattle.pl_csv.specs.Making.{IsMakingFault, IsZero, making_status}
 use Rattle.pl_csv.specs.Run.{Converts, Makes, HasRead, HasCause, HasWrongOption, IsRefused, IsDue, EndsAsDue, EndsAsMade, Converted, Made, MadePart, PartWritten}
+use Rattle.pl_csv.specs.Sources.{IsSourceConverted, IsUnconverted}
 use Rattle.pl_csv.specs.Telling.{status_of, status_of_fault}
 use Rattle.pl_csv.specs.Transcoding.{all_causes, HasAsciiQuote, IsCause, IsValidRead, IsTranscodeFault}
 use Rattle.pl_csv.specs.Views.{Views}
@@ -300,6 +302,24 @@ refused-fault words before now c input (error.ColumnNotFound name) read (is, sam
 refused-fault words before now c input (error.OutOfBounds index length) read (is, same) = (inl (record { conversion = c; input = input; read = read; is = is }), same)
 refused-fault words before now c input (error.Duplicate name at) read (is, same) = (inl (record { conversion = c; input = input; read = read; is = is }), same)
 refused-fault words before now c input error.EmptyProjection read (is, same) = (inl (record { conversion = c; input = input; read = read; is = is }), same)
+
+-- what a source gives and was not converted was refused
+pub refused-source : (words : List (List ℕ)) (before now : Views) (c : Conversion) (fault : PolarsError) → job_of_words words ≡ Some (converting c)
+    → IsUnconverted c.read c.write before now (unconverted.Polars fault) → IsRefused words before now (refusal.Polars fault)
+refused-source words before now c fault meaning (inl (wanting, same)) = subst (λ f. IsRefused words before now (refusal.Polars f)) (sym wanting) (inl same)
+refused-source words before now c fault meaning (inr (input, come, is)) =
+    refused-fault words before now c input fault (record { meaning = meaning; came = come.came; end = come.end; within = come.within }) is
+
+-- and what was converted was
+pub converted-source : (words : List (List ℕ)) (left left_now received received_now : Option (List ℕ)) (c : Conversion) → job_of_words words ≡ Some (converting c)
+    → IsSourceConverted c.read c.write left left_now received received_now → Converted words left left_now received received_now
+converted-source words left left_now received received_now c meaning (input, come, (frame, is)) = record {
+  conversion = c;
+  input = input;
+  read = record { meaning = meaning; came = come.came; end = come.end; within = come.within };
+  frame = frame;
+  is = is;
+}
 
 -- a making job that was not done was refused
 pub refused-making : (words : List (List ℕ)) (before now : Views) (rows workers piece : ℕ) (fault : PolarsError) → Makes words rows workers piece

@@ -1,6 +1,7 @@
 pub mod Views
 pub mod Transcoding
 pub mod Converting
+pub mod Sources
 pub mod Telling
 pub mod MadeInput
 pub mod Making

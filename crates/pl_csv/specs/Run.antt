@@ -1,7 +1,6 @@
 -- What a run has done, by its status (docs/command-line.md).
 use Rattle.std.specs.Prelude.{◌≡◌, ℕ, ◌^◌, ◌<◌, ◌≤◌, ◌⊎◌, List, length, Option, None, Some}
 use Rattle.std.specs.Io.KnownBytes.{Consumes, IsAtEnd}
-use Rattle.pl_frame.specs.Came.{Came}
 use Rattle.pl_frame.specs.Causes.{Rose}
 use Rattle.pl_frame.specs.Frame.{ColumnValue}
 use Rattle.pl_frame.specs.declared.error.PolarsError.{PolarsError}
@@ -16,8 +15,9 @@ use Rattle.pl_csv.specs.declared.run.Refusal.TheVariants as refusal
 use Rattle.pl_csv.specs.declared.run.Work.{Work}
 use Rattle.pl_csv.specs.declared.run.Work.TheVariants as work
 use Rattle.pl_csv.specs.Telling.{status_of, status_of_fault, fault_line, IsTold}
+use Rattle.pl_csv.specs.Sources.{IsTooLong, HasFailed}
 use Rattle.pl_csv.specs.Transcoding.{IsValidRead, IsCause, IsTranscoded, IsCutShort}
-use Rattle.pl_csv.specs.Views.{SourceView, SinkView, Views}
+use Rattle.pl_csv.specs.Views.{SinkView, Views}
 
 -- ---- what the words mean
 
@@ -85,14 +85,6 @@ pub record HasWrongOption (words : List (List ℕ)) (first : PolarsError) : Type
   pub zero : IsZero workers piece
   pub is : first ≡ error.InvalidOperation op_fault.Option
 
--- more than 2 ^ 36 bytes came
-abbrev pub IsTooLong : Option (List ℕ) → Option (List ℕ) → Type 0
-IsTooLong left left_now = Came left left_now (λ bytes. 2 ^ 36 < length bytes)
-
--- the source failed, after at most 2 ^ 36 bytes
-abbrev pub HasFailed : SourceView → SourceView → Type 0
-HasFailed before now = Rose before.faults now.faults × Came before.left now.left (λ bytes. length bytes ≤ 2 ^ 36)
-
 -- ---- refusals
 
 -- part of the text of a conversion, or of the line of a making job, was written
@@ -118,22 +110,22 @@ pub record IsRefusedWith (words : List (List ℕ)) (before now : Views) (err err
   pub holds : IsRefused words before now given
   pub told : IsTold (fault_line given) err err_now
 
--- what is to be done: the words mean a conversion of the input that the source gave, or a making job, for which nothing was read
-abbrev pub IsWork : List (List ℕ) → Option (List ℕ) → Option (List ℕ) → Work → Type 0
-IsWork words left left_now (work.Convert conversion input) = HasRead words left left_now (record { read = conversion.read; write = conversion.write }) input.items
-IsWork words left left_now (work.Make rows workers piece) = Makes words rows workers piece
+-- what is to be done: what the words mean, a conversion or a making job
+abbrev pub IsWork : List (List ℕ) → Work → Type 0
+IsWork words (work.Convert conversion) = job_of_words words ≡ Some (converting (record { read = conversion.read; write = conversion.write }))
+IsWork words (work.Make rows workers piece) = Makes words rows workers piece
 
 -- it has at most 1000000 rows
 abbrev pub HasFewRows : Work → Type 0
 HasFewRows (work.Make rows workers piece) = rows ≤ 1000000
 HasFewRows _ = Unit {0}
 
--- why there is nothing to do
-abbrev pub IsNoWork : List (List ℕ) → SourceView → SourceView → Refusal → Type 0
-IsNoWork words before now refusal.Words = (job_of_words words ≡ None) × (now ≡ before)
-IsNoWork words before now refusal.Source = Converts words × HasFailed before now
-IsNoWork words before now refusal.TooLong = Converts words × IsTooLong before.left now.left
-IsNoWork words before now (refusal.Polars fault) = fault ≡ error.OutOfMemory
+-- why there is nothing to do: the words have no meaning, or memory was wanting
+abbrev pub IsNoWork : List (List ℕ) → Refusal → Type 0
+IsNoWork words refusal.Words = job_of_words words ≡ None
+IsNoWork words refusal.Source = ⊥
+IsNoWork words refusal.TooLong = ⊥
+IsNoWork words (refusal.Polars fault) = fault ≡ error.OutOfMemory
 
 -- ---- the status
 

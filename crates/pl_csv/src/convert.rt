@@ -1,5 +1,5 @@
 //! From the bytes of an input to the text of its frame, each piece printed as soon as it is read.
-ghost use Rattle.std.specs.Prelude.{◌≡◌, ◌<◌, ◌≤◌, ℕ, None, map, drop, length, slice_index, IfOk, OnOk, IfErr, MatchResult};
+ghost use Rattle.std.specs.Prelude.{◌≡◌, ◌<◌, ◌≤◌, ℕ, List, None, map, drop, length, slice_index, IfOk, OnOk, IfErr, MatchResult};
 ghost use Rattle.std.specs.Bool.{OnTrue};
 ghost use Rattle.std.specs.Cow.{cow_slice_items};
 ghost use Rattle.std.specs.List.{list_any};
@@ -17,6 +17,7 @@ ghost use Rattle.pl_read.specs.Steps.{MayRead, late_cause, data_cause, CanReadDa
 ghost use Rattle.pl_write.specs.Options.{frame_options};
 ghost use Rattle.pl_write.specs.Printed.{printed_text};
 ghost use Rattle.pl_csv.specs.Converting.{IsPlain, IsPrintedRead};
+ghost use Rattle.pl_csv.specs.Sources.{IsLeftOf};
 ghost use Rattle.pl_csv.specs.Transcoding.{IsUnread, IsConverted, IsTranscodeFault};
 ghost use Rattle.pl_csv.specs.Views.{sink_view};
 
@@ -31,7 +32,7 @@ use pl_read::checks::check_options;
 use pl_read::preparing::{Prepared, prepare};
 use pl_read::reading::{plan_of, read_prepared};
 use pl_read::workers::{piece_size_for, read_by_workers, worker_count};
-use pl_regions::front::print_front;
+use pl_regions::front::{Front, print_front};
 use pl_rows::plan::RangePlan;
 use pl_rows::range::RangeEnd;
 use pl_write::options::CsvWriterOptions;
@@ -72,14 +73,50 @@ fn have_categories(schema: &Schema, places: &[usize]) -> bool
     false
 }
 
-// Whether rows may be printed as they are read.
-fn is_plain(read: &CsvReadOptions, prepared: &Prepared) -> bool
+/// Whether rows may be printed as they are read.
+pub(crate) fn is_plain(read: &CsvReadOptions, prepared: &Prepared) -> bool
     requires { prepared.now.places.items ≡ projected read.now prepared.now.schema }
     ensures { OnTrue result (IsPlain read.now prepared.now.schema) }
 {
     read.n_rows.is_none()
         && read.row_index.is_none()
         && !have_categories(&prepared.schema, &prepared.places)
+}
+
+/// What data is whose front was printed: what is left of it is read to columns. Refuses the first cause against it, and want of memory.
+pub(crate) fn read_left<'a, W: Threads + Wait + Sync>(
+    rt: &W,
+    alloc: Global,
+    workers: usize,
+    front: Front<'a>,
+    left: &[u8],
+    read: &CsvReadOptions,
+    schema: &Schema,
+    plan: &RangePlan<'_>,
+    write: &CsvWriterOptions,
+) -> PolarsResult<Printed<'a>>
+    requires workers { 0 < workers }
+    requires left { (records : List ℕ) × IsLeftOf plan.now read.now schema.now write.now records front left.now }
+    ensures text { (records : List ℕ) → IsLeftOf plan.now read.now schema.now write.now records front.entry left.now
+        → IfOk result (λ printed. printed_text (frame_options write.now) (names_of printed.rest) (map cow_slice_items printed.lines.items) printed.rest
+        ≡ text_of_frame (frame_options write.now) (data_frame read.now schema.now records)) }
+    ensures sound { (records : List ℕ) → IsLeftOf plan.now read.now schema.now write.now records front.entry left.now → OnOk result (data_cause read.now schema.now records ≡ None) }
+    ensures refused { (records : List ℕ) → IsLeftOf plan.now read.now schema.now write.now records front.entry left.now → IfErr result (IsFault (data_cause read.now schema.now records)) }
+{
+    let size = read.chunk_size;
+    let Ok(rest) = read_by_workers(rt, alloc, &OpenGate, workers, schema, left, plan, size) else {
+        return Err(PolarsError::OutOfMemory);
+    };
+    match rest.end {
+        RangeEnd::Fault { row, column, kind } => {
+            let row = front.rows + row;
+            Err(PolarsError::ComputeError(ComputeFault::Record { row, column, kind }))
+        }
+        RangeEnd::Closed | RangeEnd::Open => Ok(Printed {
+            lines: front.lines,
+            rest: DataFrame::of_distinct(rest.columns),
+        }),
+    }
 }
 
 // What data is, read and printed by workers: each prints the rows of the regions that it takes, and what is left behind the first row
@@ -108,20 +145,7 @@ fn print_data<'a, W: Threads + Wait + Sync>(
         return Err(PolarsError::OutOfMemory);
     };
     let left = &records[front.end..];
-    let size = read.chunk_size;
-    let Ok(rest) = read_by_workers(rt, alloc, &OpenGate, workers, schema, left, plan, size) else {
-        return Err(PolarsError::OutOfMemory);
-    };
-    match rest.end {
-        RangeEnd::Fault { row, column, kind } => {
-            let row = front.rows + row;
-            Err(PolarsError::ComputeError(ComputeFault::Record { row, column, kind }))
-        }
-        RangeEnd::Closed | RangeEnd::Open => Ok(Printed {
-            lines: front.lines,
-            rest: DataFrame::of_distinct(rest.columns),
-        }),
-    }
+    read_left(rt, alloc, workers, front, left, read, schema, plan, write)
 }
 
 // What an input is, of which it is known what its rows are read by.
@@ -227,6 +251,26 @@ pub fn convert<W: Threads + Wait + Sync, S: Sink>(
     ensures later_wants { S.wants sink.old ≤ S.wants sink.new }
 {
     let printed = print_valid(rt, alloc, input, read, write)?;
+    write_printed(rt, alloc, &printed, read, write, sink)
+}
+
+/// Writes the text of what was read and printed to a sink. Refuses a fault of the sink (`IO`), and want of memory; the sink then received
+/// a prefix of the text.
+pub(crate) fn write_printed<W: Threads + Wait + Sync, S: Sink>(
+    rt: &W,
+    alloc: Global,
+    printed: &Printed<'_>,
+    read: &CsvReadOptions,
+    write: &CsvWriterOptions,
+    sink: &mut S,
+) -> PolarsResult<()>
+    ensures converted { (input : List ℕ) → IsPrintedRead read.now write.now input printed.now → OnOk result (IsConverted read.now write.now input (S.received sink.old) (S.received sink.new)) }
+    ensures refused { (input : List ℕ) → IsPrintedRead read.now write.now input printed.now → IfErr result (IsTranscodeFault read.now write.now input
+        (sink_view (S.received sink.old) (S.faults sink.old) (S.wants sink.old))
+        (sink_view (S.received sink.new) (S.faults sink.new) (S.wants sink.new))) }
+    ensures later { S.faults sink.old ≤ S.faults sink.new }
+    ensures later_wants { S.wants sink.old ≤ S.wants sink.new }
+{
     let workers = worker_count(read.n_threads);
     match write_behind(
         rt,

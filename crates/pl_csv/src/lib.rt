@@ -4,6 +4,7 @@
 pub mod adapters;
 mod conversion;
 pub mod convert;
+pub mod convert_source;
 pub mod counting;
 pub mod laws;
 pub mod make_input;

@@ -3,12 +3,11 @@ ghost use Rattle.std.specs.Prelude.{◌≡◌, ◌≢◌, ◌≤◌, ◌⊎◌, 
 ghost use Rattle.pl_words.specs.Words.{job_of_words};
 ghost use Rattle.pl_csv.specs.Run.{Makes, IsWork, HasFewRows, IsNoWork, Converted, Made, IsRefused, IsRefusedWith, IsDue, EndsAsDue, EndsAsMade};
 ghost use Rattle.pl_csv.specs.Telling.{status_of, status_of_fault};
-ghost use Rattle.pl_csv.specs.Views.{source_view, sink_view, views};
+ghost use Rattle.pl_csv.specs.Views.{sink_view, views};
 
 use crate::conversion::Conversion;
-use crate::convert::convert;
+use crate::convert_source::{Unconverted, convert_source};
 use crate::making::make;
-use crate::read_all::{LIMIT, ReadAllFault, read_all};
 use crate::telling::tell_refusal;
 use pl_frame::error::{ComputeFault, NamePlace, NoDataFault, OpFault, PolarsError};
 use pl_frame::sink::Sink;
@@ -22,8 +21,8 @@ use std::thread::Threads;
 // What a run is to do.
 #[derive(Drop)]
 enum Work {
-    // This input is converted.
-    Convert(Conversion, Vec<u8>),
+    // What the source gives is converted.
+    Convert(Conversion),
     // An input of so many rows is made.
     Make {
         rows: u64,
@@ -91,35 +90,27 @@ impl Refusal {
     }
 }
 
-// What is to be done: what the words mean, and for a conversion the input that the source gives.
-fn read_work<So: Source>(alloc: Global, words: &[String], source: &mut So) -> Result<Work, Refusal>
-    ensures work { IfOk result (IsWork (map string_bytes words.now) (So.left source.old) (So.left source.new)) }
+// What is to be done: what the words mean.
+fn work_of(alloc: Global, words: &[String]) -> Result<Work, Refusal>
+    ensures work { IfOk result (IsWork (map string_bytes words.now)) }
     ensures few { IfOk result HasFewRows }
-    ensures refused { IfErr result (IsNoWork (map string_bytes words.now) (source_view (So.left source.old) (So.faults source.old)) (source_view (So.left source.new) (So.faults source.new))) }
-    ensures unread { (rows workers piece : ℕ) → Makes (map string_bytes words.now) rows workers piece → source.new ≡ source.old }
-    ensures later { So.faults source.old ≤ So.faults source.new }
+    ensures refused { IfErr result (IsNoWork (map string_bytes words.now)) }
 {
-    let conversion = match parse_words(alloc, words) {
-        Ok(Job::Convert(read, write)) => Conversion { read, write },
+    match parse_words(alloc, words) {
+        Ok(Job::Convert(read, write)) => Ok(Work::Convert(Conversion { read, write })),
         Ok(
             Job::Make {
                 rows,
                 workers,
                 piece,
             },
-        ) => return Ok(Work::Make {
+        ) => Ok(Work::Make {
             rows,
             workers,
             piece,
         }),
-        Err(WordsFault::Words) => return Err(Refusal::Words),
-        Err(WordsFault::OutOfMemory) => return Err(Refusal::Polars(PolarsError::OutOfMemory)),
-    };
-    match read_all(alloc, source, LIMIT) {
-        Ok(input) => Ok(Work::Convert(conversion, input)),
-        Err(ReadAllFault::Source) => Err(Refusal::Source),
-        Err(ReadAllFault::TooLong) => Err(Refusal::TooLong),
-        Err(ReadAllFault::OutOfMemory) => Err(Refusal::Polars(PolarsError::OutOfMemory)),
+        Err(WordsFault::Words) => Err(Refusal::Words),
+        Err(WordsFault::OutOfMemory) => Err(Refusal::Polars(PolarsError::OutOfMemory)),
     }
 }
 
@@ -140,11 +131,13 @@ fn do_work<W: Threads + Wait + Sync, So: Source, Si: Sink>(
     ensures source_later { So.faults source.old ≤ So.faults source.new }
     ensures sink_later { Si.faults out.old ≤ Si.faults out.new }
 {
-    match read_work(alloc, words, source)? {
-        Work::Convert(conversion, input) => {
-            match convert(rt, alloc, &input, &conversion.read, &conversion.write, out) {
+    match work_of(alloc, words)? {
+        Work::Convert(conversion) => {
+            match convert_source(rt, alloc, source, &conversion.read, &conversion.write, out) {
                 Ok(()) => Ok(()),
-                Err(fault) => Err(Refusal::Polars(fault)),
+                Err(Unconverted::Source) => Err(Refusal::Source),
+                Err(Unconverted::TooLong) => Err(Refusal::TooLong),
+                Err(Unconverted::Polars(fault)) => Err(Refusal::Polars(fault)),
             }
         }
         Work::Make {

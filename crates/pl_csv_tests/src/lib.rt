@@ -6,6 +6,8 @@ mod adapters;
 #[cfg(test)]
 mod convert;
 #[cfg(test)]
+mod convert_source;
+#[cfg(test)]
 mod counting;
 #[cfg(test)]
 mod examples;

@@ -1,6 +1,6 @@
 -- Texts that are read and printed apart, one behind the other.
 use Rattle.std.proofs.Common.{◌≡◌, ℕ, true, ◌+◌, ◌<◌, ◌≤◌, List, [], ◌∷◌, ◌++◌, length, take, drop, get_or, map, Option, None, Some, Bor, refl, sym, ◌∙◌, ap, subst, inl, inr, arith, length-append, length-take, append_assoc, append-nil}
-use Rattle.std.specs.Prelude.{◌⊎◌, Result, Ok, Err, is_ok, IfSome, OnOk, slice_range}
+use Rattle.std.specs.Prelude.{◌⊎◌, All, Result, Ok, Err, is_ok, IfSome, OnOk, slice_range}
 use Rattle.std.specs.Cow.{cow_slice_items}
 use Rattle.std.specs.Iterator.{Yields}
 use Rattle.std.specs.List.{concat}
@@ -173,9 +173,16 @@ few-printed plan schema o text end n lines apart is =
 -- ---- the regions one after another
 
 -- behind a front stands the next one, at its length
-at_front : {X : Type 0} (front : List X) (x d : X) (rest : List X) → get_or (front ++ x ∷ rest) (length front) d ≡ x
+pub at_front : {X : Type 0} (front : List X) (x d : X) (rest : List X) → get_or (front ++ x ∷ rest) (length front) d ≡ x
 at_front [] x d rest = refl
 at_front (y ∷ front) x d rest = at_front front x d rest
+
+-- what holds of all holds of the next one
+pub next-of : {X A : Type 0} (P : X → Type 0) (all : List X) (start : IntoIter X A) (done : List X) (now : IntoIter X A) (next : X) (left : IntoIter X A) → All P all → into_iter_items start ≡ all
+    → Yields into_iter_steps start done now → into_iter_items now ≡ next ∷ into_iter_items left → P next
+next-of P all start done now next left holds gives taken step =
+    let whole : all ≡ done ++ next ∷ into_iter_items left = sym gives ∙ taken_front start done now taken ∙ ap (λ l. done ++ l) step in
+    subst P (ap (λ l. get_or l (length done) next) whole ∙ at_front done next next (into_iter_items left)) (holds (length done) next (omega (arith, ap length whole, length-append done (next ∷ into_iter_items left))))
 
 -- the region behind so many others
 pub record IsNextRegion (plan : RangePlan) (schema : List Entry) (o : WriteOptions) (texts : List (List ℕ)) (count : ℕ) (region : Region) : Type 0 where

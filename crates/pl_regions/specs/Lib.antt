@@ -1,1 +1,3 @@
 pub mod Regions
+pub mod Intake
+pub mod Arriving

@@ -82,7 +82,7 @@ fn begins_row(text: &[u8], dialect: &Dialect<'_>, width: usize) -> bool {
 }
 
 // The first place from one on where a row seems to begin: behind a line end that is among so many bytes.
-fn find_row(
+pub(crate) fn find_row(
     records: &[u8],
     from: usize,
     look: usize,

@@ -4,8 +4,10 @@ ghost use Rattle.std.specs.Cow.{cow_slice_items};
 ghost use Rattle.std.specs.List.{concat};
 ghost use Rattle.pl_write.specs.Options.{cell_options};
 ghost use Rattle.pl_verbatim.specs.Printing.{CanPrint, IsFrontPrinted};
+ghost use Rattle.pl_regions.specs.Regions.{ArePlaced};
 
 use crate::cutting::cut_regions;
+use crate::region::Region;
 use crate::taking::print_regions;
 use pl_frame::schema::Schema;
 use pl_rows::plan::RangePlan;
@@ -30,7 +32,7 @@ const ROOM: usize = 1 << 22;
 // Takes memory and gives it back. The allocator of the C library has seen then that memory of this size comes and goes, and keeps
 // what one piece gives back for the next one, where it would hand it to the system and ask for it again, page by page. Where memory
 // is wanting, nothing comes of it.
-fn make_room(alloc: Global) {
+pub(crate) fn make_room(alloc: Global) {
     let mut room: Vec<u8> = Vec::new(alloc);
     let _ = room.reserve(ROOM);
 }
@@ -67,6 +69,23 @@ pub fn print_front<'a, W: Threads + Sync>(
     let places = print_regions(
         rt, alloc, workers, &texts, schema, plan, options, &verbatim, piece_size,
     )?;
+    front_of(alloc, &texts, places, schema, plan, options)
+}
+
+/// The front of texts that stand one behind the other, of the regions that were printed of them: as far as each is there and was printed to
+/// its end, and with what was printed of the first that was not. Refuses only want of memory.
+pub(crate) fn front_of<'a>(
+    alloc: Global,
+    texts: &[&'a [u8]],
+    places: Vec<Option<Region<'a>>>,
+    schema: &Schema,
+    plan: &RangePlan<'_>,
+    options: &SerializeOptions,
+) -> Result<Front<'a>, AllocError>
+    requires can { CanPrint plan.now schema.now }
+    requires placed { ArePlaced plan.now schema.now (cell_options options.now) (map (λ text. text.now) texts.now) places.items }
+    ensures { IfOk result (λ front. IsFrontPrinted plan.now schema.now (cell_options options.now) (concat (map (λ text. text.now) texts.now)) front.end front.rows (concat (map cow_slice_items front.lines.items))) }
+{
     let mut front = Front {
         end: 0,
         rows: 0,
@@ -76,9 +95,15 @@ pub fn print_front<'a, W: Threads + Sync>(
         let Some(region) = place else {
             break;
         };
+        let Some(end) = front.end.checked_add(region.end) else {
+            break;
+        };
+        let Some(rows) = front.rows.checked_add(region.rows) else {
+            break;
+        };
         let is_whole = region.end == region.text.len();
-        front.end += region.end;
-        front.rows += region.rows;
+        front.end = end;
+        front.rows = rows;
         front.lines.push(region.lines)?;
         if !is_whole {
             return Ok(front);

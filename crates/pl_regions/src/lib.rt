@@ -1,7 +1,10 @@
 //! Data cut into regions whose rows are read and printed apart from one another, and the front of the data that comes of them.
 #![tactic(auto)]
 
+pub mod arriving;
 mod cutting;
 pub mod front;
+pub mod intake;
 mod region;
+mod taken;
 mod taking;

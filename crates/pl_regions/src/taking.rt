@@ -60,7 +60,10 @@ fn take_regions<'a>(
 }
 
 // Places for so many regions, with none of them there.
-fn empty_places<'a>(alloc: Global, count: usize) -> Result<Vec<Option<Region<'a>>>, AllocError>
+pub(crate) fn empty_places<'a>(
+    alloc: Global,
+    count: usize,
+) -> Result<Vec<Option<Region<'a>>>, AllocError>
     ensures len { IfOk result (λ places. length places.items ≡ count) }
     ensures empty { IfOk result (λ places. All (λ region. region ≡ None) places.items) }
 {
@@ -72,7 +75,7 @@ fn empty_places<'a>(alloc: Global, count: usize) -> Result<Vec<Option<Region<'a>
 }
 
 // Puts regions at their places.
-fn put_regions<'a>(places: &mut [Option<Region<'a>>], taken: Vec<Region<'a>>)
+pub(crate) fn put_regions<'a>(places: &mut [Option<Region<'a>>], taken: Vec<Region<'a>>)
     requires { All (λ region. region.place < length places.old) taken.items }
     ensures len { length places.new ≡ length places.old }
     ensures put { ArePut taken.entry.items places.old places.new }

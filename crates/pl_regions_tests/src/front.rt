@@ -1,5 +1,6 @@
 //! Tests of `pl_regions::front`: how far the front of a text goes, whatever the workers and the pieces.
 ghost use Rattle.std.specs.Prelude.{◌≡◌, ◌<◌, length};
+ghost use Rattle.pl_verbatim.specs.Printing.{CanPrint};
 
 use pl_cells::init_buffers::first_unreadable;
 use pl_cells::utf8::CsvEncoding;
@@ -16,7 +17,7 @@ use std::process::Abort;
 use std::thread::Threads;
 
 // A schema of a whole number and a text.
-fn schema(rt: &impl Abort, alloc: Global) -> Schema
+pub(crate) fn schema(rt: &impl Abort, alloc: Global) -> Schema
     ensures { length result ≡ 2 }
 {
     let mut schema = Schema::new(alloc);
@@ -32,18 +33,11 @@ fn schema(rt: &impl Abort, alloc: Global) -> Schema
     schema
 }
 
-// The front of a text of such rows, by so many workers in pieces of so many bytes.
-fn front<'a, W: Abort + Threads + Sync>(
-    rt: &W,
-    alloc: Global,
-    workers: usize,
-    piece_size: usize,
-    text: &'a [u8],
-) -> Front<'a>
-    requires workers { 0 < workers }
-    requires size { 0 < piece_size }
+// How such rows are read.
+pub(crate) fn plan<'a>(rt: &impl Abort, schema: &Schema) -> RangePlan<'a>
+    requires { length schema.now ≡ 2 }
+    ensures { CanPrint result schema.now }
 {
-    let schema = schema(rt, alloc);
     let plan = RangePlan {
         dialect: Dialect {
             separator: b',',
@@ -66,7 +60,23 @@ fn front<'a, W: Abort + Threads + Sync>(
         last: true,
     };
     assert!(rt; plan.dialect.is_valid() && plan.projection.is_valid());
-    assert!(rt; first_unreadable(&[0, 1], &schema).is_none());
+    assert!(rt; first_unreadable(&[0, 1], schema).is_none());
+    plan
+}
+
+// The front of a text of such rows, by so many workers in pieces of so many bytes.
+fn front<'a, W: Abort + Threads + Sync>(
+    rt: &W,
+    alloc: Global,
+    workers: usize,
+    piece_size: usize,
+    text: &'a [u8],
+) -> Front<'a>
+    requires workers { 0 < workers }
+    requires size { 0 < piece_size }
+{
+    let schema = schema(rt, alloc);
+    let plan = plan(rt, &schema);
     let options = CsvWriterOptions::new(alloc).expect(rt, "options");
     let options = &options.serialize_options;
     print_front(
@@ -76,7 +86,7 @@ fn front<'a, W: Abort + Threads + Sync>(
 }
 
 // The lines, one text behind the other.
-fn lines_of(rt: &impl Abort, alloc: Global, front: &Front<'_>) -> Vec<u8> {
+pub(crate) fn lines_of(rt: &impl Abort, alloc: Global, front: &Front<'_>) -> Vec<u8> {
     let mut all = Vec::new(alloc);
     for lines in &front.lines {
         all.extend_from_slice(lines.as_slice()).expect(rt, "memory");
@@ -85,7 +95,7 @@ fn lines_of(rt: &impl Abort, alloc: Global, front: &Front<'_>) -> Vec<u8> {
 }
 
 // So many rows, the texts of which stand between quotes, with a line end in them.
-fn rows(rt: &impl Abort, alloc: Global, count: usize) -> Vec<u8> {
+pub(crate) fn rows(rt: &impl Abort, alloc: Global, count: usize) -> Vec<u8> {
     let mut text = Vec::new(alloc);
     for k in 0..count {
         let digits = [b'1' + (k % 9) as u8, b'0' + (k % 10) as u8];

@@ -1,0 +1,195 @@
+-- What came of a source, and what was converted of it.
+use Rattle.std.proofs.Common.{◌≡◌, ℕ, true, ◌+◌, ◌<◌, ◌≤◌, ◌^◌, List, [], ◌++◌, length, drop, map, refl, sym, ◌∙◌, ap, subst, inl, inr, arith, append_assoc, length-append, length-drop}
+use Rattle.std.specs.Prelude.{Option, unwrap_or, None, Result, Ok, Err, IfOk, OnOk, IfErr, IsErrOf, MatchResult}
+use Rattle.std.specs.Cow.{cow_slice_items}
+use Rattle.std.specs.List.{concat}
+use Rattle.std.specs.Result.{is_ok}
+use Rattle.std.specs.Option.{option_copied}
+use Rattle.std.specs.Io.KnownBytes.{Consumes, IsAtEnd}
+use Rattle.std.proofs.lemmas.List.{drop-append-le}
+use Rattle.pl_frame.specs.Causes.{Rose}
+use Rattle.pl_frame.specs.Frame.{names_of}
+use Rattle.pl_frame.specs.Schema.{Entry, HaveDistinctNames}
+use Rattle.pl_frame.specs.Text.{text_of_frame}
+use Rattle.pl_frame.specs.declared.error.PolarsError.{PolarsError}
+use Rattle.pl_frame.specs.declared.read_all.ReadAllFault.{ReadAllFault}
+use Rattle.pl_frame.specs.declared.read_all.ReadAllFault.TheVariants as read_fault
+use Rattle.pl_frame.proofs.Known.{Consumes-nil, Consumes-append}
+use Rattle.pl_infer.specs.Causes.{IsFault}
+use Rattle.pl_infer.specs.declared.read_options.CsvReadOptions.{CsvReadOptions}
+use Rattle.pl_read.specs.Options.{settled_schema}
+use Rattle.pl_read.specs.Reading.{frame_of}
+use Rattle.pl_read.specs.Rows.{data_frame}
+use Rattle.pl_read.specs.Steps.{MayRead, late_cause, data_cause, IsPlanOf, CanReadData}
+use Rattle.pl_read.specs.declared.preparing.Prepared.{Prepared}
+use Rattle.pl_read.proofs.PreparingLaws.{IsPrepared-own, can-read}
+use Rattle.pl_read.proofs.SettlingLaws.{late-data}
+use Rattle.pl_rows.specs.declared.plan.RangePlan.{RangePlan}
+use Rattle.pl_regions.specs.declared.front.Front.{Front}
+use Rattle.pl_verbatim.specs.Printing.{IsFrontPrinted}
+use Rattle.pl_regions.specs.Intake as intake
+use Rattle.pl_regions.specs.declared.intake.Intake.{Intake}
+use Rattle.pl_write.specs.Options.{cell_options, frame_options}
+use Rattle.pl_write.specs.Printed.{printed_text}
+use Rattle.pl_write.specs.declared.options.CsvWriterOptions.{CsvWriterOptions}
+use Rattle.pl_csv.specs.Converting.{IsPrintedRead}
+use Rattle.pl_csv.specs.Sources.{HasCome, IsUnconverted, IsUnprinted, IsKept, MayReadAhead, IsReadBy, IsReadAhead, IsLeftOf, unread_of}
+use Rattle.pl_csv.specs.Transcoding.{IsUnread, IsTranscodeFault}
+use Rattle.pl_csv.specs.Views.{SourceView, Views}
+use Rattle.pl_csv.specs.declared.convert.Printed.{Printed}
+use Rattle.pl_csv.specs.declared.convert_source.Unconverted.{Unconverted}
+use Rattle.pl_csv.specs.declared.convert_source.Unconverted.TheVariants as unconverted
+use Rattle.pl_csv.proofs.ConvertLaws.{is-left-of, printed-or-unread}
+use Rattle.pl_csv.proofs.TranscodeLaws.{fault_unread}
+
+-- ---- what came
+
+-- nothing yet
+pub kept-none : (now : SourceView) (items : List ℕ) → items ≡ [] → IsKept now now items
+kept-none now items none = record { came = subst (Consumes now.left now.left) (sym none) (Consumes-nil now.left); later = omega arith }
+
+-- what was put back is kept
+pub kept-again : {U F : Type 0} (put : Result U F) (before now : SourceView) (all items : List ℕ) → is_ok put ≡ true → OnOk put (items ≡ all) → IsKept before now all → IsKept before now items
+kept-again (Ok x) before now all items joined items_are is = subst (IsKept before now) (sym items_are) is
+kept-again (Err x) before now all items joined items_are is = absurd (cc)
+
+-- and so is how much it is
+pub size-again : {U F : Type 0} (put : Result U F) (size before : ℕ) (all items : List ℕ) → is_ok put ≡ true → OnOk put (items ≡ all) → size ≡ before → before ≡ length all → size ≡ length items
+size-again (Ok x) size before all items joined items_are same is = omega (arith, same, is, ap length items_are)
+size-again (Err x) size before all items joined items_are same is = absurd (cc)
+
+-- what came of a source of which nothing came before
+pub kept-first : (before now : SourceView) (limit : ℕ) (old new : Intake) (text : List ℕ) → old.rest.items ≡ [] → before.faults ≤ now.faults → intake.HasGiven before.left now.left limit old new text
+    → IsKept before now (text ++ new.rest.items)
+kept-first before now limit old new text none later given =
+    let all : given.bytes ≡ text ++ new.rest.items = ap (λ (l : List ℕ). l ++ given.bytes) (sym none) ∙ given.are in
+    record { came = subst (Consumes before.left now.left) all given.gained.came; later = later }
+
+-- and what came behind that, and was kept
+pub kept-more : (before now end : SourceView) (limit : ℕ) (old new : Intake) → IsKept before now old.rest.items → now.faults ≤ end.faults → intake.HasGiven now.left end.left limit old new []
+    → IsKept before end new.rest.items
+kept-more before now end limit old new is later given = record {
+  came = subst (Consumes before.left end.left) given.are (Consumes-append before.left now.left end.left old.rest.items given.bytes is.came given.gained.came);
+  later = omega (arith, is.later, later);
+}
+
+-- and how much that is
+pub size-more : (before now : Option (List ℕ)) (limit : ℕ) (old new : Intake) → old.size ≡ length old.rest.items → intake.HasGiven before now limit old new [] → new.size ≡ length new.rest.items
+size-more before now limit old new size given = omega (arith, size, given.gained.size_is, length-append old.rest.items given.bytes, ap length given.are)
+
+-- and how much
+pub size-first : (before now : SourceView) (limit : ℕ) (old new : Intake) (text : List ℕ) → old.rest.items ≡ [] → old.size ≡ 0 → intake.HasGiven before.left now.left limit old new text
+    → new.size ≡ length (text ++ new.rest.items)
+size-first before now limit old new text none zero given =
+    let all : given.bytes ≡ text ++ new.rest.items = ap (λ (l : List ℕ). l ++ given.bytes) (sym none) ∙ given.are in
+    omega (arith, given.gained.size_is, ap length all)
+
+-- where all came behind what was kept, it is the input
+pub come-whole : (before now end : SourceView) (old new : Intake) (limit : ℕ) → IsKept before now old.rest.items → old.size ≡ length old.rest.items → limit ≡ 2 ^ 36
+    → intake.HasGainedAll now.left end.left limit old new → HasCome before.left end.left new.rest.items
+come-whole before now end old new limit is size_is limit_is all = record {
+  came = subst (Consumes before.left end.left) (sym all.are) (Consumes-append before.left now.left end.left old.rest.items all.bytes is.came all.gained.came);
+  end = all.end;
+  within = omega (arith, all.gained.size_is, all.gained.within, ap length all.are, length-append old.rest.items all.bytes);
+}
+
+-- and so it is behind what was kept
+pub come-ahead : (before now end : SourceView) (rest bytes : List ℕ) (size limit : ℕ) → IsKept before now rest → size ≡ length rest → limit ≡ 2 ^ 36 → Consumes now.left end.left bytes
+    → IsAtEnd end.left → size + length bytes ≤ limit → HasCome before.left end.left (rest ++ bytes)
+come-ahead before now end rest bytes size limit is size_is limit_is came ended within = record {
+  came = Consumes-append before.left now.left end.left rest bytes is.came came;
+  end = ended;
+  within = omega (arith, size_is, within, limit_is, length-append rest bytes);
+}
+
+-- what is kept after more came begins with what was put back
+pub longer-more : {U F : Type 0} (put : Result U F) (before now : Option (List ℕ)) (limit : ℕ) (first rest : List ℕ) (old new : Intake) → is_ok put ≡ true → OnOk put (old.rest.items ≡ first ++ rest)
+    → (given : intake.HasGiven before now limit old new []) → new.rest.items ≡ first ++ (rest ++ given.bytes)
+longer-more (Ok x) before now limit first rest old new joined is given = sym given.are ∙ ap (λ (l : List ℕ). l ++ given.bytes) is ∙ append_assoc first rest given.bytes
+longer-more (Err x) before now limit first rest old new joined is given = absurd (cc)
+
+-- what tells the records of an input tells them of one behind it
+pub IsReadAhead-longer : (read : CsvReadOptions) (first more longer : List ℕ) (prepared : Prepared) → longer ≡ first ++ more → IsReadAhead read first prepared → IsReadAhead read longer prepared
+IsReadAhead-longer read first more longer prepared is ahead =
+    subst (λ text. IsReadAhead read text prepared) (sym is) (record {
+      within = omega (arith, ahead.within, length-append first more);
+      is = λ rest. subst (λ input. IsReadBy read input prepared) (sym (append_assoc first more rest)) (ahead.is (more ++ rest));
+    })
+
+-- what is kept where bytes were skipped
+pub skipped : {U F : Type 0} (skip : Result U F) (start : ℕ) (rest kept : List ℕ) → is_ok skip ≡ true → OnOk skip (kept ≡ drop start rest) → kept ≡ drop start rest
+skipped (Ok x) start rest kept went is = is
+skipped (Err x) start rest kept went is = absurd (cc)
+
+-- whose records begin within what was kept
+pub records-ahead : (start : ℕ) (rest bytes kept : List ℕ) → start ≤ length rest → kept ≡ drop start rest → kept ++ bytes ≡ drop start (rest ++ bytes)
+records-ahead start rest bytes kept inside is = ap (λ (l : List ℕ). l ++ bytes) is ∙ sym (drop-append-le start rest bytes inside)
+
+-- ---- what did not come
+
+-- where a source was not read on to its end
+pub stopped : {T : Type 0} (read : CsvReadOptions) (write : CsvWriterOptions) (before now end : SourceView) (kept : List ℕ) (size limit : ℕ) (fault : ReadAllFault) → IsKept before now kept → size ≡ length kept → limit ≡ 2 ^ 36
+    → (IsErrOf {T = T} (Err fault) read_fault.TooLong → intake.IsTooLong now.left end.left limit size) → (IsErrOf {T = T} (Err fault) read_fault.Source → intake.HasStopped now.left end.left limit size)
+    → (IsErrOf {T = T} (Err fault) read_fault.Source → Rose now.faults end.faults) → IsUnprinted read write before end (unread_of fault)
+stopped read write before now end kept size limit read_fault.Source is size_is limit_is long failed cause =
+    let rose : Rose now.faults end.faults = cause refl in
+    let came = failed refl in (
+      omega (arith, rose, is.later),
+      (kept ++ came.0, Consumes-append before.left now.left end.left kept came.0 is.came came.1, omega (arith, length-append kept came.0, came.2)),
+    )
+stopped read write before now end kept size limit read_fault.TooLong is size_is limit_is long failed cause =
+    let came = long refl in
+    (kept ++ came.0, Consumes-append before.left now.left end.left kept came.0 is.came came.1, omega (arith, length-append kept came.0, came.2))
+stopped read write before now end kept size limit read_fault.OutOfMemory is size_is limit_is long failed cause = inl refl
+
+-- where nothing was printed, nothing was converted
+pub unprinted : (read : CsvReadOptions) (write : CsvWriterOptions) (before now : Views) (fault : Unconverted) → now.out ≡ before.out → IsUnprinted read write before.source now.source fault
+    → IsUnconverted read write before now fault
+unprinted read write before now unconverted.Source same is = (is, same)
+unprinted read write before now unconverted.TooLong same is = (is, same)
+unprinted read write before now (unconverted.Polars fault) same (inl wanting) = inl (wanting, same)
+unprinted read write before now (unconverted.Polars fault) same (inr is) =
+    inr (is.0, is.1, subst (λ out. IsTranscodeFault read write is.0 before.out out fault) (sym same) (fault_unread read write is.0 before.out fault is.2))
+
+-- ---- what is printed of an input whose rows were prepared ahead
+
+-- it means a frame that can be written, and its text was printed; or it means none
+pub read-or-unread : (read : CsvReadOptions) (write : CsvWriterOptions) (input records : List ℕ) (prepared : Prepared) (result : Result Printed PolarsError) → MayReadAhead read write → IsReadBy read input prepared
+    → records ≡ drop prepared.start input
+    → IfOk result (λ printed. printed_text (frame_options write) (names_of printed.rest) (map cow_slice_items printed.lines.items) printed.rest ≡ text_of_frame (frame_options write) (data_frame read prepared.schema records))
+    → OnOk result (data_cause read prepared.schema records ≡ None) → IfErr result (IsFault (data_cause read prepared.schema records))
+    → MatchResult result (IsPrintedRead read write input) (IsUnread read (settled_schema read input) input write)
+read-or-unread read write input records prepared result may by records_are text none fault =
+    let schema : List Entry = settled_schema read input in
+    let is = by.is in
+    let cause : data_cause read prepared.schema records ≡ late_cause read schema input =
+    ap (λ (s : List Entry). data_cause read s records) is.schema_is ∙ ap (data_cause read schema) records_are ∙ sym (late-data read schema input (drop prepared.start input) by.sound is.data_is) in
+    let frame : data_frame read prepared.schema records ≡ frame_of read schema input =
+    ap (λ (s : List Entry). data_frame read s records) is.schema_is
+    ∙ ap (data_frame read schema) records_are
+    ∙ ap (λ (some : Option (List ℕ)). data_frame read schema (unwrap_or some [])) (sym is.data_is) in
+    printed-or-unread read schema input write result refl may.allowed may.quote
+    (subst
+    (λ f. IfOk result (λ printed. printed_text (frame_options write) (names_of printed.rest) (map cow_slice_items printed.lines.items) printed.rest ≡ text_of_frame (frame_options write) f))
+    frame text)
+    (subst (λ (f : Option PolarsError). OnOk result (f ≡ None)) cause none)
+    (subst (λ (f : Option PolarsError). IfErr result (IsFault f)) cause fault)
+
+-- data whose rows were prepared ahead can be read
+pub can-ahead : (read : CsvReadOptions) (input : List ℕ) (prepared : Prepared) (plan : RangePlan) → MayRead read → IsReadBy read input prepared → IsPlanOf plan read prepared.schema
+    → option_copied plan.options.null_values ≡ prepared.null_values → HaveDistinctNames prepared.schema → CanReadData plan read prepared.schema (drop prepared.start input)
+can-ahead read input prepared plan may by is nulls distinct =
+    can-read read input (drop prepared.start input) prepared plan may (IsPrepared-own read (settled_schema read input) input prepared by.is) is nulls distinct (omega arith)
+
+-- and is left where its front was printed
+pub left-ahead : (read : CsvReadOptions) (write : CsvWriterOptions) (rest kept bytes left : List ℕ) (prepared : Prepared) (plan : RangePlan) (front : Front) → MayRead read → IsReadAhead read rest prepared
+    → IsPlanOf plan read prepared.schema → option_copied plan.options.null_values ≡ prepared.null_values → HaveDistinctNames prepared.schema → kept ≡ drop prepared.start rest
+    → length rest + length bytes ≤ 2 ^ 36
+    → IsFrontPrinted plan prepared.schema (cell_options write.serialize_options) (kept ++ bytes) front.end front.rows (concat (map cow_slice_items front.lines.items)) → left ≡ drop front.end (kept ++ bytes)
+    → IsLeftOf plan read prepared.schema write (kept ++ bytes) front left
+left-ahead read write rest kept bytes left prepared plan front may ahead is nulls distinct kept_is within printed left_is =
+    let by = ahead.is bytes in
+    let records = records-ahead prepared.start rest bytes kept ahead.within kept_is in
+    let can = can-ahead read (rest ++ bytes) prepared plan may by is nulls distinct in
+    let small : length (kept ++ bytes) < 2 ^ 64 = omega (arith, ap length records, length-drop prepared.start (rest ++ bytes), length-append rest bytes, within) in
+    is-left-of plan read prepared.schema write (kept ++ bytes) front left (subst (CanReadData plan read prepared.schema) (sym records) can) by.plain small printed left_is

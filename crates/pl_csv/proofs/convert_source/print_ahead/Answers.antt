@@ -1,0 +1,102 @@
+use Rattle.std.proofs.Common.{◌≡◌, List, ◌++◌, ◌+◌, ◌≤◌, ◌^◌, [], length, drop, refl, sym, ◌∙◌, ap, subst, inr, arith}
+use Rattle.std.specs.Prelude.{Ok, Err}
+use Rattle.std.specs.Option.{option_map}
+use Rattle.pl_frame.specs.Schema.{Entry}
+use Rattle.pl_cells.specs.NullValues.{compiled_for}
+use Rattle.pl_read.specs.Projection.{projected}
+use Rattle.pl_csv.specs.Sources.{IsUnprinted}
+use Rattle.pl_csv.specs.Views.{source_view}
+use Rattle.pl_csv.proofs.ConvertLaws.{can-print}
+use Rattle.pl_csv.proofs.SourceLaws.{stopped, come-ahead, skipped, records-ahead, can-ahead, left-ahead, read-or-unread}
+use Rattle.pl_csv.proofs.convert_source.print_ahead.Goals as goal
+
+pub plan_of-plan-requires-clause-places : goal.plan_of-plan-requires-clause-places
+plan_of-plan-requires-clause-places g c =
+    let by = c.requires.ahead.is [] in
+    by.is.places_are ∙ ap (projected c.args.read.now) (sym by.is.schema_is)
+
+pub plan_of-plan-requires-clause-nulls : goal.plan_of-plan-requires-clause-nulls
+plan_of-plan-requires-clause-nulls g c =
+    let by = c.requires.ahead.is [] in
+    by.is.nulls_are ∙ ap (λ (s : List Entry). option_map (λ values. compiled_for values s) c.args.read.now.parse_options.null_values) (sym by.is.schema_is)
+
+pub print_arriving-requires-clause-can : goal.print_arriving-requires-clause-can
+print_arriving-requires-clause-can g c κs within =
+    let read = c.args.read.now in
+    let prepared = c.args.prepared.now in
+    let input = c.args.intake.now.rest.items ++ [] in
+    let plan = c.plan_of-plan.result in
+    let by = c.requires.ahead.is [] in
+    can-print plan read prepared.schema (drop prepared.start input)
+    (can-ahead read input prepared plan c.requires.allowed.allowed by c.plan_of-plan.ensures.plan c.plan_of-plan.ensures.nulls c.plan_of-plan.ensures.distinct) by.plain
+
+pub returns-in-Err-clause-refused : goal.returns-in-Err-clause-refused
+returns-in-Err-clause-refused g c = λ before kept.
+    let read = c.args.read.now in
+    let write = c.args.write.now in
+    let now = source_view (g.So.Source.left c.args.source.now) (g.So.Source.faults c.args.source.now) in
+    let end = source_view (g.So.Source.left c.print_arriving.new.source) (g.So.Source.faults c.print_arriving.new.source) in
+    let why = stopped read write before now end c.args.intake.now.rest.items c.skip.new.self.size (2 ^ 36) c.in-Err.fault kept (c.skip.ensures.size ∙ c.requires.size) refl
+    c.in-Err.ensures.too_long c.in-Err.ensures.failed c.in-Err.ensures.cause in
+    subst (IsUnprinted read write before end) (sym c.unread.ensures) why
+
+pub read_left-requires-clause-left : goal.read_left-requires-clause-left
+read_left-requires-clause-left g c κs within =
+    let rest = c.args.intake.now.rest.items in
+    let prepared = c.args.prepared.now in
+    let kept = c.skip.new.self.rest.items in
+    let arrived = c.in-Ok.ensures.arrived in
+    let kept_is = skipped c.skip.result prepared.start rest kept c.if-is_err.ensures.negation c.skip.ensures.rest in
+    let small : length rest + length arrived.bytes ≤ 2 ^ 36 = omega (arith, arrived.within, c.skip.ensures.size, c.requires.size) in
+    let left : c.deref.result.now ≡ drop c.in-Ok.arrived.front.end (kept ++ arrived.bytes) = c.deref.ensures.value ∙ arrived.left in (
+      kept ++ arrived.bytes,
+      left-ahead c.args.read.now c.args.write.now rest kept arrived.bytes c.deref.result.now prepared c.plan_of-plan.result c.in-Ok.arrived.front c.requires.allowed.allowed c.requires.ahead
+          c.plan_of-plan.ensures.plan c.plan_of-plan.ensures.nulls c.plan_of-plan.ensures.distinct kept_is small arrived.front left,
+    )
+
+pub returns-in-Ok-read_left-clause-printed : goal.returns-in-Ok-read_left-clause-printed
+returns-in-Ok-read_left-clause-printed g c = λ before came.
+    let read = c.args.read.now in
+    let write = c.args.write.now in
+    let rest = c.args.intake.now.rest.items in
+    let prepared = c.args.prepared.now in
+    let kept = c.skip.new.self.rest.items in
+    let arrived = c.in-Ok.ensures.arrived in
+    let now = source_view (g.So.Source.left c.args.source.now) (g.So.Source.faults c.args.source.now) in
+    let end = source_view (g.So.Source.left c.print_arriving.new.source) (g.So.Source.faults c.print_arriving.new.source) in
+    let kept_is = skipped c.skip.result prepared.start rest kept c.if-is_err.ensures.negation c.skip.ensures.rest in
+    let small : length rest + length arrived.bytes ≤ 2 ^ 36 = omega (arith, arrived.within, c.skip.ensures.size, c.requires.size) in
+    let left : c.deref.result.now ≡ drop c.in-Ok.arrived.front.end (kept ++ arrived.bytes) = c.deref.ensures.value ∙ arrived.left in
+    let is = left-ahead read write rest kept arrived.bytes c.deref.result.now prepared c.plan_of-plan.result c.in-Ok.arrived.front c.requires.allowed.allowed c.requires.ahead
+    c.plan_of-plan.ensures.plan c.plan_of-plan.ensures.nulls c.plan_of-plan.ensures.distinct kept_is small arrived.front left in
+    let records = kept ++ arrived.bytes in
+    let input = rest ++ arrived.bytes in (
+      input,
+      come-ahead before now end rest arrived.bytes (length rest) (2 ^ 36) came refl refl arrived.came arrived.end small,
+      read-or-unread read write input records prepared (Ok c.in-Ok-read_left.printed) c.requires.allowed (c.requires.ahead.is arrived.bytes)
+          (records-ahead prepared.start rest arrived.bytes kept c.requires.ahead.within kept_is) (c.in-Ok-read_left.ensures.text records is) (c.in-Ok-read_left.ensures.sound records is) tt,
+    )
+
+pub returns-clause-refused : goal.returns-clause-refused
+returns-clause-refused g c = λ before came.
+    let read = c.args.read.now in
+    let write = c.args.write.now in
+    let rest = c.args.intake.now.rest.items in
+    let prepared = c.args.prepared.now in
+    let kept = c.skip.new.self.rest.items in
+    let arrived = c.in-Ok.ensures.arrived in
+    let now = source_view (g.So.Source.left c.args.source.now) (g.So.Source.faults c.args.source.now) in
+    let end = source_view (g.So.Source.left c.print_arriving.new.source) (g.So.Source.faults c.print_arriving.new.source) in
+    let kept_is = skipped c.skip.result prepared.start rest kept c.if-is_err.ensures.negation c.skip.ensures.rest in
+    let small : length rest + length arrived.bytes ≤ 2 ^ 36 = omega (arith, arrived.within, c.skip.ensures.size, c.requires.size) in
+    let left : c.deref.result.now ≡ drop c.in-Ok.arrived.front.end (kept ++ arrived.bytes) = c.deref.ensures.value ∙ arrived.left in
+    let is = left-ahead read write rest kept arrived.bytes c.deref.result.now prepared c.plan_of-plan.result c.in-Ok.arrived.front c.requires.allowed.allowed c.requires.ahead
+    c.plan_of-plan.ensures.plan c.plan_of-plan.ensures.nulls c.plan_of-plan.ensures.distinct kept_is small arrived.front left in
+    let records = kept ++ arrived.bytes in
+    let input = rest ++ arrived.bytes in
+    inr (
+      input,
+      come-ahead before now end rest arrived.bytes (length rest) (2 ^ 36) came refl refl arrived.came arrived.end small,
+      read-or-unread read write input records prepared (Err c.in-Err-read_left.fault) c.requires.allowed (c.requires.ahead.is arrived.bytes)
+          (records-ahead prepared.start rest arrived.bytes kept c.requires.ahead.within kept_is) tt tt (c.in-Err-read_left.ensures.refused records is),
+    )

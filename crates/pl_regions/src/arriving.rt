@@ -1,0 +1,506 @@
+//! The records of a source, read and printed by workers: each text is printed while those behind it are read.
+ghost use Rattle.std.specs.Prelude.{◌≡◌, ◌++◌, ◌<◌, ◌≤◌, true, All, IfOk, IfSome, IsErrOf, drop, length, map};
+ghost use Rattle.std.specs.Io.KnownBytes.{IsAtEnd};
+ghost use Rattle.std.specs.List.{concat};
+ghost use Rattle.std.specs.Thread.{IsSync};
+ghost use Rattle.pl_frame.specs.Causes.{Rose};
+ghost use Rattle.pl_write.specs.Options.{cell_options};
+ghost use Rattle.pl_verbatim.specs.Printing.{CanPrint, IsFrontPrinted};
+ghost use Rattle.std.specs.Cow.{cow_slice_items};
+ghost use Rattle.pl_verbatim.specs.Verbatim.{IsVerbatimOf};
+ghost use Rattle.pl_regions.specs.Arriving.{AreSetIn, IsTaken, HasArrived};
+ghost use Rattle.pl_regions.specs.Intake.{HasGiven, IsTooLong, HasStopped};
+ghost use Rattle.pl_regions.specs.Regions.{ArePlaced, IsRegionOf};
+
+use crate::front::{Front, front_of, make_room};
+use crate::intake::Intake;
+use crate::region::Region;
+use crate::taken::Taken;
+use crate::taking::{empty_places, put_regions};
+use pl_frame::read_all::ReadAllFault;
+use pl_frame::schema::Schema;
+use pl_frame::source::Source;
+use pl_rows::plan::RangePlan;
+use pl_verbatim::verbatim::Verbatim;
+use pl_write::options::SerializeOptions;
+use pl_write::row_printer::RowPrinter;
+use std::alloc::{AllocError, Global};
+use std::sync::atomic::{AtomicUsize, Ordering};
+use std::sync::{Mutex, OnceLock, OnceToken, Wait};
+use std::thread;
+use std::thread::Threads;
+
+// So many texts there are at most.
+const CELLS: usize = 1 << 12;
+
+// So many texts have one length, about; those behind them are longer by a piece.
+const ALIKE: usize = 16;
+
+// So often a worker looks for a text before it sleeps until it is there.
+const LOOKS: usize = 64;
+
+/// What came of a source and was printed: the front of the records, and what is left of them behind it.
+#[derive(Drop)]
+pub struct Arrived<'a> {
+    pub front: Front<'a>,
+    pub left: Vec<u8>,
+}
+
+/// Cells for the texts of a source, each of which is written once. Refuses want of memory.
+pub fn make_cells(alloc: Global) -> Result<Vec<OnceLock<Vec<u8>>>, AllocError> {
+    let mut cells = Vec::new(alloc);
+    for _ in 0..CELLS {
+        cells.push(OnceLock::new())?;
+    }
+    Ok(cells)
+}
+
+// How long the text of a place is, about.
+fn text_size(piece_size: usize, place: usize) -> usize {
+    piece_size.saturating_mul(place / ALIKE + 1)
+}
+
+// Puts memory for a text there, where there is less than for each worker. Its pages are written before, so that who reads into it does not
+// wait for them.
+fn make_rooms<W: Wait>(
+    rt: &W,
+    alloc: Global,
+    rooms: &Mutex<Vec<Vec<u8>>>,
+    workers: usize,
+    size: usize,
+) {
+    if rooms.lock(rt).len() >= workers {
+        return;
+    }
+    let mut room = Vec::new(alloc);
+    if room.resize(size, 0).is_ok() {
+        let _ = rooms.lock(rt).push(room);
+    }
+}
+
+// Reads the texts of a source into cells, one after another, until there are no more. Answers what shows the texts.
+fn read_texts<'a, W: Wait, So: Source>(
+    rt: &W,
+    alloc: Global,
+    cells: &'a [OnceLock<Vec<u8>>],
+    rooms: &Mutex<Vec<Vec<u8>>>,
+    intake: &mut Intake,
+    source: &mut So,
+    limit: usize,
+    plan: &RangePlan<'_>,
+    piece_size: usize,
+) -> Result<Vec<OnceToken<'a, Vec<u8>>>, ReadAllFault>
+    requires within { intake.old.size ≤ limit }
+    requires ended { intake.old.is_ended ≡ true → IsAtEnd (So.left source.old) }
+    ensures set { IfOk result (λ tokens. AreSetIn cells.now tokens.items) }
+    ensures given { IfOk result (λ tokens. HasGiven (So.left source.old) (So.left source.new) limit intake.old intake.new (concat (map (λ token. token.value.items) tokens.items))) }
+    ensures too_long { IsErrOf result ReadAllFault.TooLong → IsTooLong (So.left source.old) (So.left source.new) limit intake.old.size }
+    ensures failed { IsErrOf result ReadAllFault.Source → HasStopped (So.left source.old) (So.left source.new) limit intake.old.size }
+    ensures cause { IsErrOf result ReadAllFault.Source → Rose (So.faults source.old) (So.faults source.new) }
+    ensures later { So.faults source.old ≤ So.faults source.new }
+{
+    let dialect = &plan.dialect;
+    let width = plan.projection.width;
+    let mut tokens = Vec::new(alloc);
+    for place in 0..cells.len() {
+        if intake.is_ended() {
+            return Ok(tokens);
+        }
+        let room = match rooms.lock(rt).pop() {
+            Some(room) => room,
+            None => Vec::new(alloc),
+        };
+        let size = text_size(piece_size, place);
+        let text = intake.next_text(source, room, size, limit, dialect, width)?;
+        match cells[place].set(rt, text) {
+            Ok(token) => {
+                if tokens.push(token).is_err() {
+                    return Err(ReadAllFault::OutOfMemory);
+                }
+            }
+            Err(text) => {
+                if intake.put_back(text).is_err() {
+                    return Err(ReadAllFault::OutOfMemory);
+                }
+                return Ok(tokens);
+            }
+        }
+    }
+    Ok(tokens)
+}
+
+// Writes no text into so many cells from a place on: who takes one of them takes no more. A cell that was written stays as it is.
+fn close_cells<W: Wait>(
+    rt: &W,
+    alloc: Global,
+    cells: &[OnceLock<Vec<u8>>],
+    from: usize,
+    count: usize,
+) {
+    for place in from..from.saturating_add(count).min(cells.len()) {
+        let _ = cells[place].set(rt, Vec::new(alloc));
+    }
+}
+
+// What shows the text of a cell, as soon as it is there.
+fn wait_text<'a, W: Wait>(rt: &W, cell: &'a OnceLock<Vec<u8>>) -> Option<OnceToken<'a, Vec<u8>>>
+    ensures { IfSome result (λ token. token.of ≡ cell.now.id) }
+{
+    for _ in 0..LOOKS {
+        if let Some(token) = cell.witness() {
+            return Some(token);
+        }
+        thread::yield_now();
+    }
+    cell.wait(rt);
+    cell.witness()
+}
+
+// The regions that one worker takes, one after another, until one has no text or memory is wanting. It prints each, as far as it goes, and
+// makes room for texts that come later.
+fn take_texts<'a, W: Wait>(
+    rt: &W,
+    alloc: Global,
+    cells: &'a [OnceLock<Vec<u8>>],
+    rooms: &Mutex<Vec<Vec<u8>>>,
+    next: &AtomicUsize,
+    workers: usize,
+    schema: &Schema,
+    plan: &RangePlan<'_>,
+    options: &SerializeOptions,
+    verbatim: &Verbatim,
+    piece_size: usize,
+) -> Vec<Taken<'a>>
+    requires can { CanPrint plan.now schema.now }
+    requires verbatim { IsVerbatimOf plan.now schema.now (cell_options options.now) verbatim.now }
+    requires size { 0 < piece_size }
+    ensures { All (IsTaken plan.now schema.now (cell_options options.now) cells.now) result.items }
+{
+    let mut taken = Vec::new(alloc);
+    let Ok(mut printer) = RowPrinter::new(alloc) else {
+        return taken;
+    };
+    for _ in 0..cells.len() {
+        let place = next.fetch_add(1, Ordering::SeqCst);
+        if place >= cells.len() {
+            return taken;
+        }
+        make_rooms(rt, alloc, rooms, workers, text_size(piece_size, place));
+        let Some(token) = wait_text(rt, &cells[place]) else {
+            return taken;
+        };
+        let text = cells[place].value(&token).as_slice();
+        if text.is_empty() {
+            return taken;
+        }
+        let region = Region::printed(
+            alloc,
+            place,
+            text,
+            &mut printer,
+            schema,
+            plan,
+            options,
+            verbatim,
+            piece_size,
+        );
+        if taken.push(Taken { region, token }).is_err() {
+            return taken;
+        }
+    }
+    taken
+}
+
+// The texts of the first cells, which these tokens show.
+fn texts_of<'a>(
+    alloc: Global,
+    cells: &'a [OnceLock<Vec<u8>>],
+    tokens: &Vec<OnceToken<'a, Vec<u8>>>,
+) -> Result<Vec<&'a [u8]>, AllocError>
+    requires { AreSetIn cells.now tokens.now.items }
+    ensures { IfOk result (λ texts. map (λ text. text.now) texts.items ≡ map (λ token. token.value.items) tokens.now.items) }
+{
+    let mut texts = Vec::new(alloc);
+    for place in 0..tokens.len().min(cells.len()) {
+        texts.push(cells[place].value(&tokens[place]).as_slice())?;
+    }
+    Ok(texts)
+}
+
+// Regions that were taken, as regions of the texts that these tokens show.
+fn settle<'a>(
+    alloc: Global,
+    cells: &'a [OnceLock<Vec<u8>>],
+    tokens: &Vec<OnceToken<'a, Vec<u8>>>,
+    all: Vec<Taken<'a>>,
+    schema: &Schema,
+    plan: &RangePlan<'_>,
+    options: &SerializeOptions,
+) -> Result<Vec<Region<'a>>, AllocError>
+    requires set { AreSetIn cells.now tokens.now.items }
+    requires taken { All (IsTaken plan.now schema.now (cell_options options.now) cells.now) all.items }
+    ensures { IfOk result (λ regions. All (IsRegionOf plan.now schema.now (cell_options options.now) (map (λ token. token.value.items) tokens.now.items)) regions.items) }
+{
+    let mut regions = Vec::new(alloc);
+    for taken in all {
+        let Taken { region, token } = taken;
+        if region.place < tokens.len() {
+            tokens[region.place].agrees(&token);
+            regions.push(region)?;
+        }
+    }
+    Ok(regions)
+}
+
+// What is left of texts, and of what stands behind them, from a place on.
+fn left_behind(
+    alloc: Global,
+    texts: &[&[u8]],
+    rest: &[u8],
+    from: usize,
+) -> Result<Vec<u8>, AllocError>
+    requires { from ≤ length (concat (map (λ text. text.now) texts.now)) }
+    ensures { IfOk result (λ left. left.items ≡ drop from (concat (map (λ text. text.now) texts.now) ++ rest.now)) }
+{
+    let mut left = Vec::new(alloc);
+    let mut from = from;
+    for text in texts {
+        if from < text.len() {
+            left.extend_from_slice(&text[from..])?;
+            from = 0;
+        } else {
+            from -= text.len();
+        }
+    }
+    left.extend_from_slice(rest)?;
+    Ok(left)
+}
+
+// The front of the texts that these tokens show, whose regions were taken, and what is left of them and of what stands behind them.
+fn front_arrived<'a>(
+    alloc: Global,
+    cells: &'a [OnceLock<Vec<u8>>],
+    tokens: &Vec<OnceToken<'a, Vec<u8>>>,
+    all: Vec<Vec<Taken<'a>>>,
+    rest: &[u8],
+    schema: &Schema,
+    plan: &RangePlan<'_>,
+    options: &SerializeOptions,
+) -> Result<Arrived<'a>, AllocError>
+    requires can { CanPrint plan.now schema.now }
+    requires set { AreSetIn cells.now tokens.now.items }
+    requires taken { All (λ taken. All (IsTaken plan.now schema.now (cell_options options.now) cells.now) taken.items) all.items }
+    ensures front { IfOk result (λ arrived. IsFrontPrinted plan.now schema.now (cell_options options.now)
+        (concat (map (λ token. token.value.items) tokens.now.items) ++ rest.now) arrived.front.end arrived.front.rows (concat (map cow_slice_items arrived.front.lines.items))) }
+    ensures left { IfOk result (λ arrived. arrived.left.items ≡ drop arrived.front.end (concat (map (λ token. token.value.items) tokens.now.items) ++ rest.now)) }
+{
+    let texts = texts_of(alloc, cells, tokens)?;
+    let mut places = empty_places(alloc, texts.len())?;
+    for taken in all {
+        let regions = settle(alloc, cells, tokens, taken, schema, plan, options)?;
+        put_regions(&mut places, regions);
+    }
+    let front = front_of(alloc, &texts, places, schema, plan, options)?;
+    let end = front.end;
+    match left_behind(alloc, &texts, rest, end) {
+        Ok(left) => Ok(Arrived { front, left }),
+        Err(fault) => Err(fault),
+    }
+}
+
+// The regions that workers take, one after another each, until there are no more.
+fn take_each<'a, W: Threads + Wait + Sync>(
+    rt: &W,
+    alloc: Global,
+    cells: &'a [OnceLock<Vec<u8>>],
+    rooms: &Mutex<Vec<Vec<u8>>>,
+    next: &AtomicUsize,
+    workers: usize,
+    schema: &Schema,
+    plan: &RangePlan<'_>,
+    options: &SerializeOptions,
+    verbatim: &Verbatim,
+    piece_size: usize,
+) -> Result<Vec<Vec<Taken<'a>>>, AllocError>
+    requires workers { 0 < workers }
+    requires can { CanPrint plan.now schema.now }
+    requires verbatim { IsVerbatimOf plan.now schema.now (cell_options options.now) verbatim.now }
+    requires size { 0 < piece_size }
+    ensures { IfOk result (λ all. All (λ taken. All (IsTaken plan.now schema.now (cell_options options.now) cells.now) taken.items) all.items) }
+{
+    let take = |_worker: usize| -> Vec<Taken<'_>>
+        requires can { CanPrint plan.now schema.now }
+        requires verbatim { IsVerbatimOf plan.now schema.now (cell_options options.now) verbatim.now }
+        requires size { 0 < piece_size }
+        ensures { All (IsTaken plan.entry.now schema.entry.now (cell_options options.entry.now) cells.entry.now) result.items }
+    {
+        take_texts(
+            rt, alloc, cells, rooms, next, workers, schema, plan, options, verbatim, piece_size,
+        )
+    };
+    thread::map_indices(rt, alloc, workers - 1, &take)
+}
+
+// What shows the texts that were read, and the regions that were taken of them by who read.
+#[derive(Drop)]
+struct OwnRead<'a> {
+    tokens: Vec<OnceToken<'a, Vec<u8>>>,
+    taken: Vec<Taken<'a>>,
+}
+
+// Reads the texts of a source, tells the workers that there are no more, and takes regions as they do.
+fn read_and_take<'a, W: Wait, So: Source>(
+    rt: &W,
+    alloc: Global,
+    cells: &'a [OnceLock<Vec<u8>>],
+    rooms: &Mutex<Vec<Vec<u8>>>,
+    next: &AtomicUsize,
+    workers: usize,
+    intake: &mut Intake,
+    source: &mut So,
+    limit: usize,
+    schema: &Schema,
+    plan: &RangePlan<'_>,
+    options: &SerializeOptions,
+    verbatim: &Verbatim,
+    piece_size: usize,
+) -> Result<OwnRead<'a>, ReadAllFault>
+    requires can { CanPrint plan.now schema.now }
+    requires verbatim { IsVerbatimOf plan.now schema.now (cell_options options.now) verbatim.now }
+    requires size { 0 < piece_size }
+    requires within { intake.old.size ≤ limit }
+    requires ended { intake.old.is_ended ≡ true → IsAtEnd (So.left source.old) }
+    ensures set { IfOk result (λ read. AreSetIn cells.now read.tokens.items) }
+    ensures given { IfOk result (λ read. HasGiven (So.left source.old) (So.left source.new) limit intake.old intake.new (concat (map (λ token. token.value.items) read.tokens.items))) }
+    ensures taken { IfOk result (λ read. All (IsTaken plan.now schema.now (cell_options options.now) cells.now) read.taken.items) }
+    ensures too_long { IsErrOf result ReadAllFault.TooLong → IsTooLong (So.left source.old) (So.left source.new) limit intake.old.size }
+    ensures failed { IsErrOf result ReadAllFault.Source → HasStopped (So.left source.old) (So.left source.new) limit intake.old.size }
+    ensures cause { IsErrOf result ReadAllFault.Source → Rose (So.faults source.old) (So.faults source.new) }
+    ensures later { So.faults source.old ≤ So.faults source.new }
+{
+    match read_texts(
+        rt, alloc, cells, rooms, intake, source, limit, plan, piece_size,
+    ) {
+        Ok(tokens) => {
+            close_cells(rt, alloc, cells, tokens.len(), workers);
+            let taken = take_texts(
+                rt, alloc, cells, rooms, next, workers, schema, plan, options, verbatim, piece_size,
+            );
+            Ok(OwnRead { tokens, taken })
+        }
+        Err(fault) => {
+            close_cells(rt, alloc, cells, 0, cells.len());
+            Err(fault)
+        }
+    }
+}
+
+// Reads the texts of a source while workers take regions. Answers what shows the texts, and the regions that each took.
+fn read_beside<'a, W: Threads + Wait + Sync, So: Source>(
+    rt: &W,
+    alloc: Global,
+    cells: &'a [OnceLock<Vec<u8>>],
+    workers: usize,
+    intake: &mut Intake,
+    source: &mut So,
+    limit: usize,
+    schema: &Schema,
+    plan: &RangePlan<'_>,
+    options: &SerializeOptions,
+    verbatim: &Verbatim,
+    piece_size: usize,
+) -> Result<(Vec<OnceToken<'a, Vec<u8>>>, Vec<Vec<Taken<'a>>>), ReadAllFault>
+    requires workers { 0 < workers }
+    requires can { CanPrint plan.now schema.now }
+    requires verbatim { IsVerbatimOf plan.now schema.now (cell_options options.now) verbatim.now }
+    requires size { 0 < piece_size }
+    requires within { intake.old.size ≤ limit }
+    requires ended { intake.old.is_ended ≡ true → IsAtEnd (So.left source.old) }
+    ensures set { IfOk result (λ read. AreSetIn cells.now read.0.items) }
+    ensures given { IfOk result (λ read. HasGiven (So.left source.old) (So.left source.new) limit intake.old intake.new (concat (map (λ token. token.value.items) read.0.items))) }
+    ensures taken { IfOk result (λ read. All (λ taken. All (IsTaken plan.now schema.now (cell_options options.now) cells.now) taken.items) read.1.items) }
+    ensures too_long { IsErrOf result ReadAllFault.TooLong → IsTooLong (So.left source.old) (So.left source.new) limit intake.old.size }
+    ensures failed { IsErrOf result ReadAllFault.Source → HasStopped (So.left source.old) (So.left source.new) limit intake.old.size }
+    ensures cause { IsErrOf result ReadAllFault.Source → Rose (So.faults source.old) (So.faults source.new) }
+    ensures later { So.faults source.old ≤ So.faults source.new }
+{
+    let rooms: Mutex<Vec<Vec<u8>>> = Mutex::new(Vec::new(alloc));
+    let next = AtomicUsize::new(0);
+    let mut take = ||
+        requires sync { IsSync W.row }
+        requires workers { 0 < workers }
+        requires can { CanPrint plan.now schema.now }
+        requires verbatim { IsVerbatimOf plan.now schema.now (cell_options options.now) verbatim.now }
+        requires size { 0 < piece_size }
+    {
+        take_each(
+            rt, alloc, cells, &rooms, &next, workers, schema, plan, options, verbatim, piece_size,
+        )
+    };
+    let mut read = ||
+        requires can { CanPrint plan.now schema.now }
+        requires verbatim { IsVerbatimOf plan.now schema.now (cell_options options.now) verbatim.now }
+        requires size { 0 < piece_size }
+        requires within { intake.now.size ≤ limit }
+        requires ended { intake.now.is_ended ≡ true → IsAtEnd (So.left source.now) }
+    {
+        read_and_take(
+            rt, alloc, cells, &rooms, &next, workers, intake, source, limit, schema, plan, options,
+            verbatim, piece_size,
+        )
+    };
+    let (printed, read) = thread::join_mut(rt, &mut take, &mut read);
+    let OwnRead { tokens, taken } = read?;
+    let Ok(mut all) = printed else {
+        return Err(ReadAllFault::OutOfMemory);
+    };
+    if all.push(taken).is_err() {
+        return Err(ReadAllFault::OutOfMemory);
+    }
+    Ok((tokens, all))
+}
+
+/// Reads all that is left of a source, and prints the records meanwhile: the caller reads text by text, each up to where rows seem to begin,
+/// and the other workers print each as soon as it is read, as the caller does once all are read. What was kept of the source before stands in
+/// front of them. The front of the records is what was printed without a gap, as by `print_front`; what is left behind it is copied.
+///
+/// Refuses as `read_all` does, with those bytes that came before counted in.
+pub fn print_arriving<'a, W: Threads + Wait + Sync, So: Source>(
+    rt: &W,
+    alloc: Global,
+    workers: usize,
+    cells: &'a [OnceLock<Vec<u8>>],
+    intake: &mut Intake,
+    source: &mut So,
+    limit: usize,
+    schema: &Schema,
+    plan: &RangePlan<'_>,
+    options: &SerializeOptions,
+    piece_size: usize,
+) -> Result<Arrived<'a>, ReadAllFault>
+    requires workers { 0 < workers }
+    requires can { CanPrint plan.now schema.now }
+    requires size { 0 < piece_size }
+    requires within { intake.old.size ≤ limit }
+    requires ended { intake.old.is_ended ≡ true → IsAtEnd (So.left source.old) }
+    ensures arrived { IfOk result (HasArrived plan.now schema.now (cell_options options.now) (So.left source.old) (So.left source.new) limit intake.old) }
+    ensures too_long { IsErrOf result ReadAllFault.TooLong → IsTooLong (So.left source.old) (So.left source.new) limit intake.old.size }
+    ensures failed { IsErrOf result ReadAllFault.Source → HasStopped (So.left source.old) (So.left source.new) limit intake.old.size }
+    ensures cause { IsErrOf result ReadAllFault.Source → Rose (So.faults source.old) (So.faults source.new) }
+    ensures later { So.faults source.old ≤ So.faults source.new }
+{
+    make_room(alloc);
+    let Ok(verbatim) = Verbatim::of(alloc, schema, plan, options) else {
+        return Err(ReadAllFault::OutOfMemory);
+    };
+    let (tokens, all) = read_beside(
+        rt, alloc, cells, workers, intake, source, limit, schema, plan, options, &verbatim,
+        piece_size,
+    )?;
+    intake.read_on(source, limit)?;
+    let rest = &intake.rest;
+    match front_arrived(alloc, cells, &tokens, all, rest, schema, plan, options) {
+        Ok(arrived) => Ok(arrived),
+        Err(_) => Err(ReadAllFault::OutOfMemory),
+    }
+}

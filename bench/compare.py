@@ -56,13 +56,23 @@ def python_with_pandas():
     return None
 
 
+def own_program():
+    """Returns the program that ./pl_csv runs, which it makes if need be. It compares the sources each time, which takes longer than a small transcode."""
+    subprocess.run([f"{TOP}/pl_csv", "--schema", "a:int64"], stdin=subprocess.DEVNULL, stdout=subprocess.DEVNULL, check=True)
+    is_released = ["sha256sum", "--check", "--strict", "--status", "release/sources.sha256", "release/pl_csv-x86_64-linux.sha256"]
+    return f"{TOP}/crates/pl_csv_main/out/pl_csv_main" if subprocess.run(is_released, cwd=TOP).returncode else f"{TOP}/release/pl_csv-x86_64-linux"
+
+
 PANDAS = python_with_pandas()
+# The programs that a run finds or makes, by name.
+MADE = {}
 # Each task: its name, whether it is there, its command (source and target are files; None for standard input and output), and what it checks.
 TASKS = [
-    ("pl_csv", lambda: True, lambda w, i, o: ([f"{TOP}/pl_csv", "--schema", ours(w), "--workers", "1"], i, o), "types as told; every cell, date and UTF-8 text is checked"),
-    ("pl_csv, 4 workers", lambda: True, lambda w, i, o: ([f"{TOP}/pl_csv", "--schema", ours(w), "--workers", "4"], i, o), "the same; four workers read and print"),
-    ("pl_csv, as `;`", lambda: True, lambda w, i, o: ([f"{TOP}/pl_csv", "--schema", ours(w), "--workers", "1", "--out-sep", ";"], i, o), "the same as pl_csv; semicolons are written, so each cell is read to a value and printed"),
-    ("pl_csv, no schema", lambda: True, lambda w, i, o: ([f"{TOP}/pl_csv", "--dates", "--workers", "1"], i, o), "types by a sample; every cell and UTF-8 text is checked"),
+    ("pl_csv", lambda: True, lambda w, i, o: ([MADE["pl_csv"], "--schema", ours(w), "--workers", "1"], i, o), "types as told; every cell, date and UTF-8 text is checked"),
+    ("pl_csv, 4 workers", lambda: True, lambda w, i, o: ([MADE["pl_csv"], "--schema", ours(w), "--workers", "4"], i, o), "the same; four workers read and print"),
+    ("pl_csv, as `;`", lambda: True, lambda w, i, o: ([MADE["pl_csv"], "--schema", ours(w), "--workers", "1", "--out-sep", ";"], i, o), "the same as pl_csv; semicolons are written, so each cell is read to a value and printed"),
+    ("pl_csv, no schema", lambda: True, lambda w, i, o: ([MADE["pl_csv"], "--dates", "--workers", "1"], i, o), "types by a sample; every cell and UTF-8 text is checked"),
+    ("copy", lambda: True, lambda w, i, o: ([MADE["copy"]], i, o), "nothing: the input is read to its end, and then written"),
     ("data.table", has_data_table, lambda w, i, o: (["Rscript", f"{HERE}/peers/datatable.R", i, o, neutral(w)], None, None), "types by a sample; decimals as doubles; doubled quotes stay"),
     ("pandas", lambda: PANDAS, lambda w, i, o: ([PANDAS, f"{HERE}/peers/pandas_peer.py", i, o, neutral(w)], None, None), "types as told; decimals as doubles"),
     ("sqlite3", lambda: shutil.which("sqlite3"), lambda w, i, o: ([f"{HERE}/peers/sqlite.sh", i, o, neutral(w)], None, None), "refuses nothing; dates stay texts"),
@@ -128,13 +138,15 @@ def page(workloads, tasks, sizes, best, rounds):
     lines += ["", "The time of R and of pandas is without the start of the language; that of the others is the whole process. Programs that are not in the table were not run. "
               "Without a schema and with dates tried, `pl_csv` takes decimals for texts, since it infers none.", "",
               "The rows of mixed, ints, strings and wide are written as they were read, and of quoted and taxi what is written stands in the fields but for zeros. So `pl_csv` tests each cell and copies it "
-              "([workers.md](workers.md#rows-that-are-written-as-they-were-read)). Where it writes another separator it reads and prints each cell: that is what a conversion costs that changes values."]
+              "([workers.md](workers.md#rows-that-are-written-as-they-were-read)). Where it writes another separator it reads and prints each cell: that is what a conversion costs that changes values.", "",
+              "`pl_csv` writes nothing before it knows that all rows are sound, so no number of workers makes it faster than `copy` by much: that one reads, and then writes, and does nothing else. "
+              "Several workers save what lies between, and have memory ready that `copy` has to wait for."]
     return "\n".join(lines) + "\n"
 
 
 def plot(workloads, tasks, sizes, best):
     """Returns docs/speed.svg: a group of bars for each workload."""
-    colors = ["#1b6ca8", "#0b3d63", "#4f8f8b", "#7fb2d6", "#c8553d", "#e0a458", "#8a8d91", "#b7c0a6", "#d8c4b6"]
+    colors = ["#1b6ca8", "#0b3d63", "#4f8f8b", "#7fb2d6", "#c8553d", "#e0a458", "#8a8d91", "#b7c0a6", "#d8c4b6", "#5d4e6d"]
     bar, gap, left, width = 13, 16, 70, 640
     most = max(sizes[at[1]] / 1e6 / found[0] for at, found in best.items() if found)
     rows, y = [], 40
@@ -166,12 +178,15 @@ def main():
     given = words.parse_args()
     workloads = given.workloads.split(",")
     tasks = [task for task in TASKS if task[1]()]
+    MADE["pl_csv"] = own_program()
     with tempfile.TemporaryDirectory(dir=given.data) as data:
-        subprocess.run(["cc", "-O2", "-o", f"{data}/make_data", f"{HERE}/make_data.c"], check=True)
+        for name, source in ("make_data", "make_data.c"), ("copy", "peers/copy.c"):
+            MADE[name] = f"{data}/{name}"
+            subprocess.run(["cc", "-O2", "-o", MADE[name], f"{HERE}/{source}"], check=True)
         sizes = {}
         for it in workloads:
             with open(f"{data}/{it}.csv", "wb") as made:
-                subprocess.run([f"{data}/make_data", it, "--mb", str(given.mb)], stdout=made, check=True)
+                subprocess.run([MADE["make_data"], it, "--mb", str(given.mb)], stdout=made, check=True)
             sizes[it] = os.path.getsize(f"{data}/{it}.csv")
         best = measured(workloads, tasks, data, given.rounds, given.patience)
     text = page(workloads, tasks, sizes, best, given.rounds)

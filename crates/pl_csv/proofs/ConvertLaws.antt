@@ -200,13 +200,3 @@ printed-or-unread read schema input write (Ok printed) schema_is may small text 
     (sym schema_is)
     (λ text none. record { frame = frame_of read (settled_schema read input) input; is = valid-read read (settled_schema read input) input write _ may small none refl; text_is = text }) text none
 printed-or-unread read schema input write (Err refusal) schema_is may small text none fault = unread-late read schema input write refusal may small fault
-
--- all of it was written
-pub written-all : (read : CsvReadOptions) (write : CsvWriterOptions) (input : List ℕ) (printed : Printed) (old now : Option (List ℕ)) → IsPrintedRead read write input printed
-    → Appends old now (printed_text (frame_options write) (names_of printed.rest) (map cow_slice_items printed.lines.items) printed.rest) → IsConverted read write input old now
-written-all read write input printed old now is written = (is.frame, record { is = is.is; written = subst (Appends old now) is.text_is written })
-
--- or a prefix
-pub written-part : (read : CsvReadOptions) (write : CsvWriterOptions) (input : List ℕ) (printed : Printed) (old now : Option (List ℕ)) → IsPrintedRead read write input printed
-    → AppendsPrefix old now (printed_text (frame_options write) (names_of printed.rest) (map cow_slice_items printed.lines.items) printed.rest) → IsCutShort read write input old now
-written-part read write input printed old now is written = record { frame = is.frame; is = is.is; written = subst (AppendsPrefix old now) is.text_is written }

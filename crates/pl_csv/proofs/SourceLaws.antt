@@ -53,36 +53,12 @@ pub kept-again : {U F : Type 0} (put : Result U F) (before now : SourceView) (al
 kept-again (Ok x) before now all items joined items_are is = subst (IsKept before now) (sym items_are) is
 kept-again (Err x) before now all items joined items_are is = absurd (cc)
 
--- and so is how much it is
-pub size-again : {U F : Type 0} (put : Result U F) (size before : ℕ) (all items : List ℕ) → is_ok put ≡ true → OnOk put (items ≡ all) → size ≡ before → before ≡ length all → size ≡ length items
-size-again (Ok x) size before all items joined items_are same is = omega (arith, same, is, ap length items_are)
-size-again (Err x) size before all items joined items_are same is = absurd (cc)
-
 -- what came of a source of which nothing came before
 pub kept-first : (before now : SourceView) (limit : ℕ) (old new : Intake) (text : List ℕ) → old.rest.items ≡ [] → before.faults ≤ now.faults → intake.HasGiven before.left now.left limit old new text
     → IsKept before now (text ++ new.rest.items)
 kept-first before now limit old new text none later given =
     let all : given.bytes ≡ text ++ new.rest.items = ap (λ (l : List ℕ). l ++ given.bytes) (sym none) ∙ given.are in
     record { came = subst (Consumes before.left now.left) all given.gained.came; later = later }
-
--- and what came behind that, and was kept
-pub kept-more : (before now end : SourceView) (limit : ℕ) (old new : Intake) → IsKept before now old.rest.items → now.faults ≤ end.faults → intake.HasGiven now.left end.left limit old new []
-    → IsKept before end new.rest.items
-kept-more before now end limit old new is later given = record {
-  came = subst (Consumes before.left end.left) given.are (Consumes-append before.left now.left end.left old.rest.items given.bytes is.came given.gained.came);
-  later = omega (arith, is.later, later);
-}
-
--- and how much that is
-pub size-more : (before now : Option (List ℕ)) (limit : ℕ) (old new : Intake) → old.size ≡ length old.rest.items → intake.HasGiven before now limit old new [] → new.size ≡ length new.rest.items
-size-more before now limit old new size given = omega (arith, size, given.gained.size_is, length-append old.rest.items given.bytes, ap length given.are)
-
--- and how much
-pub size-first : (before now : SourceView) (limit : ℕ) (old new : Intake) (text : List ℕ) → old.rest.items ≡ [] → old.size ≡ 0 → intake.HasGiven before.left now.left limit old new text
-    → new.size ≡ length (text ++ new.rest.items)
-size-first before now limit old new text none zero given =
-    let all : given.bytes ≡ text ++ new.rest.items = ap (λ (l : List ℕ). l ++ given.bytes) (sym none) ∙ given.are in
-    omega (arith, given.gained.size_is, ap length all)
 
 -- where all came behind what was kept, it is the input
 pub come-whole : (before now end : SourceView) (old new : Intake) (limit : ℕ) → IsKept before now old.rest.items → old.size ≡ length old.rest.items → limit ≡ 2 ^ 36
@@ -102,12 +78,6 @@ come-ahead before now end rest bytes size limit is size_is limit_is came ended w
   within = omega (arith, size_is, within, limit_is, length-append rest bytes);
 }
 
--- what is kept after more came begins with what was put back
-pub longer-more : {U F : Type 0} (put : Result U F) (before now : Option (List ℕ)) (limit : ℕ) (first rest : List ℕ) (old new : Intake) → is_ok put ≡ true → OnOk put (old.rest.items ≡ first ++ rest)
-    → (given : intake.HasGiven before now limit old new []) → new.rest.items ≡ first ++ (rest ++ given.bytes)
-longer-more (Ok x) before now limit first rest old new joined is given = sym given.are ∙ ap (λ (l : List ℕ). l ++ given.bytes) is ∙ append_assoc first rest given.bytes
-longer-more (Err x) before now limit first rest old new joined is given = absurd (cc)
-
 -- what tells the records of an input tells them of one behind it
 pub IsReadAhead-longer : (read : CsvReadOptions) (first more longer : List ℕ) (prepared : Prepared) → longer ≡ first ++ more → IsReadAhead read first prepared → IsReadAhead read longer prepared
 IsReadAhead-longer read first more longer prepared is ahead =
@@ -116,12 +86,7 @@ IsReadAhead-longer read first more longer prepared is ahead =
       is = λ rest. subst (λ input. IsReadBy read input prepared) (sym (append_assoc first more rest)) (ahead.is (more ++ rest));
     })
 
--- what is kept where bytes were skipped
-pub skipped : {U F : Type 0} (skip : Result U F) (start : ℕ) (rest kept : List ℕ) → is_ok skip ≡ true → OnOk skip (kept ≡ drop start rest) → kept ≡ drop start rest
-skipped (Ok x) start rest kept went is = is
-skipped (Err x) start rest kept went is = absurd (cc)
-
--- whose records begin within what was kept
+-- where bytes were skipped, the records begin within what is kept
 pub records-ahead : (start : ℕ) (rest bytes kept : List ℕ) → start ≤ length rest → kept ≡ drop start rest → kept ++ bytes ≡ drop start (rest ++ bytes)
 records-ahead start rest bytes kept inside is = ap (λ (l : List ℕ). l ++ bytes) is ∙ sym (drop-append-le start rest bytes inside)
 

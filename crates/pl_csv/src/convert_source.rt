@@ -23,11 +23,8 @@ use std::alloc::Global;
 use std::sync::{OnceLock, Wait};
 use std::thread::Threads;
 
-// So many bytes are read before it is told what the rows are read by, or a piece, where that is shorter.
+// So many bytes are read before it is told what the rows are read by, or a piece, where that is shorter. An input of no more is read first.
 const FIRST: usize = 1 << 16;
-
-// An input of no more pieces than these is read first: starting workers takes longer than that.
-const FEW: usize = 4;
 
 /// Why what a source gives was not converted.
 #[derive(Debug, Drop)]
@@ -209,8 +206,10 @@ fn convert_ahead<W: Threads + Wait + Sync, So: Source, S: Sink>(
     }
 }
 
-/// Reads the input that a source gives, and converts it: what `convert` does of the input as a whole. Where a schema is given, no lines
-/// are skipped and there are two workers or more, rows are printed while those behind them are read.
+/// Reads the input that a source gives, and converts it: what `convert` does of the input as a whole. Where a front of the input tells what its
+/// rows are read by, they are printed as they come, by the workers beside the one that reads: where a schema without categories is given, no
+/// lines are skipped, no limit and no row index are asked, there are two workers or more, and the rows begin within the first 64 KB and don't
+/// end there.
 ///
 /// Refuses a source that fails, and one that gives more than 2^36 bytes, whatever the input means; then as `convert` does. Before the last
 /// byte came, nothing is written.
@@ -248,14 +247,8 @@ pub fn convert_source<W: Threads + Wait + Sync, So: Source, S: Sink>(
     if intake.put_back(first).is_err() {
         return Err(Unconverted::Polars(PolarsError::OutOfMemory));
     }
-    let few = piece_size_for(read.chunk_size, width).saturating_mul(FEW);
-    if let Err(fault) = intake.read_some(source, LIMIT, few) {
-        return Err(unread(fault));
-    }
-    if !intake.is_ended() {
-        if let Some(prepared) = prepared {
-            return convert_ahead(rt, alloc, &mut intake, &prepared, source, read, write, sink);
-        }
+    if let Some(prepared) = prepared {
+        return convert_ahead(rt, alloc, &mut intake, &prepared, source, read, write, sink);
     }
     convert_whole(rt, alloc, intake, source, read, write, sink)
 }

@@ -1,6 +1,7 @@
 -- Texts that are printed while those behind them are read.
 use Rattle.std.proofs.Common.{◌≡◌, ℕ, ◌+◌, ◌-◌, ◌<◌, ◌≤◌, List, [], ◌∷◌, ◌++◌, length, take, drop, get_or, map, min, Option, Bor, Global, refl, sym, ◌∙◌, ap, subst, arith, add-one, length-append, length-take, length-drop, append_assoc, append-nil, drop-cons}
-use Rattle.std.specs.Prelude.{Vec, slice_range}
+use Rattle.std.specs.Prelude.{Vec, slice_range, true}
+use Rattle.std.specs.Io.KnownBytes.{IsAtEnd}
 use Rattle.std.specs.Cow.{cow_slice_items}
 use Rattle.std.specs.List.{concat}
 use Rattle.std.specs.Sync.OnceLock.{Named}
@@ -14,7 +15,8 @@ use Rattle.pl_frame.proofs.Known.{Consumes-append}
 use Rattle.pl_rows.specs.declared.plan.RangePlan.{RangePlan}
 use Rattle.pl_verbatim.specs.Printing.{IsFrontPrinted}
 use Rattle.pl_regions.specs.Arriving.{AreSetIn, HasArrived}
-use Rattle.pl_regions.specs.Intake.{HasGiven, HasGainedAll, IsTooLong, HasStopped}
+use Rattle.pl_regions.specs.Intake.{HasGiven, HasGainedAll}
+use Rattle.pl_regions.proofs.IntakeLaws.{HasGiven-nothing}
 use Rattle.pl_regions.specs.declared.arriving.Arrived.{Arrived}
 use Rattle.pl_regions.specs.declared.intake.Intake.{Intake}
 
@@ -175,23 +177,54 @@ HasGiven-back before now after limit intake next last kept front text one two re
       ∙ ap (λ l. front ++ l) (two.are ∙ sym rest);
 }
 
--- more bytes came than the limit allows, behind those that were given
-pub IsTooLong-behind : (before now after : Option (List ℕ)) (limit : ℕ) (intake next : Intake) (front : List ℕ) → HasGiven before now limit intake next front → IsTooLong now after limit next.size
-    → IsTooLong before after limit intake.size
-IsTooLong-behind before now after limit intake next front one came = (
-  one.bytes ++ came.0,
-  Consumes-append before now after one.bytes came.0 one.gained.came came.1,
-  omega (arith, came.2, one.gained.size_is, length-append one.bytes came.0),
-)
+-- texts that were read behind others, one after another
+pub record HasRead (before now : Option (List ℕ)) (limit : ℕ) (intake next : Intake) (old tokens : List Token) : Type 0 where
+  pub more : List Token
+  pub are : tokens ≡ old ++ more
+  pub given : HasGiven before now limit intake next (concat (values_of more))
 
--- some bytes came that the limit allows, behind those that were given
-pub HasStopped-behind : (before now after : Option (List ℕ)) (limit : ℕ) (intake next : Intake) (front : List ℕ) → HasGiven before now limit intake next front → HasStopped now after limit next.size
-    → HasStopped before after limit intake.size
-HasStopped-behind before now after limit intake next front one came = (
-  one.bytes ++ came.0,
-  Consumes-append before now after one.bytes came.0 one.gained.came came.1,
-  omega (arith, came.2, one.gained.size_is, length-append one.bytes came.0),
-)
+-- none was read
+pub HasRead-none : (before : Option (List ℕ)) (limit : ℕ) (intake : Intake) (tokens : List Token) → intake.size ≤ limit → (intake.is_ended ≡ true → IsAtEnd before) → HasRead before before limit intake intake tokens tokens
+HasRead-none before limit intake tokens within ended = record {
+  more = [];
+  are = sym (append-nil tokens);
+  given = HasGiven-nothing before limit intake intake [] refl within ended refl;
+}
+
+-- a text more
+pub HasRead-push : (before now after : Option (List ℕ)) (limit : ℕ) (intake next last : Intake) (old tokens : List Token) (token : Token) → HasRead before now limit intake next old tokens
+    → HasGiven now after limit next last token.value.items → HasRead before after limit intake last old (tokens ++ token ∷ [])
+HasRead-push before now after limit intake next last old tokens token read text = record {
+  more = read.more ++ token ∷ [];
+  are = ap (λ l. l ++ token ∷ []) read.are ∙ append_assoc old read.more (token ∷ []);
+  given = subst (HasGiven before after limit intake last) (sym (values-push read.more token))
+      (HasGiven-more before now after limit intake next last (concat (values_of read.more)) token.value.items read.given text);
+}
+
+-- a text that was read and taken back
+pub HasRead-back : (before now after : Option (List ℕ)) (limit : ℕ) (intake next last kept : Intake) (old tokens : List Token) (text : List ℕ) → HasRead before now limit intake next old tokens
+    → HasGiven now after limit next last text → kept.rest.items ≡ text ++ last.rest.items → kept.size ≡ last.size → kept.is_ended ≡ last.is_ended → HasRead before after limit intake kept old tokens
+HasRead-back before now after limit intake next last kept old tokens text read given rest size ended = record {
+  more = read.more;
+  are = read.are;
+  given = HasGiven-back before now after limit intake next last kept (concat (values_of read.more)) text read.given given rest size ended;
+}
+
+-- with those before them, they are all that was given
+pub HasRead-given : (start before now : Option (List ℕ)) (limit : ℕ) (first intake next : Intake) (old tokens : List Token) → HasRead before now limit intake next old tokens
+    → HasGiven start before limit first intake (concat (values_of old)) → HasGiven start now limit first next (concat (values_of tokens))
+HasRead-given start before now limit first intake next old tokens read given =
+    let all : concat (values_of tokens) ≡ concat (values_of old) ++ concat (values_of read.more) =
+    ap (λ l. concat (values_of l)) read.are ∙ ap concat (map-append (λ (token : Token). token.value.items) old read.more) ∙ concat-append (values_of old) (values_of read.more) in
+    subst (HasGiven start now limit first next) (sym all)
+    (HasGiven-more start before now limit first intake next (concat (values_of old)) (concat (values_of read.more)) given read.given)
+
+-- where nothing was shown before, what is shown was given since
+pub HasGiven-first : (before now : Option (List ℕ)) (limit : ℕ) (intake next : Intake) (old tokens : List Token) → old ≡ [] → intake.size ≤ limit → (intake.is_ended ≡ true → IsAtEnd before)
+    → ((start : Option (List ℕ)) (first : Intake) → HasGiven start before limit first intake (concat (values_of old)) → HasGiven start now limit first next (concat (values_of tokens)))
+    → HasGiven before now limit intake next (concat (values_of tokens))
+HasGiven-first before now limit intake next old tokens none within ended given =
+    given before intake (HasGiven-nothing before limit intake intake (concat (values_of old)) refl within ended (sym (ap (λ l. concat (values_of l) ++ intake.rest.items) none)))
 
 -- all bytes came, and the front of them was printed
 pub HasArrived-printed : (plan : RangePlan) (schema : List Entry) (o : WriteOptions) (before now after : Option (List ℕ)) (limit : ℕ) (intake next last : Intake) (front rest : List ℕ) (arrived : Arrived)

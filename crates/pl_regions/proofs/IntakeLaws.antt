@@ -114,12 +114,6 @@ pub HasStopped-behind : (before between now : Option (List ℕ)) (limit : ℕ) (
 HasStopped-behind before between now limit intake next text given stopped =
     (given.bytes ++ stopped.0, Consumes-append before between now given.bytes stopped.0 given.gained.came stopped.1, omega (arith, stopped.2, given.gained.size_is, length-append given.bytes stopped.0))
 
--- no more bytes came
-pub HasStopped-kept : (before between now : Option (List ℕ)) (limit : ℕ) (intake next : Intake) (text : List ℕ) → HasGiven before between limit intake next text
-    → Keeps between now → HasStopped before now limit intake.size
-HasStopped-kept before between now limit intake next text given kept =
-    (given.bytes, Consumes-kept before between now given.bytes given.gained.came kept, omega (arith, given.gained.size_is, given.gained.within))
-
 -- a read brings the end nearer: it tells the end, or brings bytes
 pub nearer : (size more limit : ℕ) (is_ended ends : Bool) → is_ended ≡ false → size ≤ more → more ≤ limit → (ends ≡ false → size < more)
     → cond {A = ℕ} ends 0 1 + (limit - more) < cond {A = ℕ} is_ended 0 1 + (limit - size)

@@ -1,5 +1,6 @@
 //! The records of a source, read and printed by workers: each text is printed while those behind it are read.
-ghost use Rattle.std.specs.Prelude.{◌≡◌, ◌++◌, ◌<◌, ◌≤◌, true, All, IfOk, IfSome, IsErrOf, drop, length, map};
+ghost use Rattle.std.specs.Prelude.{◌≡◌, ◌++◌, ◌<◌, ◌≤◌, ℕ, List, Option, true, All, IfOk, OnOk, IfSome, IsErrOf, drop, length, map};
+ghost use Rattle.pl_regions.specs.declared.intake.Intake.{Intake};
 ghost use Rattle.std.specs.Io.KnownBytes.{IsAtEnd};
 ghost use Rattle.std.specs.List.{concat};
 ghost use Rattle.std.specs.Thread.{IsSync};
@@ -31,10 +32,16 @@ use std::thread;
 use std::thread::Threads;
 
 // So many texts there are at most.
-const CELLS: usize = 1 << 12;
+const CELLS: usize = 1 << 10;
 
-// So many texts have one length, about; those behind them are longer by a piece.
-const ALIKE: usize = 16;
+// So many texts have one length, about; those behind them are twice as long.
+const ALIKE: usize = 80;
+
+// So many texts are read before workers start; they are half as long. Where a source has no more, there are no more workers than texts.
+const FEW: usize = 8;
+
+// So much memory for texts to come is ready at a time, each for one text.
+const ROOMS: usize = 2;
 
 // So often a worker looks for a text before it sleeps until it is there.
 const LOOKS: usize = 64;
@@ -55,21 +62,19 @@ pub fn make_cells(alloc: Global) -> Result<Vec<OnceLock<Vec<u8>>>, AllocError> {
     Ok(cells)
 }
 
-// How long the text of a place is, about.
+// How long the text of a place is, about, in bytes. Those of all places have more bytes than the largest input, where a piece is as long as it
+// is by default.
 fn text_size(piece_size: usize, place: usize) -> usize {
-    piece_size.saturating_mul(place / ALIKE + 1)
+    if place < FEW {
+        return piece_size / 2 + 1;
+    }
+    piece_size.saturating_mul(1 << (place / ALIKE).min(30))
 }
 
-// Puts memory for a text there, where there is less than for each worker. Its pages are written before, so that who reads into it does not
-// wait for them.
-fn make_rooms<W: Wait>(
-    rt: &W,
-    alloc: Global,
-    rooms: &Mutex<Vec<Vec<u8>>>,
-    workers: usize,
-    size: usize,
-) {
-    if rooms.lock(rt).len() >= workers {
+// Puts memory for a text there, where there is not enough ahead. Its pages are written before, so that who reads into it does not wait for
+// them.
+fn make_ahead<W: Wait>(rt: &W, alloc: Global, rooms: &Mutex<Vec<Vec<u8>>>, size: usize) {
+    if rooms.lock(rt).len() >= ROOMS {
         return;
     }
     let mut room = Vec::new(alloc);
@@ -78,22 +83,27 @@ fn make_rooms<W: Wait>(
     }
 }
 
-// Reads the texts of a source into cells, one after another, until there are no more. Answers what shows the texts.
+// Reads texts of a source into cells behind those that hold one, one after another, until so many do or there are no more. Keeps what shows
+// them.
 fn read_texts<'a, W: Wait, So: Source>(
     rt: &W,
     alloc: Global,
     cells: &'a [OnceLock<Vec<u8>>],
     rooms: &Mutex<Vec<Vec<u8>>>,
+    tokens: &mut Vec<OnceToken<'a, Vec<u8>>>,
+    count: usize,
     intake: &mut Intake,
     source: &mut So,
     limit: usize,
     plan: &RangePlan<'_>,
     piece_size: usize,
-) -> Result<Vec<OnceToken<'a, Vec<u8>>>, ReadAllFault>
+) -> Result<(), ReadAllFault>
     requires within { intake.old.size ≤ limit }
     requires ended { intake.old.is_ended ≡ true → IsAtEnd (So.left source.old) }
-    ensures set { IfOk result (λ tokens. AreSetIn cells.now tokens.items) }
-    ensures given { IfOk result (λ tokens. HasGiven (So.left source.old) (So.left source.new) limit intake.old intake.new (concat (map (λ token. token.value.items) tokens.items))) }
+    requires set { AreSetIn cells.now tokens.old.items }
+    ensures set { OnOk result (AreSetIn cells.now tokens.new.items) }
+    ensures given { (before : Option (List ℕ)) (first : Intake) → HasGiven before (So.left source.old) limit first intake.old (concat (map (λ token. token.value.items) tokens.old.items))
+        → OnOk result (HasGiven before (So.left source.new) limit first intake.new (concat (map (λ token. token.value.items) tokens.new.items))) }
     ensures too_long { IsErrOf result ReadAllFault.TooLong → IsTooLong (So.left source.old) (So.left source.new) limit intake.old.size }
     ensures failed { IsErrOf result ReadAllFault.Source → HasStopped (So.left source.old) (So.left source.new) limit intake.old.size }
     ensures cause { IsErrOf result ReadAllFault.Source → Rose (So.faults source.old) (So.faults source.new) }
@@ -101,10 +111,9 @@ fn read_texts<'a, W: Wait, So: Source>(
 {
     let dialect = &plan.dialect;
     let width = plan.projection.width;
-    let mut tokens = Vec::new(alloc);
-    for place in 0..cells.len() {
+    for place in tokens.len()..count.min(cells.len()) {
         if intake.is_ended() {
-            return Ok(tokens);
+            return Ok(());
         }
         let room = match rooms.lock(rt).pop() {
             Some(room) => room,
@@ -122,11 +131,11 @@ fn read_texts<'a, W: Wait, So: Source>(
                 if intake.put_back(text).is_err() {
                     return Err(ReadAllFault::OutOfMemory);
                 }
-                return Ok(tokens);
+                return Ok(());
             }
         }
     }
-    Ok(tokens)
+    Ok(())
 }
 
 // Writes no text into so many cells from a place on: who takes one of them takes no more. A cell that was written stays as it is.
@@ -157,14 +166,13 @@ fn wait_text<'a, W: Wait>(rt: &W, cell: &'a OnceLock<Vec<u8>>) -> Option<OnceTok
 }
 
 // The regions that one worker takes, one after another, until one has no text or memory is wanting. It prints each, as far as it goes, and
-// makes room for texts that come later.
+// while a text is not there it makes room for one that comes later.
 fn take_texts<'a, W: Wait>(
     rt: &W,
     alloc: Global,
     cells: &'a [OnceLock<Vec<u8>>],
     rooms: &Mutex<Vec<Vec<u8>>>,
     next: &AtomicUsize,
-    workers: usize,
     schema: &Schema,
     plan: &RangePlan<'_>,
     options: &SerializeOptions,
@@ -185,7 +193,9 @@ fn take_texts<'a, W: Wait>(
         if place >= cells.len() {
             return taken;
         }
-        make_rooms(rt, alloc, rooms, workers, text_size(piece_size, place));
+        if cells[place].witness().is_none() {
+            make_ahead(rt, alloc, rooms, text_size(piece_size, place));
+        }
         let Some(token) = wait_text(rt, &cells[place]) else {
             return taken;
         };
@@ -308,21 +318,20 @@ fn front_arrived<'a>(
     }
 }
 
-// The regions that workers take, one after another each, until there are no more.
+// The regions that so many workers take, one after another each, until there are no more.
 fn take_each<'a, W: Threads + Wait + Sync>(
     rt: &W,
     alloc: Global,
+    workers: usize,
     cells: &'a [OnceLock<Vec<u8>>],
     rooms: &Mutex<Vec<Vec<u8>>>,
     next: &AtomicUsize,
-    workers: usize,
     schema: &Schema,
     plan: &RangePlan<'_>,
     options: &SerializeOptions,
     verbatim: &Verbatim,
     piece_size: usize,
 ) -> Result<Vec<Vec<Taken<'a>>>, AllocError>
-    requires workers { 0 < workers }
     requires can { CanPrint plan.now schema.now }
     requires verbatim { IsVerbatimOf plan.now schema.now (cell_options options.now) verbatim.now }
     requires size { 0 < piece_size }
@@ -335,27 +344,28 @@ fn take_each<'a, W: Threads + Wait + Sync>(
         ensures { All (IsTaken plan.entry.now schema.entry.now (cell_options options.entry.now) cells.entry.now) result.items }
     {
         take_texts(
-            rt, alloc, cells, rooms, next, workers, schema, plan, options, verbatim, piece_size,
+            rt, alloc, cells, rooms, next, schema, plan, options, verbatim, piece_size,
         )
     };
-    thread::map_indices(rt, alloc, workers - 1, &take)
+    thread::map_indices(rt, alloc, workers, &take)
 }
 
-// What shows the texts that were read, and the regions that were taken of them by who read.
+// Cells, what shows the texts of the first of them, and the regions that were taken by who reads.
 #[derive(Drop)]
-struct OwnRead<'a> {
+struct Reading<'a> {
+    cells: &'a [OnceLock<Vec<u8>>],
     tokens: Vec<OnceToken<'a, Vec<u8>>>,
     taken: Vec<Taken<'a>>,
 }
 
-// Reads the texts of a source, tells the workers that there are no more, and takes regions as they do.
+// Reads the texts of a source, tells so many other workers that there are no more, and takes regions as they do.
 fn read_and_take<'a, W: Wait, So: Source>(
     rt: &W,
     alloc: Global,
-    cells: &'a [OnceLock<Vec<u8>>],
+    others: usize,
+    reading: &mut Reading<'a>,
     rooms: &Mutex<Vec<Vec<u8>>>,
     next: &AtomicUsize,
-    workers: usize,
     intake: &mut Intake,
     source: &mut So,
     limit: usize,
@@ -364,43 +374,139 @@ fn read_and_take<'a, W: Wait, So: Source>(
     options: &SerializeOptions,
     verbatim: &Verbatim,
     piece_size: usize,
-) -> Result<OwnRead<'a>, ReadAllFault>
+) -> Result<(), ReadAllFault>
     requires can { CanPrint plan.now schema.now }
     requires verbatim { IsVerbatimOf plan.now schema.now (cell_options options.now) verbatim.now }
     requires size { 0 < piece_size }
     requires within { intake.old.size ≤ limit }
     requires ended { intake.old.is_ended ≡ true → IsAtEnd (So.left source.old) }
-    ensures set { IfOk result (λ read. AreSetIn cells.now read.tokens.items) }
-    ensures given { IfOk result (λ read. HasGiven (So.left source.old) (So.left source.new) limit intake.old intake.new (concat (map (λ token. token.value.items) read.tokens.items))) }
-    ensures taken { IfOk result (λ read. All (IsTaken plan.now schema.now (cell_options options.now) cells.now) read.taken.items) }
+    requires set { AreSetIn reading.old.cells.now reading.old.tokens.items }
+    ensures set { OnOk result (AreSetIn reading.old.cells.now reading.new.tokens.items) }
+    ensures given { (before : Option (List ℕ)) (first : Intake) → HasGiven before (So.left source.old) limit first intake.old (concat (map (λ token. token.value.items) reading.old.tokens.items))
+        → OnOk result (HasGiven before (So.left source.new) limit first intake.new (concat (map (λ token. token.value.items) reading.new.tokens.items))) }
+    ensures taken { OnOk result (All (IsTaken plan.now schema.now (cell_options options.now) reading.old.cells.now) reading.new.taken.items) }
     ensures too_long { IsErrOf result ReadAllFault.TooLong → IsTooLong (So.left source.old) (So.left source.new) limit intake.old.size }
     ensures failed { IsErrOf result ReadAllFault.Source → HasStopped (So.left source.old) (So.left source.new) limit intake.old.size }
     ensures cause { IsErrOf result ReadAllFault.Source → Rose (So.faults source.old) (So.faults source.new) }
     ensures later { So.faults source.old ≤ So.faults source.new }
 {
+    let cells = reading.cells;
+    let tokens = &mut reading.tokens;
+    let count = cells.len();
     match read_texts(
-        rt, alloc, cells, rooms, intake, source, limit, plan, piece_size,
+        rt, alloc, cells, rooms, tokens, count, intake, source, limit, plan, piece_size,
     ) {
-        Ok(tokens) => {
-            close_cells(rt, alloc, cells, tokens.len(), workers);
-            let taken = take_texts(
-                rt, alloc, cells, rooms, next, workers, schema, plan, options, verbatim, piece_size,
+        Ok(()) => {
+            close_cells(rt, alloc, cells, tokens.len(), others.saturating_add(1));
+            reading.taken = take_texts(
+                rt, alloc, cells, rooms, next, schema, plan, options, verbatim, piece_size,
             );
-            Ok(OwnRead { tokens, taken })
+            Ok(())
         }
         Err(fault) => {
-            close_cells(rt, alloc, cells, 0, cells.len());
+            close_cells(rt, alloc, cells, 0, count);
             Err(fault)
         }
     }
 }
 
-// Reads the texts of a source while workers take regions. Answers what shows the texts, and the regions that each took.
+// Reads the texts of a source while so many other workers take regions. Answers the regions that each took.
 fn read_beside<'a, W: Threads + Wait + Sync, So: Source>(
     rt: &W,
     alloc: Global,
+    others: usize,
     cells: &'a [OnceLock<Vec<u8>>],
+    rooms: &Mutex<Vec<Vec<u8>>>,
+    tokens: &mut Vec<OnceToken<'a, Vec<u8>>>,
+    intake: &mut Intake,
+    source: &mut So,
+    limit: usize,
+    schema: &Schema,
+    plan: &RangePlan<'_>,
+    options: &SerializeOptions,
+    verbatim: &Verbatim,
+    piece_size: usize,
+) -> Result<Vec<Vec<Taken<'a>>>, ReadAllFault>
+    requires can { CanPrint plan.now schema.now }
+    requires verbatim { IsVerbatimOf plan.now schema.now (cell_options options.now) verbatim.now }
+    requires size { 0 < piece_size }
+    requires within { intake.old.size ≤ limit }
+    requires ended { intake.old.is_ended ≡ true → IsAtEnd (So.left source.old) }
+    requires set { AreSetIn cells.now tokens.old.items }
+    ensures set { OnOk result (AreSetIn cells.now tokens.new.items) }
+    ensures given { (before : Option (List ℕ)) (first : Intake) → HasGiven before (So.left source.old) limit first intake.old (concat (map (λ token. token.value.items) tokens.old.items))
+        → OnOk result (HasGiven before (So.left source.new) limit first intake.new (concat (map (λ token. token.value.items) tokens.new.items))) }
+    ensures taken { IfOk result (λ all. All (λ taken. All (IsTaken plan.now schema.now (cell_options options.now) cells.now) taken.items) all.items) }
+    ensures too_long { IsErrOf result ReadAllFault.TooLong → IsTooLong (So.left source.old) (So.left source.new) limit intake.old.size }
+    ensures failed { IsErrOf result ReadAllFault.Source → HasStopped (So.left source.old) (So.left source.new) limit intake.old.size }
+    ensures cause { IsErrOf result ReadAllFault.Source → Rose (So.faults source.old) (So.faults source.new) }
+    ensures later { So.faults source.old ≤ So.faults source.new }
+{
+    let next = AtomicUsize::new(0);
+    let mut reading = Reading {
+        cells,
+        tokens: std::mem::replace(tokens, Vec::new(alloc)),
+        taken: Vec::new(alloc),
+    };
+    let mut take = ||
+        requires sync { IsSync W.row }
+        requires can { CanPrint plan.now schema.now }
+        requires verbatim { IsVerbatimOf plan.now schema.now (cell_options options.now) verbatim.now }
+        requires size { 0 < piece_size }
+    {
+        take_each(
+            rt, alloc, others, cells, rooms, &next, schema, plan, options, verbatim, piece_size,
+        )
+    };
+    let mut read = ||
+        requires can { CanPrint plan.now schema.now }
+        requires verbatim { IsVerbatimOf plan.now schema.now (cell_options options.now) verbatim.now }
+        requires size { 0 < piece_size }
+        requires within { intake.now.size ≤ limit }
+        requires ended { intake.now.is_ended ≡ true → IsAtEnd (So.left source.now) }
+        requires set { AreSetIn reading.cells.now reading.tokens.items }
+    {
+        read_and_take(
+            rt,
+            alloc,
+            others,
+            &mut reading,
+            rooms,
+            &next,
+            intake,
+            source,
+            limit,
+            schema,
+            plan,
+            options,
+            verbatim,
+            piece_size,
+        )
+    };
+    let (printed, read) = thread::join_mut(rt, &mut take, &mut read);
+    let Reading {
+        cells: _,
+        tokens: shown,
+        taken,
+    } = reading;
+    *tokens = shown;
+    read?;
+    let Ok(mut all) = printed else {
+        return Err(ReadAllFault::OutOfMemory);
+    };
+    if all.push(taken).is_err() {
+        return Err(ReadAllFault::OutOfMemory);
+    }
+    Ok(all)
+}
+
+// Reads the first texts of a source, and then what is left of it while workers take regions. Where the first texts are all, no more workers take
+// regions than there are texts. Answers what shows the texts, and the regions that each took.
+fn read_and_print<'a, W: Threads + Wait + Sync, So: Source>(
+    rt: &W,
+    alloc: Global,
     workers: usize,
+    cells: &'a [OnceLock<Vec<u8>>],
     intake: &mut Intake,
     source: &mut So,
     limit: usize,
@@ -410,7 +516,6 @@ fn read_beside<'a, W: Threads + Wait + Sync, So: Source>(
     verbatim: &Verbatim,
     piece_size: usize,
 ) -> Result<(Vec<OnceToken<'a, Vec<u8>>>, Vec<Vec<Taken<'a>>>), ReadAllFault>
-    requires workers { 0 < workers }
     requires can { CanPrint plan.now schema.now }
     requires verbatim { IsVerbatimOf plan.now schema.now (cell_options options.now) verbatim.now }
     requires size { 0 < piece_size }
@@ -425,44 +530,56 @@ fn read_beside<'a, W: Threads + Wait + Sync, So: Source>(
     ensures later { So.faults source.old ≤ So.faults source.new }
 {
     let rooms: Mutex<Vec<Vec<u8>>> = Mutex::new(Vec::new(alloc));
-    let next = AtomicUsize::new(0);
-    let mut take = ||
-        requires sync { IsSync W.row }
-        requires workers { 0 < workers }
-        requires can { CanPrint plan.now schema.now }
-        requires verbatim { IsVerbatimOf plan.now schema.now (cell_options options.now) verbatim.now }
-        requires size { 0 < piece_size }
-    {
-        take_each(
-            rt, alloc, cells, &rooms, &next, workers, schema, plan, options, verbatim, piece_size,
-        )
-    };
-    let mut read = ||
-        requires can { CanPrint plan.now schema.now }
-        requires verbatim { IsVerbatimOf plan.now schema.now (cell_options options.now) verbatim.now }
-        requires size { 0 < piece_size }
-        requires within { intake.now.size ≤ limit }
-        requires ended { intake.now.is_ended ≡ true → IsAtEnd (So.left source.now) }
-    {
-        read_and_take(
-            rt, alloc, cells, &rooms, &next, workers, intake, source, limit, schema, plan, options,
-            verbatim, piece_size,
-        )
-    };
-    let (printed, read) = thread::join_mut(rt, &mut take, &mut read);
-    let OwnRead { tokens, taken } = read?;
-    let Ok(mut all) = printed else {
-        return Err(ReadAllFault::OutOfMemory);
-    };
-    if all.push(taken).is_err() {
-        return Err(ReadAllFault::OutOfMemory);
+    let mut tokens = Vec::new(alloc);
+    read_texts(
+        rt,
+        alloc,
+        cells,
+        &rooms,
+        &mut tokens,
+        FEW,
+        intake,
+        source,
+        limit,
+        plan,
+        piece_size,
+    )?;
+    if intake.is_ended() {
+        let workers = workers.min(tokens.len());
+        let next = AtomicUsize::new(0);
+        close_cells(rt, alloc, cells, tokens.len(), workers);
+        return match take_each(
+            rt, alloc, workers, cells, &rooms, &next, schema, plan, options, verbatim, piece_size,
+        ) {
+            Ok(all) => Ok((tokens, all)),
+            Err(_) => Err(ReadAllFault::OutOfMemory),
+        };
     }
+    let others = workers.saturating_sub(1);
+    let all = read_beside(
+        rt,
+        alloc,
+        others,
+        cells,
+        &rooms,
+        &mut tokens,
+        intake,
+        source,
+        limit,
+        schema,
+        plan,
+        options,
+        verbatim,
+        piece_size,
+    )?;
     Ok((tokens, all))
 }
 
 /// Reads all that is left of a source, and prints the records meanwhile: the caller reads text by text, each up to where rows seem to begin,
 /// and the other workers print each as soon as it is read, as the caller does once all are read. What was kept of the source before stands in
 /// front of them. The front of the records is what was printed without a gap, as by `print_front`; what is left behind it is copied.
+///
+/// The first eight texts are read before workers start. Where a source has no more, there are no more workers than texts.
 ///
 /// Refuses as `read_all` does, with those bytes that came before counted in.
 pub fn print_arriving<'a, W: Threads + Wait + Sync, So: Source>(
@@ -478,7 +595,6 @@ pub fn print_arriving<'a, W: Threads + Wait + Sync, So: Source>(
     options: &SerializeOptions,
     piece_size: usize,
 ) -> Result<Arrived<'a>, ReadAllFault>
-    requires workers { 0 < workers }
     requires can { CanPrint plan.now schema.now }
     requires size { 0 < piece_size }
     requires within { intake.old.size ≤ limit }
@@ -493,8 +609,8 @@ pub fn print_arriving<'a, W: Threads + Wait + Sync, So: Source>(
     let Ok(verbatim) = Verbatim::of(alloc, schema, plan, options) else {
         return Err(ReadAllFault::OutOfMemory);
     };
-    let (tokens, all) = read_beside(
-        rt, alloc, cells, workers, intake, source, limit, schema, plan, options, &verbatim,
+    let (tokens, all) = read_and_print(
+        rt, alloc, workers, cells, intake, source, limit, schema, plan, options, &verbatim,
         piece_size,
     )?;
     intake.read_on(source, limit)?;

@@ -12,7 +12,7 @@ use pl_scan::dialect::Dialect;
 use std::alloc::{AllocError, Global};
 
 // How far before the end of a text rows are looked for.
-const NEAR: usize = 1 << 16;
+const NEAR: usize = 1 << 14;
 
 // A text without a line end is read on so often.
 const TIMES: usize = 16;
@@ -65,8 +65,9 @@ fn begin_text(room: Vec<u8>, front: &[u8], size: usize) -> Result<Vec<u8>, Alloc
     ensures front { IfOk result (λ text. take (length front.now) text.items ≡ front.now) }
 {
     let mut text = room;
-    if text.len() < front.len().saturating_add(size / 2) {
-        text.resize(front.len().saturating_add(size), 0)?;
+    let least = front.len().saturating_add(size / 2).max(size);
+    if text.len() < least {
+        text.resize(least, 0)?;
     }
     copy_front(&mut text, front);
     Ok(text)
@@ -234,30 +235,6 @@ impl Intake {
     {
         let mut block = [0u8; BLOCK_SIZE];
         while !self.is_ended {
-            self.read_block(source, &mut block, limit)?;
-        }
-        Ok(())
-    }
-
-    /// Reads on until so many bytes are kept that were not given out, or the source ends. Refuses as `read_all` does, with those bytes that
-    /// came before counted in.
-    pub fn read_some<So: Source>(
-        &mut self,
-        source: &mut So,
-        limit: usize,
-        most: usize,
-    ) -> Result<(), ReadAllFault>
-        requires within { self.old.size ≤ limit }
-        requires ended { self.old.is_ended ≡ true → IsAtEnd (So.left source.old) }
-        ensures given { OnOk result (HasGiven (So.left source.old) (So.left source.new) limit self.old self.new []) }
-        ensures most { OnOk result (self.new.is_ended ≡ false → most ≤ length self.new.rest.items) }
-        ensures too_long { IsErrOf result ReadAllFault.TooLong → IsTooLong (So.left source.old) (So.left source.new) limit self.old.size }
-        ensures failed { IsErrOf result ReadAllFault.Source → HasStopped (So.left source.old) (So.left source.new) limit self.old.size }
-        ensures cause { IsErrOf result ReadAllFault.Source → Rose (So.faults source.old) (So.faults source.new) }
-        ensures later { So.faults source.old ≤ So.faults source.new }
-    {
-        let mut block = [0u8; BLOCK_SIZE];
-        while !self.is_ended && self.rest.len() < most {
             self.read_block(source, &mut block, limit)?;
         }
         Ok(())

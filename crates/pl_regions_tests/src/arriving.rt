@@ -16,7 +16,7 @@ fn all_of_a_source_is_printed(rt: HostRuntime) {
     let options = CsvWriterOptions::new(alloc).expect(&rt, "options");
     let options = &options.serialize_options;
     for workers in [1, 2, 8] {
-        for piece_size in [64, 1000, 100_000] {
+        for piece_size in [64, 1000, 2000, 100_000] {
             let cells = make_cells(alloc).expect(&rt, "memory");
             let mut intake = Intake::new(alloc);
             let mut source = PipeSource::new(&text, 50, &[]);
@@ -75,13 +75,22 @@ fn what_was_kept_of_a_source_is_printed_too(rt: HostRuntime) {
     let plan = plan(&rt, &schema);
     let options = CsvWriterOptions::new(alloc).expect(&rt, "options");
     let options = &options.serialize_options;
-    for most in [0, 1, 200, 2000] {
+    let width = plan.projection.width;
+    for size in [0, 1, 200, 2000] {
         let cells = make_cells(alloc).expect(&rt, "memory");
         let mut intake = Intake::new(alloc);
         let mut source = PipeSource::new(&text, 50, &[]);
-        intake
-            .read_some(&mut source, 10_000, most)
+        let first = intake
+            .next_text(
+                &mut source,
+                Vec::new(alloc),
+                size,
+                10_000,
+                &plan.dialect,
+                width,
+            )
             .expect(&rt, "memory");
+        intake.put_back(first).expect(&rt, "memory");
         let arrived = print_arriving(
             &rt,
             alloc,
@@ -98,25 +107,9 @@ fn what_was_kept_of_a_source_is_printed_too(rt: HostRuntime) {
         .expect(&rt, "memory");
         assert!(rt;
             arrived.front.rows == 300 && arrived.left.is_empty(),
-            "at {most}"
+            "at {size}"
         );
-        assert!(rt; lines_of(&rt, alloc, &arrived.front) == text, "at {most}");
-    }
-}
-
-#[test]
-fn so_many_bytes_of_a_source_are_kept(rt: HostRuntime) {
-    let alloc = rt.alloc();
-    let text = rows(&rt, alloc, 300);
-    for (most, count) in [(0, 0), (120, 150), (150, 150), (100_000, text.len())] {
-        let mut intake = Intake::new(alloc);
-        let mut source = PipeSource::new(&text, 50, &[]);
-        intake
-            .read_some(&mut source, 10_000, most)
-            .expect(&rt, "memory");
-        assert!(rt; intake.is_ended() == (count == text.len()), "at {most}");
-        let kept = intake.into_rest();
-        assert!(rt; kept.len() == count && text.starts_with(&kept), "at {most}");
+        assert!(rt; lines_of(&rt, alloc, &arrived.front) == text, "at {size}");
     }
 }
 
@@ -126,6 +119,6 @@ fn a_source_that_gives_too_much_is_not_kept(rt: HostRuntime) {
     let text = rows(&rt, alloc, 300);
     let mut intake = Intake::new(alloc);
     let mut source = PipeSource::new(&text, 50, &[]);
-    let refused = intake.read_some(&mut source, 4000, 100_000);
+    let refused = intake.read_on(&mut source, 4000);
     assert!(rt; matches!(refused, Err(ReadAllFault::TooLong)));
 }

@@ -1,5 +1,5 @@
 -- What is copied of a row is what is written of a cell, and behind its separator what is written of the rest of the row.
-use Rattle.std.proofs.Common.{◌≡◌, ℕ, zero, suc, ◌+◌, ◌-◌, ◌<◌, ◌≤◌, Bool, true, false, cond, List, [], ◌∷◌, ◌++◌, length, get_or, take, drop, replicate, Option, None, Some, refl, sym, ap, ap₂, ◌∙◌, subst, arith, append_assoc, append-nil, add-one}
+use Rattle.std.proofs.Common.{◌≡◌, ℕ, zero, suc, ◌+◌, ◌-◌, ◌<◌, ◌≤◌, Bool, true, false, cond, List, [], ◌∷◌, ◌++◌, length, get_or, take, drop, replicate, Some, refl, sym, ap, ap₂, ◌∙◌, subst, arith, append_assoc, append-nil, add-one}
 use Rattle.std.specs.Prelude.{slice_index, slice_range}
 use Rattle.std.specs.Bool.{OnTrue}
 use Rattle.std.specs.List.{join_with_byte}
@@ -13,6 +13,7 @@ use Rattle.pl_verbatim.specs.Kinds.{AreKindsOf, AreReadable}
 use Rattle.pl_verbatim.specs.Verbatim.{AreCopiesOf, HasGrown, IsCellCopied, IsLineCopyOf, IsRowCopied}
 use Rattle.pl_verbatim.proofs.CellLaws.{IsCellOfKind}
 use Rattle.pl_verbatim.proofs.CopyLaws.{IsCopyOfKind, cell-kind_copy}
+use Rattle.pl_verbatim.proofs.NumberLaws.{slice-parts}
 use Rattle.pl_verbatim.proofs.RowLaws.{cut, nothing, from}
 
 -- a text is what is written of a line, for each schema of the kinds
@@ -29,6 +30,12 @@ pub record AreCopiedBefore (text : List ℕ) (start : ℕ) (kinds : List Kind) (
   pub now_is : now ≡ before ++ copy
   pub line : (end : ℕ) (rest : List ℕ) → at ≤ end → IsLineCopyOfKinds separator quote (drop index kinds) (slice_range text at end) rest
       → IsLineCopyOfKinds separator quote kinds (slice_range text start end) (copy ++ rest)
+
+-- The first cells of a row are copied: lines grew, and they, and what is still to be appended to them from a place on, have what is written of the cells.
+pub record IsCopiedBefore (text : List ℕ) (start : ℕ) (kinds : List Kind) (separator quote : ℕ) (index from at : ℕ) (before now : List ℕ) : Type 0 where
+  pub behind : from ≤ at
+  pub grown : HasGrown before now
+  pub copied : AreCopiedBefore text start kinds separator quote index at before (now ++ slice_range text from at)
 
 -- ---- zeros
 
@@ -79,32 +86,54 @@ cell-copied true before first second now text zeros mark e f is =
 
 -- ---- cells
 
--- lines grew by what is written of a cell, and the mark behind its field
-pub cell-marked : (text : List ℕ) (at end next : ℕ) (kind : Kind) (mark separator quote : ℕ) (before now written : List ℕ) → next ≡ end + 1 → at ≤ end → end < length text → slice_index text end ≡ mark
-    → IsCopyOfKind separator quote kind (slice_range text at end) written → now ≡ before ++ written ++ mark ∷ [] → IsCellCopied text at kind mark separator quote before now (Some next)
-cell-marked text at end next kind mark separator quote before now written place after within is cell grown = record {
+-- what stands from a place on to a second is copied, and what is written of a cell, and the mark behind its field
+cell-marked : (text : List ℕ) (from from_now at end next : ℕ) (kind : Kind) (mark separator quote : ℕ) (before now written : List ℕ) → next ≡ end + 1 → at ≤ end → end < length text
+    → slice_index text end ≡ mark → IsCopyOfKind separator quote kind (slice_range text at end) written → from_now ≤ next
+    → now ++ slice_range text from_now next ≡ (before ++ slice_range text from at) ++ written ++ mark ∷ [] → IsCellCopied text from from_now at kind mark separator quote before now next
+cell-marked text from from_now at end next kind mark separator quote before now written place after within is cell low grown = record {
   copy = written ++ mark ∷ [];
-  now_is = grown ∙ append_assoc before written (mark ∷ []);
+  behind = low;
+  now_is = grown ∙ append_assoc (before ++ slice_range text from at) written (mark ∷ []);
   cell = record { end = end; next_is = place; after = after; within = within; mark_is = is; written = written; cell = cell; copy_is = refl };
 }
 
--- by what stands between quotes, with no zeros behind it
-pub cell-inner_marked : (text : List ℕ) (at to : ℕ) (kind : Kind) (mark separator quote : ℕ) (before now : List ℕ) → at + 1 < to → to + 1 < length text → slice_index text (to + 1) ≡ mark
-    → IsCopyOfKind separator quote kind (slice_range text at (to + 1)) (slice_range text (at + 1) to) → now ≡ before ++ (slice_range text (at + 1) to ++ zeros_text 0) ++ mark ∷ []
-    → IsCellCopied text at kind mark separator quote before now (Some (to + 2))
-cell-inner_marked text at to kind mark separator quote before now after within is cell grown =
-    cell-marked text at (to + 1) (to + 2) kind mark separator quote before now (slice_range text (at + 1) to) (omega arith) (omega arith) within is cell
-    (grown ∙ ap (λ l. before ++ l ++ mark ∷ []) (append-nil (slice_range text (at + 1) to)))
+-- nothing is left to append behind the mark
+cell-appended : (text : List ℕ) (from at end next : ℕ) (kind : Kind) (mark separator quote : ℕ) (before now written : List ℕ) → next ≡ end + 1 → at ≤ end → end < length text
+    → slice_index text end ≡ mark → IsCopyOfKind separator quote kind (slice_range text at end) written → now ≡ (before ++ slice_range text from at) ++ written ++ mark ∷ []
+    → IsCellCopied text from next at kind mark separator quote before now next
+cell-appended text from at end next kind mark separator quote before now written place after within is cell grown =
+    cell-marked text from next at end next kind mark separator quote before now written place after within is cell (omega arith)
+    (ap (λ l. now ++ l) (nothing text next) ∙ append-nil now ∙ grown)
 
--- by a field that stands as it is written, and the mark as it stands
-pub cell-whole : (t : Bool) (text : List ℕ) (at end : ℕ) (kind : Kind) (mark separator quote : ℕ) (before now : List ℕ) → at ≤ end → end < length text → slice_index text end ≡ mark
-    → IsCellOfKind separator quote kind (slice_range text at end) → t ≡ true → now ≡ cond t (before ++ slice_range text at (end + 1)) before
-    → IsCellCopied text at kind mark separator quote before now (Some (end + 1))
-cell-whole t text at end kind mark separator quote before now after within is cell holds grown =
+-- all up to a place is appended, with so many zeros behind it
+pub cell-zeros : (text : List ℕ) (from at end : ℕ) (kind : Kind) (mark separator quote : ℕ) (before now zeros : List ℕ) → from ≤ at → at ≤ end → end < length text → slice_index text end ≡ mark
+    → IsCopyOfKind separator quote kind (slice_range text at end) (slice_range text at end ++ zeros) → now ≡ before ++ (slice_range text from end ++ zeros) ++ mark ∷ []
+    → IsCellCopied text from (end + 1) at kind mark separator quote before now (end + 1)
+cell-zeros text from at end kind mark separator quote before now zeros low after within is cell grown =
+    let front = slice_range text from at in
+    let field = slice_range text at end in
+    let parts : before ++ (slice_range text from end ++ zeros) ≡ (before ++ front) ++ (field ++ zeros) =
+    ap (λ l. before ++ (l ++ zeros)) (slice-parts text from at end low after) ∙ ap (λ l. before ++ l) (append_assoc front field zeros) ∙ sym (append_assoc before front (field ++ zeros)) in
+    cell-appended text from at end (end + 1) kind mark separator quote before now (field ++ zeros) refl after within is cell (grown ∙ ap (λ l. l ++ mark ∷ []) parts)
+
+-- all up to a cell is appended, and what stands in it between quotes, with no zeros behind it
+pub cell-inner_marked : (text : List ℕ) (from at to : ℕ) (kind : Kind) (mark separator quote : ℕ) (before first now : List ℕ) → at + 1 < to → to + 1 < length text → slice_index text (to + 1) ≡ mark
+    → IsCopyOfKind separator quote kind (slice_range text at (to + 1)) (slice_range text (at + 1) to) → first ≡ before ++ slice_range text from at
+    → now ≡ first ++ (slice_range text (at + 1) to ++ zeros_text 0) ++ mark ∷ [] → IsCellCopied text from (to + 2) at kind mark separator quote before now (to + 2)
+cell-inner_marked text from at to kind mark separator quote before first now after within is cell front grown =
+    cell-appended text from at (to + 1) (to + 2) kind mark separator quote before now (slice_range text (at + 1) to) (omega arith) (omega arith) within is cell
+    (grown ∙ ap₂ (λ f l. f ++ l ++ mark ∷ []) front (append-nil (slice_range text (at + 1) to)))
+
+-- nothing is appended, since the field stands as it is written, and the mark behind it
+pub cell-whole : (text : List ℕ) (from at end : ℕ) (kind : Kind) (mark separator quote : ℕ) (before : List ℕ) → from ≤ at → at ≤ end → end < length text → slice_index text end ≡ mark
+    → IsCellOfKind separator quote kind (slice_range text at end) → IsCellCopied text from from at kind mark separator quote before before (end + 1)
+cell-whole text from at end kind mark separator quote before low after within is cell =
+    let front = slice_range text from at in
     let field = slice_range text at end in
     let whole : slice_range text at (end + 1) ≡ field ++ mark ∷ [] = cut text at end (end + 1) mark after within is (omega arith) ∙ ap (λ l. field ++ mark ∷ l) (nothing text (end + 1)) in
-    cell-marked text at end (end + 1) kind mark separator quote before now field refl after within is (cell-kind_copy separator quote kind field cell)
-    (added t before now (slice_range text at (end + 1)) holds grown ∙ ap (λ l. before ++ l) whole ∙ sym (append_assoc before field (mark ∷ [])))
+    let parts : slice_range text from (end + 1) ≡ front ++ (field ++ mark ∷ []) = slice-parts text from at (end + 1) low (omega arith) ∙ ap (λ l. front ++ l) whole in
+    cell-marked text from from at end (end + 1) kind mark separator quote before before field refl after within is (cell-kind_copy separator quote kind field cell) (omega arith)
+    (ap (λ l. before ++ l) parts ∙ sym (append_assoc before front (field ++ mark ∷ [])) ∙ sym (append_assoc (before ++ front) field (mark ∷ [])))
 
 -- ---- lines
 
@@ -197,33 +226,31 @@ copied-last text start kinds separator quote index at end any before now later w
 
 -- ---- what was copied of a cell
 
--- is what is written of it, where there is an answer
-pub copied-cell : (text : List ℕ) (start : ℕ) (kinds : List Kind) (separator quote index at next : ℕ) (any : Kind) (before now later : List ℕ)
-    → AreCopiedBefore text start kinds separator quote index at before now → index + 1 < length kinds → IsCellCopied text at (get_or kinds index any) separator separator quote now later (Some next)
-    → AreCopiedBefore text start kinds separator quote (index + 1) next before later
-copied-cell text start kinds separator quote index at next any before now later copied few one =
+-- is what is written of it
+pub copied-cell : (text : List ℕ) (start : ℕ) (kinds : List Kind) (separator quote index from at from_now next : ℕ) (any : Kind) (before now later : List ℕ)
+    → IsCopiedBefore text start kinds separator quote index from at before now → index + 1 < length kinds → HasGrown now later
+    → IsCellCopied text from from_now at (get_or kinds index any) separator separator quote now later next → IsCopiedBefore text start kinds separator quote (index + 1) from_now next before later
+copied-cell text start kinds separator quote index from at from_now next any before now later row few more one =
     let own = one.cell in
-    subst (λ n. AreCopiedBefore text start kinds separator quote (index + 1) n before later) (sym own.next_is)
-    (copied-step text start kinds separator quote index at own.end any before now later own.written copied few own.after own.within own.mark_is own.cell
-    (one.now_is ∙ ap (λ l. now ++ l) own.copy_is ∙ sym (append_assoc now own.written (separator ∷ []))))
+    let lines = now ++ slice_range text from at in
+    let others = later ++ slice_range text from_now next in
+    record {
+      behind = one.behind;
+      grown = grown-twice before now later row.grown more;
+      copied =
+          subst (λ n. AreCopiedBefore text start kinds separator quote (index + 1) n before others) (sym own.next_is)
+          (copied-step text start kinds separator quote index at own.end any before lines others own.written row.copied few own.after own.within own.mark_is own.cell
+          (one.now_is ∙ ap (λ l. lines ++ l) own.copy_is ∙ sym (append_assoc lines own.written (separator ∷ []))));
+    }
 
--- and else a part of it
-copied-part : (text : List ℕ) (start : ℕ) (kinds : List Kind) (separator quote index at : ℕ) (kind : Kind) (mark : ℕ) (before now later : List ℕ)
-    → AreCopiedBefore text start kinds separator quote index at before now → IsCellCopied text at kind mark separator quote now later None → IsRowCopied text start kinds separator quote before later None
-copied-part text start kinds separator quote index at kind mark before now later copied one = record {
-  copy = copied.copy ++ one.copy;
-  now_is = one.now_is ∙ ap (λ l. l ++ one.copy) copied.now_is ∙ append_assoc before copied.copy one.copy;
-  line = tt;
-}
-
--- the last ends the row
-pub copied-row : (result : Option ℕ) (text : List ℕ) (start : ℕ) (kinds : List Kind) (separator quote index at : ℕ) (any : Kind) (before now later : List ℕ)
-    → AreCopiedBefore text start kinds separator quote index at before now → index ≡ length kinds - 1 → 0 < length kinds
-    → IsCellCopied text at (get_or kinds (length kinds - 1) any) 10 separator quote now later result → IsRowCopied text start kinds separator quote before later result
-copied-row None text start kinds separator quote index at any before now later copied last_is some one =
-    copied-part text start kinds separator quote index at (get_or kinds (length kinds - 1) any) 10 before now later copied one
-copied-row (Some next) text start kinds separator quote index at any before now later copied last_is some one =
+-- the last ends the row, where what is left is appended
+pub copied-row : (text : List ℕ) (start : ℕ) (kinds : List Kind) (separator quote index from at from_now next : ℕ) (any : Kind) (before now later all : List ℕ)
+    → IsCopiedBefore text start kinds separator quote index from at before now → index ≡ length kinds - 1 → 0 < length kinds
+    → IsCellCopied text from from_now at (get_or kinds (length kinds - 1) any) 10 separator quote now later next → all ≡ later ++ slice_range text from_now next
+    → IsRowCopied text start kinds separator quote before all (Some next)
+copied-row text start kinds separator quote index from at from_now next any before now later all row last_is some one left =
     let own = one.cell in
-    subst (λ n. IsRowCopied text start kinds separator quote before later (Some n)) (sym own.next_is)
-    (copied-last text start kinds separator quote index at own.end any before now later own.written copied last_is some own.after own.within own.mark_is own.cell
-    (one.now_is ∙ ap (λ l. now ++ l) own.copy_is ∙ sym (append_assoc now own.written (10 ∷ []))))
+    let lines = now ++ slice_range text from at in
+    subst (λ n. IsRowCopied text start kinds separator quote before all (Some n)) (sym own.next_is)
+    (copied-last text start kinds separator quote index at own.end any before lines all own.written row.copied last_is some own.after own.within own.mark_is own.cell
+    (left ∙ one.now_is ∙ ap (λ l. lines ++ l) own.copy_is ∙ sym (append_assoc lines own.written (10 ∷ []))))

@@ -88,11 +88,13 @@ pub record IsMarkedCopy (text : List ℕ) (at next : ℕ) (kind : Kind) (mark se
   pub cell : (o : WriteOptions) (type : DataType) → FitsOptions o → IsCellOptions o separator quote → is_readable type ≡ true → IsKindOf type kind → IsCopyOf o type (slice_range text at end) written
   pub copy_is : copy ≡ written ++ mark ∷ []
 
--- lines grew, and where the mark behind the field of a cell ends at a place, they grew by what is written of the cell, and the mark
-pub record IsCellCopied (text : List ℕ) (at : ℕ) (kind : Kind) (mark separator quote : ℕ) (before now : List ℕ) (result : Option ℕ) : Type 0 where
+-- The field of a cell, and the mark behind it, end at a place, and what is written of the cell, and the mark, were copied: lines, and what is still
+-- to be appended to them from a place on, are what they were, and this.
+pub record IsCellCopied (text : List ℕ) (from from_now at : ℕ) (kind : Kind) (mark separator quote : ℕ) (before now : List ℕ) (next : ℕ) : Type 0 where
   pub copy : List ℕ
-  pub now_is : now ≡ before ++ copy
-  pub cell : IfSome result (λ next. IsMarkedCopy text at next kind mark separator quote copy)
+  pub behind : from_now ≤ next
+  pub now_is : now ++ slice_range text from_now next ≡ (before ++ slice_range text from at) ++ copy
+  pub cell : IsMarkedCopy text at next kind mark separator quote copy
 
 -- lines grew, and where the line of a row ends at a place, they grew by what is written of it
 pub record IsRowCopied (text : List ℕ) (start : ℕ) (kinds : List Kind) (separator quote : ℕ) (before now : List ℕ) (result : Option ℕ) : Type 0 where

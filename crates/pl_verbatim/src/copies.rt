@@ -106,11 +106,14 @@ fn append(text: &[u8], from: usize, to: usize, zeros: usize, mark: u8, lines: &m
     lines.push(mark).is_ok()
 }
 
-/// Appends what is written of the cell at a place, and a mark, which stands behind its field, and answers the place behind that mark. Where
-/// no such cell is found, or memory is wanting, the lines may have a part of it.
+/// Copies what is written of the cell at a place, and a mark, which stands behind its field, and answers the place behind that mark. The bytes
+/// up to the cell from a place, `from`, are copied, but not appended yet: where the cell stands as it is written, it is left with them, so that
+/// all is appended in one go; else they are appended, and what is written of the cell. Where no such cell is found, or memory is wanting, the
+/// lines may have a part of it.
 #[inline(always)]
 pub(crate) fn copy_cell(
     text: &[u8],
+    from: &mut usize,
     at: usize,
     kind: Kind,
     mark: u8,
@@ -118,33 +121,34 @@ pub(crate) fn copy_cell(
     quote: u8,
     lines: &mut Vec<u8>,
 ) -> Option<usize>
+    requires before { from.old ≤ at }
     requires inside { at ≤ length text.now }
     requires sound { is_sound_kind kind ≡ true }
     requires ascii { quote < 128 }
     ensures after { IfSome result (λ next. at < next) }
     ensures within { IfSome result (λ next. next ≤ length text.now) }
-    ensures copied { IsCellCopied text.now at kind mark separator quote lines.old.items lines.new.items result }
+    ensures grown { HasGrown lines.old.items lines.new.items }
+    ensures copied { IfSome result (IsCellCopied text.now from.old from.new at kind mark separator quote lines.old.items lines.new.items) }
 {
     if let Kind::Datetime { places } = kind {
         if let Some(end) = marked_seconds_end(text, at, mark) {
-            return if append(text, at, end, places, mark, lines) {
-                Some(end + 1)
-            } else {
-                None
-            };
+            if !append(text, *from, end, places, mark, lines) {
+                return None;
+            }
+            *from = end + 1;
+            return Some(end + 1);
         }
     }
     if let Some(to) = marked_inner_end(text, at, kind, mark, separator, quote) {
-        return if append(text, at + 1, to, 0, mark, lines) {
-            Some(to + 2)
-        } else {
-            None
-        };
+        if *from < at && lines.extend_from_slice(&text[*from..at]).is_err() {
+            return None;
+        }
+        if !append(text, at + 1, to, 0, mark, lines) {
+            return None;
+        }
+        *from = to + 2;
+        return Some(to + 2);
     }
     let end = cell_end(text, at, kind, mark, separator, quote)?;
-    if lines.extend_from_slice(&text[at..end + 1]).is_ok() {
-        Some(end + 1)
-    } else {
-        None
-    }
+    Some(end + 1)
 }

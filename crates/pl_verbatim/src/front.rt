@@ -122,8 +122,9 @@ impl Verbatim {
         VerbatimFront { end, rows }
     }
 
-    /// The rows of a text from a place on whose cells stand as they are written, or between quotes that they do not need: appends what
-    /// is written of them to lines, as far as they are found and memory suffices, and answers where they end, and how many they are.
+    /// The rows of a text from a place on whose cells stand as they are written, or between quotes that they do not need, or are datetimes
+    /// without a fraction: appends what is written of them to lines, as far as they are found and memory suffices, and answers where they
+    /// end, and how many they are.
     pub fn copy(&self, text: &[u8], from: usize, lines: &mut Vec<u8>) -> VerbatimFront
         requires { from ≤ length text.now }
         ensures { AreRowsCopied self.now text.now from result.end result.rows lines.old.items lines.new.items }

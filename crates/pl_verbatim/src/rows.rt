@@ -41,6 +41,13 @@ pub(crate) fn row_end(
     Some(end + 1)
 }
 
+// Whether the cell at a place stands as it is written, if it is one that is copied: there is no quote in front of it, and it is no datetime, which
+// may stand without a fraction.
+#[inline(always)]
+fn is_bare(text: &[u8], at: usize, kind: Kind, quote: u8) -> bool {
+    at < text.len() && text[at] != quote && !matches!(kind, Kind::Datetime { .. })
+}
+
 /// Appends what is written of the row at a place to lines, and answers the place behind its own line. Where no such row is found, or memory
 /// is wanting, the lines may have a part of it.
 #[inline]
@@ -64,9 +71,41 @@ pub(crate) fn copy_row(
         return None;
     }
     let last = kinds.len() - 1;
+    let mut from = start;
     let mut at = start;
     for index in 0..last {
-        at = copy_cell(text, at, kinds[index], separator, separator, quote, lines)?;
+        at = if is_bare(text, at, kinds[index], quote) {
+            cell_end(text, at, kinds[index], separator, separator, quote)? + 1
+        } else {
+            copy_cell(
+                text,
+                &mut from,
+                at,
+                kinds[index],
+                separator,
+                separator,
+                quote,
+                lines,
+            )?
+        };
     }
-    copy_cell(text, at, kinds[last], b'\n', separator, quote, lines)
+    let end = if is_bare(text, at, kinds[last], quote) {
+        cell_end(text, at, kinds[last], b'\n', separator, quote)? + 1
+    } else {
+        copy_cell(
+            text,
+            &mut from,
+            at,
+            kinds[last],
+            b'\n',
+            separator,
+            quote,
+            lines,
+        )?
+    };
+    if lines.extend_from_slice(&text[from..end]).is_ok() {
+        Some(end)
+    } else {
+        None
+    }
 }

@@ -7,7 +7,8 @@ use Rattle.pl_read.specs.Projection.{projected}
 use Rattle.pl_csv.specs.Sources.{IsUnprinted}
 use Rattle.pl_csv.specs.Views.{source_view}
 use Rattle.pl_csv.proofs.ConvertLaws.{can-print}
-use Rattle.pl_csv.proofs.SourceLaws.{stopped, come-ahead, skipped, records-ahead, can-ahead, left-ahead, read-or-unread}
+use Rattle.pl_regions.proofs.RegionLaws.{ok-holds}
+use Rattle.pl_csv.proofs.SourceLaws.{stopped, come-ahead, records-ahead, can-ahead, left-ahead, read-or-unread}
 use Rattle.pl_csv.proofs.convert_source.print_ahead.Goals as goal
 
 pub plan_of-plan-requires-clause-places : goal.plan_of-plan-requires-clause-places
@@ -46,7 +47,7 @@ read_left-requires-clause-left g c κs within =
     let prepared = c.args.prepared.now in
     let kept = c.skip.new.self.rest.items in
     let arrived = c.in-Ok.ensures.arrived in
-    let kept_is = skipped c.skip.result prepared.start rest kept c.if-is_err.ensures.negation c.skip.ensures.rest in
+    let kept_is = ok-holds c.skip.result (kept ≡ drop prepared.start rest) c.if-is_err.ensures.negation c.skip.ensures.rest in
     let small : length rest + length arrived.bytes ≤ 2 ^ 36 = omega (arith, arrived.within, c.skip.ensures.size, c.requires.size) in
     let left : c.deref.result.now ≡ drop c.in-Ok.arrived.front.end (kept ++ arrived.bytes) = c.deref.ensures.value ∙ arrived.left in (
       kept ++ arrived.bytes,
@@ -64,7 +65,7 @@ returns-in-Ok-read_left-clause-printed g c = λ before came.
     let arrived = c.in-Ok.ensures.arrived in
     let now = source_view (g.So.Source.left c.args.source.now) (g.So.Source.faults c.args.source.now) in
     let end = source_view (g.So.Source.left c.print_arriving.new.source) (g.So.Source.faults c.print_arriving.new.source) in
-    let kept_is = skipped c.skip.result prepared.start rest kept c.if-is_err.ensures.negation c.skip.ensures.rest in
+    let kept_is = ok-holds c.skip.result (kept ≡ drop prepared.start rest) c.if-is_err.ensures.negation c.skip.ensures.rest in
     let small : length rest + length arrived.bytes ≤ 2 ^ 36 = omega (arith, arrived.within, c.skip.ensures.size, c.requires.size) in
     let left : c.deref.result.now ≡ drop c.in-Ok.arrived.front.end (kept ++ arrived.bytes) = c.deref.ensures.value ∙ arrived.left in
     let is = left-ahead read write rest kept arrived.bytes c.deref.result.now prepared c.plan_of-plan.result c.in-Ok.arrived.front c.requires.allowed.allowed c.requires.ahead
@@ -87,7 +88,7 @@ returns-clause-refused g c = λ before came.
     let arrived = c.in-Ok.ensures.arrived in
     let now = source_view (g.So.Source.left c.args.source.now) (g.So.Source.faults c.args.source.now) in
     let end = source_view (g.So.Source.left c.print_arriving.new.source) (g.So.Source.faults c.print_arriving.new.source) in
-    let kept_is = skipped c.skip.result prepared.start rest kept c.if-is_err.ensures.negation c.skip.ensures.rest in
+    let kept_is = ok-holds c.skip.result (kept ≡ drop prepared.start rest) c.if-is_err.ensures.negation c.skip.ensures.rest in
     let small : length rest + length arrived.bytes ≤ 2 ^ 36 = omega (arith, arrived.within, c.skip.ensures.size, c.requires.size) in
     let left : c.deref.result.now ≡ drop c.in-Ok.arrived.front.end (kept ++ arrived.bytes) = c.deref.ensures.value ∙ arrived.left in
     let is = left-ahead read write rest kept arrived.bytes c.deref.result.now prepared c.plan_of-plan.result c.in-Ok.arrived.front c.requires.allowed.allowed c.requires.ahead

@@ -1,24 +1,25 @@
 use Rattle.std.proofs.Common.{rules}
 use Rattle.std.specs.List.{concat}
 use Rattle.pl_write.specs.Options.{cell_options}
-use Rattle.pl_regions.proofs.ArrivingLaws.{values_of, IsTooLong-behind, HasStopped-behind, HasArrived-printed}
+use Rattle.pl_regions.proofs.ArrivingLaws.{values_of, HasArrived-printed}
+use Rattle.pl_regions.proofs.IntakeLaws.{IsTooLong-behind, HasStopped-behind}
 use Rattle.pl_regions.proofs.arriving.print_arriving.Goals as goal
 
 pub returns-in_err-read_on-clause-too_long : goal.returns-in_err-read_on-clause-too_long
 returns-in_err-read_on-clause-too_long g c = λ fault.
     let left = g.So.Source.left in
-    IsTooLong-behind (left c.args.source.now) (left c.read_beside.new.source) (left c.read_on.new.source) c.args.limit c.args.intake.now c.read_beside.new.intake (concat (values_of c.in_ok-tokens.tokens.items))
+    IsTooLong-behind (left c.args.source.now) (left c.read_and_print.new.source) (left c.read_on.new.source) c.args.limit c.args.intake.now c.read_and_print.new.intake (concat (values_of c.in_ok-tokens.tokens.items))
     c.in_ok-tokens.ensures.given (c.in_err-read_on.ensures.too_long (search rules))
 
 pub returns-in_err-read_on-clause-failed : goal.returns-in_err-read_on-clause-failed
 returns-in_err-read_on-clause-failed g c = λ fault.
     let left = g.So.Source.left in
-    HasStopped-behind (left c.args.source.now) (left c.read_beside.new.source) (left c.read_on.new.source) c.args.limit c.args.intake.now c.read_beside.new.intake (concat (values_of c.in_ok-tokens.tokens.items))
+    HasStopped-behind (left c.args.source.now) (left c.read_and_print.new.source) (left c.read_on.new.source) c.args.limit c.args.intake.now c.read_and_print.new.intake (concat (values_of c.in_ok-tokens.tokens.items))
     c.in_ok-tokens.ensures.given (c.in_err-read_on.ensures.failed (search rules))
 
 pub returns-in-Ok-front_arrived-clause-arrived : goal.returns-in-Ok-front_arrived-clause-arrived
 returns-in-Ok-front_arrived-clause-arrived g c =
     let left = g.So.Source.left in
-    HasArrived-printed c.args.plan.now c.args.schema.now (cell_options c.args.options.now) (left c.args.source.now) (left c.read_beside.new.source) (left c.read_on.new.source) c.args.limit c.args.intake.now
-    c.read_beside.new.intake c.read_on.new.self (concat (values_of c.in_ok-tokens.tokens.items)) c.deref.result.now c.in-Ok-front_arrived.arrived
+    HasArrived-printed c.args.plan.now c.args.schema.now (cell_options c.args.options.now) (left c.args.source.now) (left c.read_and_print.new.source) (left c.read_on.new.source) c.args.limit c.args.intake.now
+    c.read_and_print.new.intake c.read_on.new.self (concat (values_of c.in_ok-tokens.tokens.items)) c.deref.result.now c.in-Ok-front_arrived.arrived
     c.in_ok-tokens.ensures.given c.in_ok-read_on.ensures.all c.deref.ensures.value c.in-Ok-front_arrived.ensures.front c.in-Ok-front_arrived.ensures.left

@@ -16,7 +16,7 @@ loop-preserved g c =
     let items : c.push.new.self.items ≡ taken ++ one ∷ [] = c.push.ensures.items ∙ ap (λ t. if t then taken ++ one ∷ [] else taken) pushed in
     let own : P one = record {
       inside = omega (arith, c.if-place-cells.false, c.printed-region.ensures.place);
-      of = λ d. c.in-Some.ensures ∙ ap (λ cell. cell.id) (c.index-cells-place.is ∙ get_or_default c.args.cells.now c.fetch_add-place.result c.index-cells-place.result d c.if-place-cells.false
+      of = λ d. c.in-Some.ensures ∙ ap (λ cell. cell.id) (c.index-cells-place-in-loop.is ∙ get_or_default c.args.cells.now c.fetch_add-place.result c.index-cells-place-in-loop.result d c.if-place-cells.false
           ∙ ap (λ n. get_or c.args.cells.now n d) (sym c.printed-region.ensures.place));
       text_is = c.printed-region.ensures.text ∙ c.as_slice-text.ensures.value ∙ ap (λ text. text.items) c.value.ensures;
       printed = c.printed-region.ensures.printed;

@@ -139,8 +139,8 @@ def page(workloads, tasks, sizes, best, rounds):
               "Without a schema and with dates tried, `pl_csv` takes decimals for texts, since it infers none.", "",
               "The rows of mixed, ints, strings and wide are written as they were read, and of quoted and taxi what is written stands in the fields but for zeros. So `pl_csv` tests each cell and copies it "
               "([workers.md](workers.md#rows-that-are-written-as-they-were-read)). Where it writes another separator it reads and prints each cell: that is what a conversion costs that changes values.", "",
-              "`pl_csv` writes nothing before it knows that all rows are sound, so no number of workers makes it faster than `copy` by much: that one reads, and then writes, and does nothing else. "
-              "Several workers save what lies between, and have memory ready that `copy` has to wait for."]
+              "`pl_csv` writes nothing before it knows that all rows are sound, and `copy` does no more than that, on one thread: it reads, and then writes. "
+              "It is no bound: several workers make memory ready for the one that reads, and `copy` has to wait for its own."]
     return "\n".join(lines) + "\n"
 
 

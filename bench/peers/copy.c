@@ -1,5 +1,4 @@
-/* Reads standard input to its end, and then writes it to standard output: the least that a program takes which writes nothing before
-   it knows all of its input. */
+/* Reads standard input to its end, and then writes it to standard output, on one thread, and does nothing else. */
 #include <stdlib.h>
 #include <unistd.h>
 

@@ -8,3 +8,4 @@ pub mod intake;
 mod region;
 mod taken;
 mod taking;
+pub mod texts;

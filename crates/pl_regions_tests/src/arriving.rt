@@ -3,8 +3,9 @@
 use crate::front::{lines_of, plan, rows, schema};
 use pl_frame::read_all::ReadAllFault;
 use pl_frame::source::PipeSource;
-use pl_regions::arriving::{make_cells, print_arriving};
+use pl_regions::arriving::print_arriving;
 use pl_regions::intake::Intake;
+use pl_regions::texts::make_cells;
 use pl_write::options::CsvWriterOptions;
 
 #[test]

@@ -113,6 +113,19 @@ digits-at text from end inside ends =
       first = λ (some : from < end). get_or-take (end - from) rest 0 0 (omega (arith, some)) ∙ get_or-drop from text 0 0 ∙ ap (λ (n : ℕ). get_or text n 0) (omega arith);
     }
 
+-- so do all bytes between two places that are digits
+pub digits-between : (text : List ℕ) (from end : ℕ) → from ≤ end → end ≤ length text → all_ascii_digits (slice_range text from end) ≡ true → DigitsAt text from end
+digits-between text from end low inside all =
+    let rest = drop from text in
+    let left : length rest ≡ length text - from = length-drop from text in
+    record {
+      low = low;
+      inside = inside;
+      long = length-take-le (end - from) rest (omega (arith, left, inside));
+      all = all;
+      first = λ (some : from < end). get_or-take (end - from) rest 0 0 (omega (arith, some)) ∙ get_or-drop from text 0 0 ∙ ap (λ (n : ℕ). get_or text n 0) (omega arith);
+    }
+
 -- from one place to a second, and from there to a third
 pub slice-parts : (text : List ℕ) (from middle end : ℕ) → from ≤ middle → middle ≤ end → slice_range text from end ≡ slice_range text from middle ++ slice_range text middle end
 slice-parts text from middle end low high =

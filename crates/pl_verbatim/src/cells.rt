@@ -15,7 +15,13 @@ use crate::wholes::whole_end;
 
 // The place behind the cell that stands at a place as a value of a kind.
 #[inline(always)]
-fn value_end(text: &[u8], at: usize, kind: Kind, separator: u8, quote: u8) -> Option<usize>
+fn value_end<const CALLER: usize>(
+    text: &[u8],
+    at: usize,
+    kind: Kind,
+    separator: u8,
+    quote: u8,
+) -> Option<usize>
     requires inside { at < length text.now }
     requires sound { is_sound_kind kind ≡ true }
     requires ascii { quote < 128 }
@@ -33,9 +39,10 @@ fn value_end(text: &[u8], at: usize, kind: Kind, separator: u8, quote: u8) -> Op
     }
 }
 
-/// The place behind the cell that stands at a place as it is written, with a mark behind it. An empty one is a null.
+/// The place behind the cell that stands at a place as it is written, with a mark behind it. An empty one is a null. `CALLER` only keeps those
+/// apart who call it, so that the compiler puts it in line for each of them.
 #[inline(always)]
-pub(crate) fn cell_end(
+pub(crate) fn cell_end<const CALLER: usize>(
     text: &[u8],
     at: usize,
     kind: Kind,
@@ -57,7 +64,7 @@ pub(crate) fn cell_end(
     if text[at] == mark {
         return Some(at);
     }
-    let end = value_end(text, at, kind, separator, quote)?;
+    let end = value_end::<CALLER>(text, at, kind, separator, quote)?;
     if end < text.len() && text[end] == mark {
         Some(end)
     } else {

@@ -14,13 +14,20 @@ use crate::cells::cell_end;
 use crate::dates::date_end;
 use crate::decimals::decimal_end;
 use crate::kinds::Kind;
+use crate::marks::Marks;
 use crate::moments::{moment_end, seconds_end};
 use crate::texts::bare_text_end;
 use crate::wholes::whole_end;
 
 // The place behind what stands between quotes from a place on, where it stands there as a value of a kind is printed and needs no quotes.
 #[inline(always)]
-fn inner_end(text: &[u8], at: usize, kind: Kind, separator: u8, quote: u8) -> Option<usize>
+fn inner_end<const CALLER: usize>(
+    text: &[u8],
+    at: usize,
+    kind: Kind,
+    separator: u8,
+    quote: u8,
+) -> Option<usize>
     requires inside { at < length text.now }
     requires sound { is_sound_kind kind ≡ true }
     ensures after { IfSome result (λ end. at < end) }
@@ -57,7 +64,7 @@ fn marked_seconds_end(text: &[u8], at: usize, mark: u8) -> Option<usize>
 
 // The place of the quote behind what stands between quotes that it does not need, with a mark behind that quote.
 #[inline(always)]
-fn marked_inner_end(
+fn marked_inner_end<const CALLER: usize>(
     text: &[u8],
     at: usize,
     kind: Kind,
@@ -76,7 +83,7 @@ fn marked_inner_end(
     if at + 2 >= text.len() || text[at] != quote {
         return None;
     }
-    let to = inner_end(text, at + 1, kind, separator, quote)?;
+    let to = inner_end::<CALLER>(text, at + 1, kind, separator, quote)?;
     if to + 1 < text.len() && text[to] == quote && text[to + 1] == mark {
         Some(to)
     } else {
@@ -106,12 +113,9 @@ fn append(text: &[u8], from: usize, to: usize, zeros: usize, mark: u8, lines: &m
     lines.push(mark).is_ok()
 }
 
-/// Copies what is written of the cell at a place, and a mark, which stands behind its field, and answers the place behind that mark. The bytes
-/// up to the cell from a place, `from`, are copied, but not appended yet: where the cell stands as it is written, it is left with them, so that
-/// all is appended in one go; else they are appended, and what is written of the cell. Where no such cell is found, or memory is wanting, the
-/// lines may have a part of it.
+// Copies what is written of the cell between quotes at a place, as `copy_cell` does.
 #[inline(always)]
-pub(crate) fn copy_cell(
+fn copy_quoted<const CALLER: usize>(
     text: &[u8],
     from: &mut usize,
     at: usize,
@@ -130,16 +134,7 @@ pub(crate) fn copy_cell(
     ensures grown { HasGrown lines.old.items lines.new.items }
     ensures copied { IfSome result (IsCellCopied text.now from.old from.new at kind mark separator quote lines.old.items lines.new.items) }
 {
-    if let Kind::Datetime { places } = kind {
-        if let Some(end) = marked_seconds_end(text, at, mark) {
-            if !append(text, *from, end, places, mark, lines) {
-                return None;
-            }
-            *from = end + 1;
-            return Some(end + 1);
-        }
-    }
-    if let Some(to) = marked_inner_end(text, at, kind, mark, separator, quote) {
+    if let Some(to) = marked_inner_end::<CALLER>(text, at, kind, mark, separator, quote) {
         if *from < at && lines.extend_from_slice(&text[*from..at]).is_err() {
             return None;
         }
@@ -149,6 +144,50 @@ pub(crate) fn copy_cell(
         *from = to + 2;
         return Some(to + 2);
     }
-    let end = cell_end(text, at, kind, mark, separator, quote)?;
+    let end = cell_end::<0>(text, at, kind, mark, separator, quote)?;
     Some(end + 1)
+}
+
+/// Copies what is written of the cell at a place, and a mark, which stands behind its field, and answers the place behind that mark. The bytes
+/// up to the cell from a place, `from`, are copied, but not appended yet: where the cell stands as it is written, it is left with them, so that
+/// all is appended in one go; else they are appended, and what is written of the cell. Where no such cell is found, or memory is wanting, the
+/// lines may have a part of it. `CALLER` is that of `cell_end`.
+#[inline(always)]
+pub(crate) fn copy_cell<const CALLER: usize>(
+    text: &[u8],
+    from: &mut usize,
+    at: usize,
+    kind: Kind,
+    mark: u8,
+    separator: u8,
+    quote: u8,
+    marks: &mut Marks,
+    lines: &mut Vec<u8>,
+) -> Option<usize>
+    requires before { from.old ≤ at }
+    requires inside { at ≤ length text.now }
+    requires sound { is_sound_kind kind ≡ true }
+    requires ascii { quote < 128 }
+    ensures after { IfSome result (λ next. at < next) }
+    ensures within { IfSome result (λ next. next ≤ length text.now) }
+    ensures grown { HasGrown lines.old.items lines.new.items }
+    ensures copied { IfSome result (IsCellCopied text.now from.old from.new at kind mark separator quote lines.old.items lines.new.items) }
+{
+    if at < text.len() && text[at] == quote {
+        let next = copy_quoted::<CALLER>(text, from, at, kind, mark, separator, quote, lines)?;
+        *marks = Marks::later(next);
+        return Some(next);
+    }
+    let ahead = marks.next(text, separator);
+    if let Kind::Datetime { places } = kind {
+        if let Some(end) = marked_seconds_end(text, at, mark) {
+            if !append(text, *from, end, places, mark, lines) {
+                return None;
+            }
+            *from = end + 1;
+            return Some(marks.pass(ahead, text, end, separator));
+        }
+    }
+    let end = cell_end::<CALLER>(text, at, kind, mark, separator, quote)?;
+    Some(marks.pass(ahead, text, end, separator))
 }

@@ -1,9 +1,23 @@
 //! Decimals that stand as they are printed.
-ghost use Rattle.std.specs.Prelude.{◌≡◌, ◌≤◌, ◌<◌, ◌==◌, not, length, slice_range, IfSome};
+ghost use Rattle.std.specs.Prelude.{◌≡◌, ◌≤◌, ◌<◌, ◌==◌, true, not, length, slice_range, IfSome};
+ghost use Rattle.std.specs.Bool.{OnTrue};
 ghost use Rattle.std.specs.List.{list_any};
+ghost use Rattle.std.specs.Str.{all_ascii_digits};
 ghost use Rattle.pl_verbatim.specs.CellTexts.{IsDecimalText};
 
 use crate::digits::digits_end;
+
+// Whether all bytes are digits.
+fn are_digits(bytes: &[u8]) -> bool
+    ensures { OnTrue result (all_ascii_digits bytes.now ≡ true) }
+{
+    for index in 0..bytes.len() {
+        if !bytes[index].is_ascii_digit() {
+            return false;
+        }
+    }
+    true
+}
 
 // Whether a byte other than a zero stands between two places.
 fn has_nonzero(text: &[u8], from: usize, to: usize) -> bool
@@ -28,8 +42,11 @@ pub(crate) fn decimal_end(text: &[u8], at: usize, digits: usize, scale: usize) -
     if count == 0 || point >= text.len() || text[point] != b'.' {
         return None;
     }
-    let end = digits_end(text, point + 1);
-    if end - point - 1 != scale || count > digits || scale > digits - count {
+    if count > digits || scale > digits - count || scale > text.len() - (point + 1) {
+        return None;
+    }
+    let end = point + 1 + scale;
+    if !are_digits(&text[point + 1..end]) {
         return None;
     }
     if text[from] == b'0' && count > 1 {

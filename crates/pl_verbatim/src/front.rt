@@ -12,6 +12,7 @@ ghost use Rattle.pl_verbatim.specs.Printing.{CanPrint, IsFrontPrinted};
 ghost use Rattle.pl_verbatim.specs.Verbatim.{IsWrittenAsRead, IsVerbatimOf, AreRowsCopied};
 
 use crate::kinds::{Kind, kind_of};
+use crate::marks::Marks;
 use crate::rows::{copy_row, row_end};
 use crate::verbatim::{Verbatim, VerbatimFront};
 use pl_frame::schema::Schema;
@@ -112,8 +113,16 @@ impl Verbatim {
         rows_return();
         let mut end = 0;
         let mut rows = 0;
+        let mut marks = Marks::later(end);
         while end < text.len() {
-            match row_end(text, end, &self.kinds, self.separator, self.quote_char) {
+            match row_end(
+                text,
+                end,
+                &self.kinds,
+                self.separator,
+                self.quote_char,
+                &mut marks,
+            ) {
                 Some(next) => end = next,
                 None => break,
             }
@@ -132,6 +141,7 @@ impl Verbatim {
         rows_return();
         let mut end = from;
         let mut rows = 0;
+        let mut marks = Marks::later(end);
         while end < text.len() {
             let len = lines.len();
             match copy_row(
@@ -140,6 +150,7 @@ impl Verbatim {
                 &self.kinds,
                 self.separator,
                 self.quote_char,
+                &mut marks,
                 lines,
             ) {
                 Some(next) => end = next,

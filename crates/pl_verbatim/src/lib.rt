@@ -9,6 +9,7 @@ mod decimals;
 mod digits;
 mod front;
 pub mod kinds;
+mod marks;
 mod moments;
 mod rows;
 mod texts;

@@ -10,6 +10,7 @@ ghost use Rattle.pl_verbatim.specs.Verbatim.{IsLineOf, IsRowCopied};
 use crate::cells::cell_end;
 use crate::copies::copy_cell;
 use crate::kinds::Kind;
+use crate::marks::Marks;
 
 /// The place behind the line that stands at a place as a row with cells of these kinds is written.
 #[inline]
@@ -19,6 +20,7 @@ pub(crate) fn row_end(
     kinds: &[Kind],
     separator: u8,
     quote: u8,
+    marks: &mut Marks,
 ) -> Option<usize>
     requires inside { start ≤ length text.now }
     requires sound { All (λ kind. is_sound_kind kind ≡ true) kinds.now }
@@ -34,18 +36,13 @@ pub(crate) fn row_end(
     let last = kinds.len() - 1;
     let mut at = start;
     for index in 0..last {
-        let end = cell_end(text, at, kinds[index], separator, separator, quote)?;
-        at = end + 1;
+        let ahead = marks.next(text, separator);
+        let end = cell_end::<1>(text, at, kinds[index], separator, separator, quote)?;
+        at = marks.pass(ahead, text, end, separator);
     }
-    let end = cell_end(text, at, kinds[last], b'\n', separator, quote)?;
-    Some(end + 1)
-}
-
-// Whether the cell at a place stands as it is written, if it is one that is copied: there is no quote in front of it, and it is no datetime, which
-// may stand without a fraction.
-#[inline(always)]
-fn is_bare(text: &[u8], at: usize, kind: Kind, quote: u8) -> bool {
-    at < text.len() && text[at] != quote && !matches!(kind, Kind::Datetime { .. })
+    let ahead = marks.next(text, separator);
+    let end = cell_end::<2>(text, at, kinds[last], b'\n', separator, quote)?;
+    Some(marks.pass(ahead, text, end, separator))
 }
 
 /// Appends what is written of the row at a place to lines, and answers the place behind its own line. Where no such row is found, or memory
@@ -57,6 +54,7 @@ pub(crate) fn copy_row(
     kinds: &[Kind],
     separator: u8,
     quote: u8,
+    marks: &mut Marks,
     lines: &mut Vec<u8>,
 ) -> Option<usize>
     requires inside { start ≤ length text.now }
@@ -74,35 +72,29 @@ pub(crate) fn copy_row(
     let mut from = start;
     let mut at = start;
     for index in 0..last {
-        at = if is_bare(text, at, kinds[index], quote) {
-            cell_end(text, at, kinds[index], separator, separator, quote)? + 1
-        } else {
-            copy_cell(
-                text,
-                &mut from,
-                at,
-                kinds[index],
-                separator,
-                separator,
-                quote,
-                lines,
-            )?
-        };
-    }
-    let end = if is_bare(text, at, kinds[last], quote) {
-        cell_end(text, at, kinds[last], b'\n', separator, quote)? + 1
-    } else {
-        copy_cell(
+        at = copy_cell::<3>(
             text,
             &mut from,
             at,
-            kinds[last],
-            b'\n',
+            kinds[index],
+            separator,
             separator,
             quote,
+            marks,
             lines,
-        )?
-    };
+        )?;
+    }
+    let end = copy_cell::<4>(
+        text,
+        &mut from,
+        at,
+        kinds[last],
+        b'\n',
+        separator,
+        quote,
+        marks,
+        lines,
+    )?;
     if lines.extend_from_slice(&text[from..end]).is_ok() {
         Some(end)
     } else {

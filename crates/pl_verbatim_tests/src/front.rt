@@ -241,6 +241,31 @@ fn texts_are_found_with_quotes_only_where_they_need_them(rt: HostRuntime) {
 }
 
 #[test]
+fn marks_within_cells_end_none(rt: HostRuntime) {
+    let alloc = rt.alloc();
+    let long =
+        "a text that is longer than the sixty-four bytes in which marks are looked for at a time";
+    let mut text = Vec::new(alloc);
+    let mut copy = Vec::new(alloc);
+    for _ in 0..20 {
+        for part in ["\"a,b\",\"c\nd\"\n", long, ",1\n2,3\n"] {
+            text.extend_from_slice(part.as_bytes())
+                .expect(&rt, "memory");
+        }
+    }
+    let found = front(&rt, alloc, &DataType::String, b',', &text);
+    assert!(&rt; found.end == text.len() && found.rows == 60);
+    copy.extend_from_slice(&text).expect(&rt, "memory");
+    text.extend_from_slice(b"\"4\",\"5,6\"\n")
+        .expect(&rt, "memory");
+    copy.extend_from_slice(b"4,\"5,6\"\n").expect(&rt, "memory");
+    let mut lines = Vec::new(alloc);
+    let copied = test_of(&rt, alloc, &DataType::String, b',').copy(&text, 0, &mut lines);
+    assert!(&rt; copied.end == text.len() && copied.rows == 61);
+    assert!(rt; lines.as_slice() == copy.as_slice());
+}
+
+#[test]
 fn front_ends_before_the_first_row_that_is_written_otherwise(rt: HostRuntime) {
     let alloc = rt.alloc();
     let text = b"1,2\n-3,\n,\n4,05\n6,7\n";

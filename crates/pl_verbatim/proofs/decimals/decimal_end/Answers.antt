@@ -2,7 +2,7 @@ use Rattle.std.proofs.Common.{◌≡◌, ◌+◌, ◌-◌, ◌<◌, ◌≤◌, t
 use Rattle.std.specs.Prelude.{slice_range}
 use Rattle.std.specs.List.{list_any}
 use mathlib.Core.Logic.{inl, inr}
-use Rattle.pl_verbatim.proofs.NumberLaws.{digits-at}
+use Rattle.pl_verbatim.proofs.NumberLaws.{DigitsAt, digits-at, digits-between}
 use Rattle.pl_verbatim.proofs.WholeLaws.{BeginsAt}
 use Rattle.pl_verbatim.proofs.DecimalLaws.{PointAt, decimal-at}
 use Rattle.pl_verbatim.proofs.decimals.decimal_end.Goals as goal
@@ -28,7 +28,13 @@ lead c e = elim c.else-text-from-eq48.either [
   | inr other ↦ absurd (other e)
 ]
 
-point : (c : Joined-else-text-from-eq48-2) → c.args.digits ≤ 64 → PointAt c.args.digits c.args.scale c.args.text.now c.if-text-at-eq45.from c.digits_end-point.result c.digits_end-end.result
+-- the digits behind the point
+behind : (c : Joined-else-text-from-eq48-2) → DigitsAt c.args.text.now (c.digits_end-point.result + 1) (c.digits_end-point.result + 1 + c.args.scale)
+behind c =
+    digits-between c.args.text.now (c.digits_end-point.result + 1) (c.digits_end-point.result + 1 + c.args.scale) (omega arith) (omega (arith, c.if-point-text.false, c.if-scale-text.false))
+    c.if-not-are_digits.ensures
+
+point : (c : Joined-else-text-from-eq48-2) → c.args.digits ≤ 64 → PointAt c.args.digits c.args.scale c.args.text.now c.if-text-at-eq45.from c.digits_end-point.result (c.digits_end-point.result + 1 + c.args.scale)
 point c wide = record {
   wide = wide;
   scaled = c.requires.some;
@@ -36,28 +42,20 @@ point c wide = record {
   some = omega (arith, c.if-count-eq0.false);
   inside = c.if-point-text.false;
   is_point = c.if-text-point-ne46.false;
-  behind = digits-at c.args.text.now (c.digits_end-point.result + 1) c.digits_end-end.result (omega (arith, c.if-point-text.false)) c.digits_end-end.ensures;
-  long = omega (arith, c.if-end-point.false);
+  behind = behind c;
+  long = omega arith;
   few = omega (arith, c.if-scale-digits.false, c.if-count-digits.false);
   lead = lead c;
 }
 
 nonzero : (c : Joined-else-text-from-eq48-2) → c.args.at < c.if-text-at-eq45.from → get_or c.args.text.now c.if-text-at-eq45.from 0 ≡ 48
-    → list_any (λ x. not (x == 48)) (slice_range c.args.text.now (c.digits_end-point.result + 1) c.digits_end-end.result) ≡ true
+    → list_any (λ x. not (x == 48)) (slice_range c.args.text.now (c.digits_end-point.result + 1) (c.digits_end-point.result + 1 + c.args.scale)) ≡ true
 nonzero c behind none = elim c.else-text-from-eq48-2.branch [
   | else-text-from-eq48-2-via-then-text-from-eq48-2+then-from-at+else-not-has_nonzero w ↦ sym w.has_nonzero.ensures ∙ w.if-not-has_nonzero.false
   | else-text-from-eq48-2-via-then-text-from-eq48-2+else-from-at w ↦ absurd (omega (arith, behind, w.if-from-at.false))
   | else-text-from-eq48-2-via-else-text-from-eq48-2 w ↦ absurd (w.if-text-from-eq48-2.false none)
 ]
 
-pub has_nonzero-requires : goal.has_nonzero-requires
-has_nonzero-requires c =
-    let d = digits-at c.args.text.now (c.digits_end-point.result + 1) c.digits_end-end.result (omega (arith, c.if-point-text.false)) c.digits_end-end.ensures in
-    (d.low, d.inside)
-
-pub returns-clause-within : goal.returns-clause-within
-returns-clause-within c = (digits-at c.args.text.now (c.digits_end-point.result + 1) c.digits_end-end.result (omega (arith, c.if-point-text.false)) c.digits_end-end.ensures).inside
-
 pub returns-clause-decimal : goal.returns-clause-decimal
 returns-clause-decimal c =
-    λ (wide : c.args.digits ≤ 64). decimal-at c.args.digits c.args.scale c.args.text.now c.args.at c.if-text-at-eq45.from c.digits_end-point.result c.digits_end-end.result (begins c) (point c wide) (nonzero c)
+    λ (wide : c.args.digits ≤ 64). decimal-at c.args.digits c.args.scale c.args.text.now c.args.at c.if-text-at-eq45.from c.digits_end-point.result (c.digits_end-point.result + 1 + c.args.scale) (begins c) (point c wide) (nonzero c)

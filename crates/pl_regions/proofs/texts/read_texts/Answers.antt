@@ -7,7 +7,7 @@ use Rattle.pl_regions.specs.Intake.{HasGiven}
 use Rattle.pl_regions.proofs.RegionLaws.{ok-holds}
 use Rattle.pl_regions.proofs.ArrivingLaws.{AreSetIn-push, HasRead, HasRead-none, HasRead-push, HasRead-back, HasRead-given}
 use Rattle.pl_regions.proofs.IntakeLaws.{IsTooLong-behind, HasStopped-behind}
-use Rattle.pl_regions.proofs.arriving.read_texts.Goals as goal
+use Rattle.pl_regions.proofs.texts.read_texts.Goals as goal
 
 pub loop-place-init : goal.loop-place-init
 loop-place-init g c = record {

@@ -1,7 +1,7 @@
 use Rattle.std.proofs.Common.{◌≡◌, ◌≤◌, length}
 use Rattle.pl_regions.specs.Arriving.{AreSetIn}
 use Rattle.pl_regions.proofs.ArrivingLaws.{HasRead}
-use Rattle.pl_regions.proofs.arriving.read_texts.Given as goal
+use Rattle.pl_regions.proofs.texts.read_texts.Given as goal
 
 abbrev pub invariant-loop-place : goal.invariant-loop-place
 invariant-loop-place g l = record {

@@ -5,7 +5,7 @@ use Rattle.std.proofs.lemmas.List.Elements.{All-push}
 use Rattle.pl_write.specs.Options.{cell_options}
 use Rattle.pl_regions.specs.Arriving.{IsTaken}
 use Rattle.pl_regions.specs.declared.taken.Taken.{Taken}
-use Rattle.pl_regions.proofs.arriving.take_texts.Goals as goal
+use Rattle.pl_regions.proofs.texts.take_texts.Goals as goal
 
 pub loop-preserved : goal.loop-preserved
 loop-preserved g c =

@@ -35,7 +35,8 @@ const ALIKE: usize = 80;
 /// So many texts are read before workers start; they are shorter. Where a source has no more, there are no more workers than texts.
 pub(crate) const FEW: usize = 8;
 
-// So long these are at most, so that little is read before workers start where pieces are long.
+// So long these are at most, and so many texts behind them twice as long, and so on: where pieces are long, little is read before workers start,
+// and a text is short beside what came before it.
 const SHORT: usize = 1 << 17;
 
 // So much memory for texts to come is ready at a time, each for one text.
@@ -56,10 +57,12 @@ pub fn make_cells(alloc: Global) -> Result<Vec<OnceLock<Vec<u8>>>, AllocError> {
 // How long the text of a place is, about, in bytes. Those of all places have more bytes than the largest input, where a piece is as long as it
 // is by default.
 fn text_size(piece_size: usize, place: usize) -> usize {
-    if place < FEW {
-        return (piece_size / 2 + 1).min(SHORT);
-    }
-    piece_size.saturating_mul(1 << (place / ALIKE).min(30))
+    let size = if place < FEW {
+        piece_size / 2 + 1
+    } else {
+        piece_size.saturating_mul(1 << (place / ALIKE).min(30))
+    };
+    size.min(SHORT << (place / FEW).min(30))
 }
 
 // Puts memory for a text there, where there is not enough ahead. Its pages are written before, so that who reads into it does not wait for

@@ -18,7 +18,12 @@ pub record Snapshot (D : Type 0) : Type 0 where
   pub clean : ℕ
   pub stray : Option (ℕ × (Cut × D))
 
--- of a new board
+-- a snapshot of these parts
+abbrev pub snapshot : {D : Type 0} → Setup → List Event → List (Option (Cut × D)) → ℕ → ℕ → ℕ → Option (ℕ × (Cut × D)) → Snapshot D
+snapshot setup log results seats running clean stray =
+    record { setup = setup; log = log; results = results; seats = seats; running = running; clean = clean; stray = stray }
+
+-- a new board
 abbrev pub fresh : {D : Type 0} → Setup → Snapshot D
 fresh setup = record { setup = setup; log = []; results = []; seats = 0; running = 0; clean = 0; stray = None }
 
@@ -28,6 +33,13 @@ next_piece setup log =
     let from = reached log in
     let to = from + cut setup.quote setup.line_end (drop from setup.bytes) setup.piece_size in
     record { number = length (hand_outs log); from = from; to = to; text = slice_range setup.bytes from to }
+
+-- a piece that a board of this setup hands out: it is the next one behind a legal log that is not finished
+pub record IsHandOut (setup : Setup) (piece : Cut) : Type 0 where
+  pub log : List Event
+  pub legal : IsLegal setup log
+  pub unfinished : is_finished setup log ≡ false
+  pub next : piece ≡ next_piece setup log
 
 -- the board behind a hand-out
 abbrev pub after_take : {D : Type 0} → Snapshot D → Snapshot D

@@ -42,16 +42,18 @@ pub struct BoardState<'a, D: Done> {
 }
 
 impl<'a, D: Done> Model for BoardState<'a, D> {
-    ghost use Rattle.pl_board.specs.States.{Snapshot, IsSound};
+    ghost use Rattle.pl_board.specs.States.{Snapshot, snapshot, IsSound};
     ghost use Rattle.pl_board.specs.Log.{marks};
     ghost use Rattle.pl_board.specs.Fields.{setup_of, IsIndexed, IsFront};
     ghost use Rattle.std.specs.Prelude.{vec_capacity};
 
     ghost Value = { Snapshot D };
 
-    ghost view = { λ s. record { setup = setup_of s.bytes.now s.piece_size s.lines s.limit; log = s.log.items; results = s.results.items; seats = s.seats; running = s.running; clean = s.clean; stray = s.stray } };
+    ghost view = { λ s. snapshot (setup_of s.bytes.now s.piece_size s.lines s.limit) s.log.items s.results.items s.seats s.running s.clean s.stray };
 
-    ghost invariant = { λ s. IsSound D.mark (record { setup = setup_of s.bytes.now s.piece_size s.lines s.limit; log = s.log.items; results = s.results.items; seats = s.seats; running = s.running; clean = s.clean; stray = s.stray }) × IsIndexed (record { setup = setup_of s.bytes.now s.piece_size s.lines s.limit; log = s.log.items; results = s.results.items; seats = s.seats; running = s.running; clean = s.clean; stray = s.stray }) s.reached s.ranges.items s.posts (vec_capacity s.log) × IsFront (marks s.log.items) s.front s.front_rows };
+    ghost invariant = { λ s.
+        let view = snapshot (setup_of s.bytes.now s.piece_size s.lines s.limit) s.log.items s.results.items s.seats s.running s.clean s.stray in
+        IsSound D.mark view × IsIndexed view s.reached s.ranges.items s.posts (vec_capacity s.log) × IsFront (marks s.log.items) s.front s.front_rows };
 }
 
 impl<'a, D: Done> BoardState<'a, D> {
@@ -232,7 +234,7 @@ impl<'a, D: Done> BoardState<'a, D> {
         self.clean
     }
 
-    /// The first result that did not match, with the length of the log then.
+    /// The first result that `turn_away` was given, with the length of the log at that time.
     pub fn stray(&self) -> Option<(usize, &Posted<'a, D>)>
         ensures stray { MatchOption result (self.now.stray ≡ None) (λ stray. self.now.stray ≡ Some (stray.0, stray.1.now)) }
         ensures astray { MatchOption result (self.now.clean ≡ self.now.seats) (λ stray. (self.now.clean < self.now.seats) × IsAstray self.now.log (stray.0, stray.1.now)) }
@@ -243,8 +245,8 @@ impl<'a, D: Done> BoardState<'a, D> {
         }
     }
 
-    // Makes the seats of a new board.
-    pub(crate) fn make_seats(&mut self, seats: usize)
+    /// Makes the seats of a new board: each runs and is clean.
+    pub fn make_seats(&mut self, seats: usize)
         requires { self.old ≡ fresh self.old.setup }
         ensures seats { self.new ≡ with_seats self.old seats }
         ensures handed_out { count_hand_outs self.new.log ≡ 0 }
@@ -255,8 +257,8 @@ impl<'a, D: Done> BoardState<'a, D> {
         self.clean = seats;
     }
 
-    // A seat that runs no more.
-    pub(crate) fn leave(&mut self)
+    /// Counts a seat that runs no more, which only a finished log allows: `take` answers `None` exactly there.
+    pub fn leave(&mut self)
         requires finished { is_finished self.old.setup self.old.log ≡ true }
         requires running { 0 < self.old.running }
         ensures { self.new ≡ after_leave self.old }
@@ -264,8 +266,9 @@ impl<'a, D: Done> BoardState<'a, D> {
         self.running -= 1;
     }
 
-    // A result that nothing awaits, and the seat that brought it is clean no more.
-    pub(crate) fn turn_away(&mut self, posted: Posted<'a, D>)
+    /// Turns away a result that no piece awaits, as `awaits` tells: the seat that brought it is counted as clean no more, and the first
+    /// such result is kept, with the length of the log at that time.
+    pub fn turn_away(&mut self, posted: Posted<'a, D>)
         requires astray { is_open self.old.log posted.0.number posted.0.from posted.0.to ≡ false }
         requires clean { 0 < self.old.clean }
         ensures { self.new ≡ after_turn_away self.old posted.entry }

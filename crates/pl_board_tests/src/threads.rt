@@ -6,7 +6,7 @@ ghost use Rattle.pl_board.specs.States.{fresh};
 use crate::rows::{Counts, Rows, board_of, counts_of};
 use pl_board::board::Board;
 use pl_board::books::Blanks;
-use pl_board::gate::{Gate, OpenGate};
+use pl_board::gate::Gate;
 use pl_board::piece::{Done, Piece, Posted};
 use pl_board::seat::Seat;
 use pl_board::state::BoardState;
@@ -174,17 +174,10 @@ fn two_threads_read_each_piece_once(rt: HostRuntime) -> Result<(), Fail> {
         after: zeros(),
     };
     let counts = counts_by_two(&rt, rt.alloc(), b"1\n2\n3\n4\n", &gate)?;
-    assert_eq!(rt; counts, (4, 4, 2, 0, 2, None));
+    assert!(rt; counts == (4, 4, 2, 0, 2, None));
     for piece in 0..4usize {
-        assert_eq!(rt; gate.before[piece].load(Ordering::SeqCst), 1);
-        assert_eq!(rt; gate.after[piece].load(Ordering::SeqCst), 1);
+        assert!(rt; gate.before[piece].load(Ordering::SeqCst) == 1);
+        assert!(rt; gate.after[piece].load(Ordering::SeqCst) == 1);
     }
-    Ok(())
-}
-
-#[test]
-fn an_open_gate_lets_all_pass(rt: HostRuntime) -> Result<(), Fail> {
-    let counts = counts_by_two(&rt, rt.alloc(), b"", &OpenGate)?;
-    assert_eq!(rt; counts, (0, 0, 2, 0, 2, None));
     Ok(())
 }

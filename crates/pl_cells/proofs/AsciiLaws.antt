@@ -84,11 +84,6 @@ pub undouble_bare : (b : Bool) (q : ℕ) (xs : List ℕ) → b ≡ true → OnTr
 undouble_bare true q xs is none = undouble_lacks q xs none
 undouble_bare false q xs is none = absurd (cc)
 
--- what a test of the whole text tells
-pub ascii_text : (b : Bool) (text : List ℕ) → OnTrue b (IsAsciiBetween text 0 (length text)) → OnTrue b (IsAscii text)
-ascii_text true text all = IsAscii-from_reads text (length text) (omega arith) (λ k h. all k (omega arith) h)
-ascii_text false text all = tt
-
 pub told : (b : Bool) (text : List ℕ) → b ≡ true → OnTrue b (IsAscii text) → IsAscii text
 told true text is ascii = ascii
 told false text is ascii = absurd (cc)

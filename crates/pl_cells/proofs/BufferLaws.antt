@@ -114,27 +114,6 @@ added_text old new text t c pushed same is = record {
   pushed = ap text_cells pushed ∙ map-append (option_map Letters) old (Some t ∷ []) ∙ ap (λ (l : List ℕ). text_cells old ++ Some (Letters l) ∷ []) same;
 }
 
--- a text that is missing and to be null
-pub missing_null : (type : DataType) → missing_value true type ≡ None
-missing_null dtype.Boolean = refl
-missing_null dtype.Int8 = refl
-missing_null dtype.Int16 = refl
-missing_null dtype.Int32 = refl
-missing_null dtype.Int64 = refl
-missing_null dtype.Int128 = refl
-missing_null dtype.UInt8 = refl
-missing_null dtype.UInt16 = refl
-missing_null dtype.UInt32 = refl
-missing_null dtype.UInt64 = refl
-missing_null dtype.String = refl
-missing_null dtype.Categorical = refl
-missing_null dtype.Date = refl
-missing_null dtype.Time = refl
-missing_null dtype.Null = refl
-missing_null (dtype.Enum c) = refl
-missing_null (dtype.Datetime u) = refl
-missing_null (dtype.Decimal p s) = refl
-
 -- what is not missing is read by its text
 pub plain_some : (reading : Reading) (type : DataType) (text : List ℕ) → (length text == 0) ≡ false → plain_cell reading type text ≡ text_cell reading type text
 plain_some reading type [] e = absurd (cc)
@@ -163,27 +142,6 @@ fault_kept false cell_fault.Utf8 c e h = softened_fault false c fault.Utf8 e ref
 fault_kept false cell_fault.Value c e h = softened_fault false c fault.Value e refl
 fault_kept false cell_fault.OutOfMemory c e h = tt
 
-pub fault_ignored : (ignore : Bool) (wrong : CellFault) (c : Cell) → IsCellFault wrong c → is_ignored ignore wrong ≡ true → softened ignore c ≡ Ok None
-fault_ignored true cell_fault.Escape c e h = absurd (cc)
-fault_ignored true cell_fault.Utf8 c e h = ap (softened true) e
-fault_ignored true cell_fault.Value c e h = ap (softened true) e
-fault_ignored true cell_fault.OutOfMemory c e h = absurd (cc)
-fault_ignored false cell_fault.Escape c e h = absurd (cc)
-fault_ignored false cell_fault.Utf8 c e h = absurd (cc)
-fault_ignored false cell_fault.Value c e h = absurd (cc)
-fault_ignored false cell_fault.OutOfMemory c e h = absurd (cc)
-
-pub value_kept : (ignore : Bool) (old new : List (Option Scalar)) (c : Cell) → Adds push_value old new c → Adds push_value old new (softened ignore c)
-value_kept ignore old new c added = record { value = added.value; is = softened_ok ignore c added.value added.is; pushed = added.pushed }
-
-pub fault_null : (ignore : Bool) (wrong : CellFault) (type : DataType) (old now new : List (Option Scalar)) (c : Cell) → IsCellFault wrong c → is_ignored ignore wrong ≡ true → now ≡ old
-    → new ≡ now ++ missing_value true type ∷ [] → Adds push_value old new (softened ignore c)
-fault_null ignore wrong type old now new c e h same pushed = record {
-  value = None;
-  is = fault_ignored ignore wrong c e h;
-  pushed = pushed ∙ (λ j. same j ++ missing_null type j ∷ []);
-}
-
 -- ---- from a list to its buffer
 
 -- a buffer whose list answered
@@ -209,62 +167,7 @@ quoted_same view old missing ignore q text t is same texts =
     ap (softened ignore) (ap (text_cell (reading_of view missing ignore) view.dtype) same ∙ sym (quoted_text (reading_of view missing ignore) q view.dtype text texts))
     ∙ ap (λ (b : BufferValue). softened ignore (quoted_cell (reading_of b missing ignore) q b.dtype text)) is
 
--- a type that holds no texts has no missing text but the null
-pub missing_no_text : (is_null : Bool) (type : DataType) → is_text type ≡ false → missing_value is_null type ≡ None
-missing_no_text is_null dtype.Boolean h = refl
-missing_no_text is_null dtype.Int8 h = refl
-missing_no_text is_null dtype.Int16 h = refl
-missing_no_text is_null dtype.Int32 h = refl
-missing_no_text is_null dtype.Int64 h = refl
-missing_no_text is_null dtype.Int128 h = refl
-missing_no_text is_null dtype.UInt8 h = refl
-missing_no_text is_null dtype.UInt16 h = refl
-missing_no_text is_null dtype.UInt32 h = refl
-missing_no_text is_null dtype.UInt64 h = refl
-missing_no_text is_null dtype.Categorical h = refl
-missing_no_text is_null dtype.Date h = refl
-missing_no_text is_null dtype.Time h = refl
-missing_no_text is_null dtype.Null h = refl
-missing_no_text is_null (dtype.Enum c) h = refl
-missing_no_text is_null (dtype.Datetime u) h = refl
-missing_no_text is_null (dtype.Decimal p s) h = refl
-missing_no_text is_null dtype.String h = absurd (cc)
-
 -- ---- fields
-
--- whether a missing text is null does not matter to a text
-text_any : (encoding : CsvEncoding) (a b ignore : Bool) (type : DataType) (text : List ℕ) → text_cell (reading_with encoding a ignore) type text ≡ text_cell (reading_with encoding b ignore) type text
-text_any encoding a b ignore dtype.Boolean text = refl
-text_any encoding a b ignore dtype.Int8 text = refl
-text_any encoding a b ignore dtype.Int16 text = refl
-text_any encoding a b ignore dtype.Int32 text = refl
-text_any encoding a b ignore dtype.Int64 text = refl
-text_any encoding a b ignore dtype.Int128 text = refl
-text_any encoding a b ignore dtype.UInt8 text = refl
-text_any encoding a b ignore dtype.UInt16 text = refl
-text_any encoding a b ignore dtype.UInt32 text = refl
-text_any encoding a b ignore dtype.UInt64 text = refl
-text_any encoding a b ignore dtype.String text = refl
-text_any encoding a b ignore dtype.Categorical text = refl
-text_any encoding a b ignore dtype.Date text = refl
-text_any encoding a b ignore dtype.Time text = refl
-text_any encoding a b ignore dtype.Null text = refl
-text_any encoding a b ignore (dtype.Enum None) text = refl
-text_any encoding a b ignore (dtype.Enum (Some c)) text = refl
-text_any encoding a b ignore (dtype.Datetime u) text = refl
-text_any encoding a b ignore (dtype.Decimal p s) text = refl
-
--- a field that begins with the quote is never missing
-pub stripped_any : (encoding : CsvEncoding) (a b ignore : Bool) (q : ℕ) (type : DataType) (text : List ℕ)
-    → stripped_cell (reading_with encoding a ignore) nothing_is_null (Some q) type text ≡ stripped_cell (reading_with encoding b ignore) nothing_is_null (Some q) type text
-stripped_any encoding a b ignore q type text =
-    let doubled = text_any encoding a b ignore type (undouble q (inside text)) in
-    let same = text_any encoding a b ignore type (inside text) in
-    (λ j. if not (is_well_quoted q text) then Err fault.Escape else (if (is_well_quoted q text && false) && not (is_missing (Some q) text) then Ok None else softened ignore (if is_text type then doubled j else same j)))
-
-pub quoted_answers : {T : Type 0} (old new : BufferValue) (q : ℕ) (missing ignore : Bool) (text : List ℕ) (r : Result T CellFault)
-    → Answers old new (stripped_cell (reading_of old true ignore) nothing_is_null (Some q) old.dtype text) r → Answers old new (stripped_cell (reading_of old missing ignore) nothing_is_null (Some q) old.dtype text) r
-quoted_answers old new q missing ignore text r h = subst (λ (c : Cell). Answers old new c r) (stripped_any old.encoding true missing ignore q old.dtype text) h
 
 -- the cell of a field that begins with the quote, by whether it is well quoted
 abbrev pub by_quoting : Reading → ℕ → DataType → List ℕ → Bool → Cell

@@ -9,7 +9,7 @@ use Rattle.std.specs.Char.{is_ascii_digit}
 use Rattle.pl_cells.specs.Columns.{begins_number}
 use Rattle.pl_cells.specs.Dates.{date_value, number_of_day}
 use Rattle.pl_cells.specs.Integers.{digits_value, number_of}
-use Rattle.pl_cells.specs.Lanes.{IsDateText}
+use Rattle.pl_cells.specs.Lanes.{HasDateDigits}
 use Rattle.pl_cells.specs.Quoting.{strip}
 use Rattle.pl_cells.proofs.LaneLaws.{clear, digit_byte, lane_less, lane_lt}
 use Rattle.pl_cells.proofs.PlacedLaws.{digit_no_return, strip_same}
@@ -39,7 +39,7 @@ hyphen_at : (x : ℕ) → Fits w8 x → lane_less x 45 ≤ 0 → nat_eq x 45 ≡
 hyphen_at x fits h = let is : x ≡ 45 = omega (arith, fits.fits, h) in ap (λ k. nat_eq k 45) is
 
 pub date_from_lanes : (lanes : List ℕ) → length lanes ≡ 16 → Each1 (Fits w8) lanes
-    → OnTrue (nat_eq (mask_l (map (top 7) (zip2 lane_lt most (zip2 lane_less lanes taken))) % 18446744073709551616) 0) (IsDateText (drop 6 lanes))
+    → OnTrue (nat_eq (mask_l (map (top 7) (zip2 lane_lt most (zip2 lane_less lanes taken))) % 18446744073709551616) 0) (HasDateDigits (drop 6 lanes))
 date_from_lanes (a ∷ b ∷ c ∷ d ∷ e ∷ f ∷ g ∷ h ∷ i ∷ j ∷ k ∷ l ∷ m ∷ n ∷ o ∷ p ∷ []) long fits =
     let bits = map (top 7) (zip2 lane_lt most (zip2 lane_less (a ∷ b ∷ c ∷ d ∷ e ∷ f ∷ g ∷ h ∷ i ∷ j ∷ k ∷ l ∷ m ∷ n ∷ o ∷ p ∷ []) taken)) in
     let whole : mask_l bits % 2 ^ 64 ≡ mask_l bits = mask_l-mod bits 64 (omega arith) in
@@ -49,7 +49,7 @@ date_from_lanes (a ∷ b ∷ c ∷ d ∷ e ∷ f ∷ g ∷ h ∷ i ∷ j ∷ k �
     by true _ f = f refl
     by false _ f = tt
 
-    date : Each2 (λ x y. y ≤ x) most (zip2 lane_less (a ∷ b ∷ c ∷ d ∷ e ∷ f ∷ g ∷ h ∷ i ∷ j ∷ k ∷ l ∷ m ∷ n ∷ o ∷ p ∷ []) taken) → IsDateText (g ∷ h ∷ i ∷ j ∷ k ∷ l ∷ m ∷ n ∷ o ∷ p ∷ [])
+    date : Each2 (λ x y. y ≤ x) most (zip2 lane_less (a ∷ b ∷ c ∷ d ∷ e ∷ f ∷ g ∷ h ∷ i ∷ j ∷ k ∷ l ∷ m ∷ n ∷ o ∷ p ∷ []) taken) → HasDateDigits (g ∷ h ∷ i ∷ j ∷ k ∷ l ∷ m ∷ n ∷ o ∷ p ∷ [])
     date few =
         let fits' = fits.1.1.1.1.1.1 in
         let few' = few.1.1.1.1.1.1 in
@@ -79,7 +79,7 @@ four : (a b c d : ℕ) → is_ascii_digit a ≡ true → is_ascii_digit b ≡ tr
     → digits_value (a ∷ b ∷ c ∷ d ∷ []) ≡ Some (pair_of a b * 100 + pair_of c d)
 four a b c d da db dc dd = (λ s. if da s && (db s && (dc s && (dd s && true))) then Some (number_of (a ∷ b ∷ c ∷ d ∷ [])) else None) ∙ ap Some (omega arith)
 
-pub date_told : (text : List ℕ) → length text ≡ 10 → IsDateText text
+pub date_told : (text : List ℕ) → length text ≡ 10 → HasDateDigits text
     → date_value text ≡ number_of_day (Some (pair_of (get_or text 0 0) (get_or text 1 0) * 100 + pair_of (get_or text 2 0) (get_or text 3 0))) (Some (pair_of (get_or text 5 0) (get_or text 6 0))) (Some (pair_of (get_or text 8 0) (get_or text 9 0)))
 date_told (a ∷ b ∷ c ∷ d ∷ e ∷ f ∷ g ∷ h ∷ i ∷ j ∷ []) long is = (λ s.
     if is.hyphen s && is.later_hyphen s
@@ -87,25 +87,25 @@ date_told (a ∷ b ∷ c ∷ d ∷ e ∷ f ∷ g ∷ h ∷ i ∷ j ∷ []) long 
     else None)
 date_told _ long is = absurd (omega arith)
 
-pub date_front : (text : List ℕ) → length text ≡ 10 → IsDateText text → begins_number text ≡ true
+pub date_front : (text : List ℕ) → length text ≡ 10 → HasDateDigits text → begins_number text ≡ true
 date_front [] long is = absurd (omega (arith, long))
 date_front (x ∷ xs) long is = (λ s. is.first s || x == 45)
 
-pub date_back : (text : List ℕ) → length text ≡ 10 → IsDateText text → strip text ≡ text
+pub date_back : (text : List ℕ) → length text ≡ 10 → HasDateDigits text → strip text ≡ text
 date_back text long is =
     let last : nat_eq 13 (get_or text (length text - 1) 0) ≡ false = ap (λ k. nat_eq 13 (get_or text (k - 1) 0)) long ∙ digit_no_return (get_or text 9 0) is.eighth in
     strip_same text (omega (arith, long)) last
 
 -- ---- the place of such a text
 
-pub date_place : (upto : List ℕ) (start : ℕ) → 16 ≤ length upto → length upto ≡ start + 10 → IsDateText (drop 6 (chunk (length upto - 16) 16 upto)) → IsDateText (drop start upto)
+pub date_place : (upto : List ℕ) (start : ℕ) → 16 ≤ length upto → length upto ≡ start + 10 → HasDateDigits (drop 6 (chunk (length upto - 16) 16 upto)) → HasDateDigits (drop start upto)
 date_place upto start long ten is =
     let from = drop (length upto - 16) upto in
     let width : length from ≡ 16 = omega (arith, length-drop (length upto - 16) upto) in
     let whole : chunk (length upto - 16) 16 upto ≡ from = take_all 16 from (omega (arith, width)) in
     let same : drop 6 (chunk (length upto - 16) 16 upto) ≡ drop start upto =
     ap (λ (l : List ℕ). drop 6 l) whole ∙ drop-drop 6 (length upto - 16) upto ∙ ap (λ (n : ℕ). drop n upto) (omega arith) in
-    subst IsDateText same is
+    subst HasDateDigits same is
 
 pub told_some : (r v : Option ℤ) → r ≡ v → IfSome r (λ n. v ≡ Some n)
 told_some None v e = tt

@@ -148,18 +148,6 @@ scaled-is scale whole fraction =
     ∙ number_after-append 0 (whole ++ take scale fraction) (replicate (scale - length fraction) 48)
     ∙ number_after-zeros (number_of (whole ++ take scale fraction)) (scale - length fraction)
 
-pub scaled-empty : (limit scale : ℕ) (whole fraction : List ℕ) → nat_lt 0 (length whole + length fraction) ≡ false → None ≡ scaled_below limit scale whole fraction
-scaled-empty limit scale [] [] e = refl
-scaled-empty limit scale [] (y ∷ ys) e = absurd (grind (arith, nat_tests, e))
-scaled-empty limit scale (x ∷ xs) ys e = absurd (grind (arith, nat_tests, e))
-
-pub scaled-cut : (limit scale : ℕ) (whole fraction : List ℕ) → are_zeros (drop scale fraction) ≡ false → None ≡ scaled_below limit scale whole fraction
-scaled-cut limit scale whole fraction e = rw e (by_test (is_digits (whole ++ fraction)))
-  where
-    by_test : (t : Bool) → None ≡ cond ((t && false) && ltb (scaled scale whole fraction) limit) (Some (scaled scale whole fraction)) None
-    by_test true = refl
-    by_test false = refl
-
 some_power : (k : ℕ) → 1 ≤ 10 ^ k
 some_power k = pow-le-pow_right {n = 10} (lit< tt) {i = 0} {j = k} (omega arith)
 
@@ -219,16 +207,6 @@ decimal_of-refused precision scale negative whole fraction readable e = by (is_d
         let far : 2 ^ 128 ≤ scaled scale whole fraction = grind (arith, decimal, e, nat_tests) in
         let few = power-small (unwrap_or precision 38) (precision-bound precision scale readable) in
         rw decimal (outside (10 ^ unwrap_or precision 38) (scaled scale whole fraction) negative (omega (arith, far, few)) (some_power (unwrap_or precision 38)))
-
-pub decimal_of-found : (precision : Option ℕ) (scale : ℕ) (negative : Bool) (whole fraction : List ℕ) (n : ℕ) (r : Option ℤ)
-    → Some n ≡ scaled_below (2 ^ 128) scale whole fraction → r ≡ only_within (decimal_range precision) (signed negative n) → r ≡ decimal_of precision scale negative whole fraction
-decimal_of-found precision scale negative whole fraction n r e is = by (is_decimal scale whole fraction) refl
-  where
-    by : (t : Bool) → is_decimal scale whole fraction ≡ t → r ≡ decimal_of precision scale negative whole fraction
-    by false decimal = absurd (grind (arith, decimal, e, nat_tests))
-    by true decimal =
-        let same : n ≡ scaled scale whole fraction = grind (arith, decimal, e, nat_tests) in
-        rw (decimal, ← same) is
 
 -- ---- as many digits behind the point as the scale says
 

@@ -12,7 +12,7 @@ use Rattle.pl_frame.proofs.ColumnLaws.{position-nowhere}
 use Rattle.pl_cells.specs.declared.buffer.Buffer.{Buffer}
 use Rattle.pl_cells.specs.declared.buffer.Buffer.TheVariants as buffer
 use Rattle.pl_cells.specs.declared.utf8.CsvEncoding.{CsvEncoding}
-use Rattle.pl_cells.specs.BufferValue.{BufferValue, with_values}
+use Rattle.pl_cells.specs.BufferValue.{BufferValue, with_more}
 use Rattle.pl_cells.specs.EnumPlaces.{EnumValue, ArePlaces}
 use Rattle.pl_cells.specs.InitBuffers.{state_of}
 use Rattle.pl_cells.specs.Variants.{buffer_for}
@@ -38,19 +38,7 @@ holds-after (Ok done) type other_type f old more new h k same ok err =
     subst (HoldsType type) (sym (map-append f old more) ∙ ap (map f) (sym ok)) (holds-append type (map f old) (map f more) h (subst (λ t. HoldsType t (map f more)) (sym same) k))
 holds-after (Err wrong) type other_type f old more new h k same ok err = subst (λ xs. HoldsType type (map f xs)) (sym err) h
 
-pub values-after : {V T E : Type 0} (r : Result T E) (old other : BufferValue) (name other_name : List ℕ) (type other_type : DataType) (quote other_quote : Option ℕ) (encoding other_encoding : CsvEncoding)
-    (f : Option V → Option Scalar) (values more new : List (Option V)) → record_of name type quote encoding (map f values) ≡ old →
-    record_of other_name other_type other_quote other_encoding (map f more) ≡ other → OnOk r (new ≡ values ++ more) →
-    OnOk r (record_of name type quote encoding (map f new) ≡ with_values old other.values)
-values-after (Ok done) old other name other_name type other_type quote other_quote encoding other_encoding f values more new is also ok =
-    ap (record_of name type quote encoding) (ap (map f) ok ∙ map-append f values more) ∙ (λ j. with_values (is j) (also j).values)
-values-after (Err wrong) old other name other_name type other_type quote other_quote encoding other_encoding f values more new is also ok = tt
-
 -- ---- texts
-
-pub cells-after : {T E : Type 0} (r : Result T E) (old more new : List (Option (List ℕ))) → OnOk r (new ≡ old ++ more) → OnOk r (text_cells new ≡ text_cells old ++ text_cells more)
-cells-after (Ok done) old more new ok = ap text_cells ok ∙ map-append _ old more
-cells-after (Err wrong) old more new ok = tt
 
 -- ---- places among categories
 

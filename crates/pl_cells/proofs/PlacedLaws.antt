@@ -82,28 +82,6 @@ first_is x xs digits = by (is_ascii_digit x) digits
     by true e = refl
     by false e = e
 
-pub front_number : (text : List ℕ) → is_digits (take 1 (without_minus text)) ≡ true → begins_number text ≡ true
-front_number [] digits = absurd (cc)
-front_number (x ∷ xs) digits = by (x == 45) digits
-  where
-    by : (t : Bool) → is_digits (take 1 (if t then xs else x ∷ xs)) ≡ true → (is_ascii_digit x || t) ≡ true
-    by true e = or_true (is_ascii_digit x)
-      where
-        or_true : (s : Bool) → (s || true) ≡ true
-        or_true true = refl
-        or_true false = refl
-    by false e = ap (λ s. s || false) (first_is x xs e)
-
-pub minus_sign : (text : List ℕ) → is_digits (take 1 (without_minus text)) ≡ true → without_sign text ≡ without_minus text
-minus_sign [] digits = refl
-minus_sign (x ∷ xs) digits = by (x == 45) (x == 43) refl digits
-  where
-    by : (t s : Bool) → (x == 43) ≡ s → is_digits (take 1 (if t then xs else x ∷ xs)) ≡ true → (if s || t then xs else x ∷ xs) ≡ (if t then xs else x ∷ xs)
-    by true true h e = refl
-    by true false h e = refl
-    by false false h e = refl
-    by false true h e = let digit = first_is x xs e in absurd (grind (arith, nat_tests, h, digit))
-
 -- ---- texts that are plain at sight
 
 -- the last byte of what stands from a place on
@@ -115,9 +93,6 @@ last_byte upto start inside =
 pub strip_last : (upto : List ℕ) (start : ℕ) → start < length upto → nat_eq 13 (get_or upto (length upto - 1) 0) ≡ false → strip (drop start upto) ≡ drop start upto
 strip_last upto start inside other =
     strip_same (drop start upto) (omega (arith, length-drop start upto)) (ap (nat_eq 13) (last_byte upto start inside) ∙ other)
-
-pub begins_at : (upto : List ℕ) (start : ℕ) → start < length upto → (is_ascii_digit (get_or upto start 0) || get_or upto start 0 == 45) ≡ true → begins_number (drop start upto) ≡ true
-begins_at upto start inside first = ap begins_number (drop_more upto start 0 inside) ∙ first
 
 -- ---- texts between quotes
 

@@ -31,12 +31,12 @@ holding buffer values = record {
 }
 
 -- the same with these cells more
-abbrev pub with_values : BufferValue → List (Option Scalar) → BufferValue
-with_values buffer more = holding buffer (buffer.values ++ more)
+abbrev pub with_more : BufferValue → List (Option Scalar) → BufferValue
+with_more buffer more = holding buffer (buffer.values ++ more)
 
 -- the same with one more
 abbrev pub with_value : BufferValue → Option Scalar → BufferValue
-with_value buffer value = with_values buffer (value ∷ [])
+with_value buffer value = with_more buffer (value ∷ [])
 
 -- the same with the first so many of its cells, or with all if there are fewer
 abbrev pub cut_to : ℕ → BufferValue → BufferValue

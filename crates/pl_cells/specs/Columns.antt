@@ -1,11 +1,13 @@
 -- The cells of a column of records, and of fields that are read in place (docs/types.md, "Cells").
-use Rattle.std.specs.Prelude.{◌≡◌, ℕ, Bool, true, false, not, ◌&&◌, ◌||◌, ◌==◌, List, [], ◌∷◌, ◌++◌, map, Option, None, Some, Ok, slice_get, unwrap_or}
+use Rattle.std.specs.Prelude.{◌≡◌, ◌⊎◌, ℕ, Bool, true, false, not, ◌&&◌, ◌||◌, ◌==◌, List, [], ◌∷◌, ◌++◌, map, Option, None, Some, Ok, slice_get, unwrap_or}
 use Rattle.std.specs.Char.{is_ascii_digit}
 use Rattle.std.specs.List.{AllByRecursion}
 use Rattle.pl_frame.specs.declared.data_type.DataType.{DataType}
 use Rattle.pl_frame.specs.Frame.{Scalar}
 use Rattle.pl_frame.specs.Types.{is_text}
-use Rattle.pl_cells.specs.BufferValue.{BufferValue, Adds, with_value, with_values, reading_of}
+use Rattle.pl_cells.specs.declared.cell_fault.CellFault.{CellFault}
+use Rattle.pl_cells.specs.declared.cell_fault.CellFault.TheVariants as cell_fault
+use Rattle.pl_cells.specs.BufferValue.{BufferValue, IsCellFault, Adds, with_value, reading_of, with_more}
 use Rattle.pl_cells.specs.Cells.{Cell, Reading, cell, is_missing, text_cell, softened, value_of, fault_of}
 use Rattle.pl_cells.specs.NullTest.{NullTest, null_test, nothing_is_null}
 use Rattle.pl_cells.specs.Quoting.{strip}
@@ -23,9 +25,13 @@ column_cells reading is_null quote type column records = map (λ fields. cell re
 abbrev pub AreSound : List Cell → Type 0
 AreSound cells = AllByRecursion (λ c. fault_of c ≡ None) cells
 
+-- why cells were not all put: one of them has this fault; or memory is wanting, which may be at any time
+abbrev pub IsFaultOf : List Cell → CellFault → Type 0
+IsFaultOf cells wrong = (wrong ≡ cell_fault.OutOfMemory) ⊎ ((n : ℕ) × (c : Cell) × (slice_get cells n ≡ Some c) × IsCellFault wrong c)
+
 -- none of the cells has a fault, and their values stand at the end
 pub record AddsCells (cells : List Cell) (old new : BufferValue) : Type 0 where
-  pub added : new ≡ with_values old (map value_of cells)
+  pub added : new ≡ with_more old (map value_of cells)
   pub sound : AreSound cells
 
 -- where no text means null, the cell of a field has a value, which was added

@@ -1,7 +1,7 @@
 -- The day of a text (docs/types.md, "Dates").
 use Rattle.std.specs.Prelude.{ℕ, ℤ, pos, Bool, ◌&&◌, ◌==◌, nat_le, if◌then◌else◌, List, length, take, drop, get_or, Option, None, Some}
 use Rattle.jiff_core.specs.Calendar.{days_in_month}
-use Rattle.pl_frame.specs.Printed.{civil, day_number}
+use Rattle.pl_frame.specs.Days.{civil, day_number}
 use Rattle.pl_cells.specs.Integers.{digits_value}
 
 -- so many bytes of a text from a place on

@@ -18,7 +18,7 @@ digits_number n [] = n
 digits_number n (x ∷ xs) = digits_number (n * 10 + x) xs
 
 -- digits and hyphens stand as in `YYYY-MM-DD`
-pub record IsDateText (text : List ℕ) : Type 0 where
+pub record HasDateDigits (text : List ℕ) : Type 0 where
   pub first : is_ascii_digit (get_or text 0 0) ≡ true
   pub second : is_ascii_digit (get_or text 1 0) ≡ true
   pub third : is_ascii_digit (get_or text 2 0) ≡ true
@@ -31,7 +31,7 @@ pub record IsDateText (text : List ℕ) : Type 0 where
   pub eighth : is_ascii_digit (get_or text 9 0) ≡ true
 
 -- digits and colons stand as in `HH:MM:SS`
-pub record IsClockText (text : List ℕ) : Type 0 where
+pub record HasClockDigits (text : List ℕ) : Type 0 where
   pub first : is_ascii_digit (get_or text 0 0) ≡ true
   pub second : is_ascii_digit (get_or text 1 0) ≡ true
   pub colon : has_at 2 58 text ≡ true

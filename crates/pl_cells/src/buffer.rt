@@ -12,6 +12,7 @@ ghost use Rattle.pl_cells.specs.NullValues.{HaveTexts, means_null};
 use crate::cell_fault::CellFault;
 use crate::column_settings::ColumnSettings;
 use crate::decimal_type::Decimal;
+use crate::each_type::for_each_type;
 use crate::enum_texts::EnumTexts;
 use crate::moment_types::{Date, Datetime, Time};
 use crate::null_test::is_null_cell;
@@ -103,25 +104,7 @@ impl Buffer {
     fn quote_char(&self) -> Option<u8>
         ensures { result ≡ (state_of self.now).quote_char }
     {
-        match self {
-            Buffer::Boolean(buffer) => buffer.quote_char(),
-            Buffer::Int8(buffer) => buffer.quote_char(),
-            Buffer::Int16(buffer) => buffer.quote_char(),
-            Buffer::Int32(buffer) => buffer.quote_char(),
-            Buffer::Int64(buffer) => buffer.quote_char(),
-            Buffer::Int128(buffer) => buffer.quote_char(),
-            Buffer::UInt8(buffer) => buffer.quote_char(),
-            Buffer::UInt16(buffer) => buffer.quote_char(),
-            Buffer::UInt32(buffer) => buffer.quote_char(),
-            Buffer::UInt64(buffer) => buffer.quote_char(),
-            Buffer::String(buffer) => buffer.quote_char(),
-            Buffer::Categorical(buffer) => buffer.quote_char(),
-            Buffer::Enum(buffer) => buffer.quote_char(),
-            Buffer::Date(buffer) => buffer.quote_char(),
-            Buffer::Time(buffer) => buffer.quote_char(),
-            Buffer::Datetime(buffer) => buffer.quote_char(),
-            Buffer::Decimal(buffer) => buffer.quote_char(),
-        }
+        for_each_type!(self, buffer => buffer.quote_char())
     }
 
     // Puts the cell of a plain field at the end.
@@ -134,50 +117,14 @@ impl Buffer {
     ) -> Result<(), CellFault>
         ensures { Answers (state_of self.old) (state_of self.new) (softened ignore_errors (plain_cell (reading_of (state_of self.old) missing_is_null ignore_errors) (state_of self.old).dtype text.now)) result }
     {
-        match self {
-            Buffer::Boolean(buffer) => buffer.add_plain(text, ignore_errors, missing_is_null),
-            Buffer::Int8(buffer) => buffer.add_plain(text, ignore_errors, missing_is_null),
-            Buffer::Int16(buffer) => buffer.add_plain(text, ignore_errors, missing_is_null),
-            Buffer::Int32(buffer) => buffer.add_plain(text, ignore_errors, missing_is_null),
-            Buffer::Int64(buffer) => buffer.add_plain(text, ignore_errors, missing_is_null),
-            Buffer::Int128(buffer) => buffer.add_plain(text, ignore_errors, missing_is_null),
-            Buffer::UInt8(buffer) => buffer.add_plain(text, ignore_errors, missing_is_null),
-            Buffer::UInt16(buffer) => buffer.add_plain(text, ignore_errors, missing_is_null),
-            Buffer::UInt32(buffer) => buffer.add_plain(text, ignore_errors, missing_is_null),
-            Buffer::UInt64(buffer) => buffer.add_plain(text, ignore_errors, missing_is_null),
-            Buffer::String(buffer) => buffer.add_plain(text, ignore_errors, missing_is_null),
-            Buffer::Categorical(buffer) => buffer.add_plain(text, ignore_errors, missing_is_null),
-            Buffer::Enum(buffer) => buffer.add_plain(text, ignore_errors, missing_is_null),
-            Buffer::Date(buffer) => buffer.add_plain(text, ignore_errors, missing_is_null),
-            Buffer::Time(buffer) => buffer.add_plain(text, ignore_errors, missing_is_null),
-            Buffer::Datetime(buffer) => buffer.add_plain(text, ignore_errors, missing_is_null),
-            Buffer::Decimal(buffer) => buffer.add_plain(text, ignore_errors, missing_is_null),
-        }
+        for_each_type!(self, buffer => buffer.add_plain(text, ignore_errors, missing_is_null))
     }
 
     // Puts the cell of what stands between quotes at the end.
     fn add_quoted(&mut self, text: &[u8], quote: u8, ignore_errors: bool) -> Result<(), CellFault>
         ensures { Answers (state_of self.old) (state_of self.new) (softened ignore_errors (quoted_cell (reading_of (state_of self.old) true ignore_errors) quote (state_of self.old).dtype text.now)) result }
     {
-        match self {
-            Buffer::Boolean(buffer) => buffer.add_quoted(text, quote, ignore_errors),
-            Buffer::Int8(buffer) => buffer.add_quoted(text, quote, ignore_errors),
-            Buffer::Int16(buffer) => buffer.add_quoted(text, quote, ignore_errors),
-            Buffer::Int32(buffer) => buffer.add_quoted(text, quote, ignore_errors),
-            Buffer::Int64(buffer) => buffer.add_quoted(text, quote, ignore_errors),
-            Buffer::Int128(buffer) => buffer.add_quoted(text, quote, ignore_errors),
-            Buffer::UInt8(buffer) => buffer.add_quoted(text, quote, ignore_errors),
-            Buffer::UInt16(buffer) => buffer.add_quoted(text, quote, ignore_errors),
-            Buffer::UInt32(buffer) => buffer.add_quoted(text, quote, ignore_errors),
-            Buffer::UInt64(buffer) => buffer.add_quoted(text, quote, ignore_errors),
-            Buffer::String(buffer) => buffer.add_quoted(text, quote, ignore_errors),
-            Buffer::Categorical(buffer) => buffer.add_quoted(text, quote, ignore_errors),
-            Buffer::Enum(buffer) => buffer.add_quoted(text, quote, ignore_errors),
-            Buffer::Date(buffer) => buffer.add_quoted(text, quote, ignore_errors),
-            Buffer::Time(buffer) => buffer.add_quoted(text, quote, ignore_errors),
-            Buffer::Datetime(buffer) => buffer.add_quoted(text, quote, ignore_errors),
-            Buffer::Decimal(buffer) => buffer.add_quoted(text, quote, ignore_errors),
-        }
+        for_each_type!(self, buffer => buffer.add_quoted(text, quote, ignore_errors))
     }
 
     // Puts the cell of a field at the end that begins with the quote, and is none of the null texts.
@@ -284,75 +231,21 @@ impl Buffer {
         ensures ok { OnOk result (state_of self.new ≡ with_value (state_of self.old) (missing_value is_null (state_of self.old).dtype)) }
         ensures err { OnErr result (state_of self.new ≡ state_of self.old) }
     {
-        match self {
-            Buffer::Boolean(buffer) => buffer.add_missing(is_null),
-            Buffer::Int8(buffer) => buffer.add_missing(is_null),
-            Buffer::Int16(buffer) => buffer.add_missing(is_null),
-            Buffer::Int32(buffer) => buffer.add_missing(is_null),
-            Buffer::Int64(buffer) => buffer.add_missing(is_null),
-            Buffer::Int128(buffer) => buffer.add_missing(is_null),
-            Buffer::UInt8(buffer) => buffer.add_missing(is_null),
-            Buffer::UInt16(buffer) => buffer.add_missing(is_null),
-            Buffer::UInt32(buffer) => buffer.add_missing(is_null),
-            Buffer::UInt64(buffer) => buffer.add_missing(is_null),
-            Buffer::String(buffer) => buffer.add_missing(is_null),
-            Buffer::Categorical(buffer) => buffer.add_missing(is_null),
-            Buffer::Enum(buffer) => buffer.add_missing(is_null),
-            Buffer::Date(buffer) => buffer.add_missing(is_null),
-            Buffer::Time(buffer) => buffer.add_missing(is_null),
-            Buffer::Datetime(buffer) => buffer.add_missing(is_null),
-            Buffer::Decimal(buffer) => buffer.add_missing(is_null),
-        }
+        for_each_type!(self, buffer => buffer.add_missing(is_null))
     }
 
     /// Makes room for so many more cells. Refuses only want of memory; the cells stay as they are.
     pub fn reserve(&mut self, additional: usize) -> Result<(), AllocError>
         ensures { state_of self.new ≡ state_of self.old }
     {
-        match self {
-            Buffer::Boolean(buffer) => buffer.reserve(additional),
-            Buffer::Int8(buffer) => buffer.reserve(additional),
-            Buffer::Int16(buffer) => buffer.reserve(additional),
-            Buffer::Int32(buffer) => buffer.reserve(additional),
-            Buffer::Int64(buffer) => buffer.reserve(additional),
-            Buffer::Int128(buffer) => buffer.reserve(additional),
-            Buffer::UInt8(buffer) => buffer.reserve(additional),
-            Buffer::UInt16(buffer) => buffer.reserve(additional),
-            Buffer::UInt32(buffer) => buffer.reserve(additional),
-            Buffer::UInt64(buffer) => buffer.reserve(additional),
-            Buffer::String(buffer) => buffer.reserve(additional),
-            Buffer::Categorical(buffer) => buffer.reserve(additional),
-            Buffer::Enum(buffer) => buffer.reserve(additional),
-            Buffer::Date(buffer) => buffer.reserve(additional),
-            Buffer::Time(buffer) => buffer.reserve(additional),
-            Buffer::Datetime(buffer) => buffer.reserve(additional),
-            Buffer::Decimal(buffer) => buffer.reserve(additional),
-        }
+        for_each_type!(self, buffer => buffer.reserve(additional))
     }
 
     /// Keeps so many cells, or all if there are fewer, without taking memory.
     pub fn truncate(&mut self, len: usize)
         ensures { state_of self.new ≡ cut_to len (state_of self.old) }
     {
-        match self {
-            Buffer::Boolean(buffer) => buffer.truncate(len),
-            Buffer::Int8(buffer) => buffer.truncate(len),
-            Buffer::Int16(buffer) => buffer.truncate(len),
-            Buffer::Int32(buffer) => buffer.truncate(len),
-            Buffer::Int64(buffer) => buffer.truncate(len),
-            Buffer::Int128(buffer) => buffer.truncate(len),
-            Buffer::UInt8(buffer) => buffer.truncate(len),
-            Buffer::UInt16(buffer) => buffer.truncate(len),
-            Buffer::UInt32(buffer) => buffer.truncate(len),
-            Buffer::UInt64(buffer) => buffer.truncate(len),
-            Buffer::String(buffer) => buffer.truncate(len),
-            Buffer::Categorical(buffer) => buffer.truncate(len),
-            Buffer::Enum(buffer) => buffer.truncate(len),
-            Buffer::Date(buffer) => buffer.truncate(len),
-            Buffer::Time(buffer) => buffer.truncate(len),
-            Buffer::Datetime(buffer) => buffer.truncate(len),
-            Buffer::Decimal(buffer) => buffer.truncate(len),
-        }
+        for_each_type!(self, buffer => buffer.truncate(len))
     }
 
     /// The type of the column. Refuses only want of memory.
@@ -386,49 +279,13 @@ impl Buffer {
     pub fn len(&self) -> usize
         ensures { result ≡ length (state_of self.now).values }
     {
-        match self {
-            Buffer::Boolean(buffer) => buffer.len(),
-            Buffer::Int8(buffer) => buffer.len(),
-            Buffer::Int16(buffer) => buffer.len(),
-            Buffer::Int32(buffer) => buffer.len(),
-            Buffer::Int64(buffer) => buffer.len(),
-            Buffer::Int128(buffer) => buffer.len(),
-            Buffer::UInt8(buffer) => buffer.len(),
-            Buffer::UInt16(buffer) => buffer.len(),
-            Buffer::UInt32(buffer) => buffer.len(),
-            Buffer::UInt64(buffer) => buffer.len(),
-            Buffer::String(buffer) => buffer.len(),
-            Buffer::Categorical(buffer) => buffer.len(),
-            Buffer::Enum(buffer) => buffer.len(),
-            Buffer::Date(buffer) => buffer.len(),
-            Buffer::Time(buffer) => buffer.len(),
-            Buffer::Datetime(buffer) => buffer.len(),
-            Buffer::Decimal(buffer) => buffer.len(),
-        }
+        for_each_type!(self, buffer => buffer.len())
     }
 
     /// The column, without taking memory.
     pub fn into_series(self) -> PolarsResult<Series>
         ensures { IfOk result (λ column. column ≡ column_of (state_of self)) × IsOk result }
     {
-        Ok(match self {
-            Buffer::Boolean(buffer) => buffer.into_series(),
-            Buffer::Int8(buffer) => buffer.into_series(),
-            Buffer::Int16(buffer) => buffer.into_series(),
-            Buffer::Int32(buffer) => buffer.into_series(),
-            Buffer::Int64(buffer) => buffer.into_series(),
-            Buffer::Int128(buffer) => buffer.into_series(),
-            Buffer::UInt8(buffer) => buffer.into_series(),
-            Buffer::UInt16(buffer) => buffer.into_series(),
-            Buffer::UInt32(buffer) => buffer.into_series(),
-            Buffer::UInt64(buffer) => buffer.into_series(),
-            Buffer::String(buffer) => buffer.into_series(),
-            Buffer::Categorical(buffer) => buffer.into_series(),
-            Buffer::Enum(buffer) => buffer.into_series(),
-            Buffer::Date(buffer) => buffer.into_series(),
-            Buffer::Time(buffer) => buffer.into_series(),
-            Buffer::Datetime(buffer) => buffer.into_series(),
-            Buffer::Decimal(buffer) => buffer.into_series(),
-        })
+        Ok(for_each_type!(self, buffer => buffer.into_series()))
     }
 }

@@ -3,16 +3,21 @@ ghost use Rattle.std.specs.Prelude.{◌≡◌};
 ghost use Rattle.pl_cells.specs.BufferValue.{is_ignored};
 
 use std::alloc::AllocError;
+use thiserror::Error;
 
 /// Why a cell was refused.
-#[derive(Clone, Copy, Debug, PartialEq, Eq)]
+#[derive(Clone, Copy, Debug, PartialEq, Eq, Error)]
 pub enum CellFault {
     /// A quoted field that does not end with its quote.
+    #[error("a quoted field does not end with its quote")]
     Escape,
     /// A text that is not UTF-8.
+    #[error("a text is not UTF-8")]
     Utf8,
     /// A text that has no value of the type.
+    #[error("a text has no value of the column's type")]
     Value,
+    #[error("out of memory")]
     OutOfMemory,
 }
 

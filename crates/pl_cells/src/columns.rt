@@ -1,17 +1,18 @@
 //! The cells of a column of the records of a table into a buffer.
-ghost use Rattle.std.specs.Prelude.{◌≡◌, ◌≤◌, ◌<◌, suc, length, take, map, slice_index_or, [], OnOk, OnErr, IfSome};
+ghost use Rattle.std.specs.Prelude.{◌≡◌, ◌≤◌, ◌<◌, suc, length, take, map, slice_index_or, [], OnOk, IfErr, OnErr, IfSome};
 ghost use Rattle.std.specs.Option.{option_copied, unwrap_or, option_map};
 ghost use Rattle.pl_table.specs.Tables.{AreWithin, fields_of, placed_text};
-ghost use Rattle.pl_cells.specs.BufferValue.{Answers, with_values, cut_to, reading_of};
+ghost use Rattle.pl_cells.specs.BufferValue.{Answers, cut_to, reading_of, with_more};
 ghost use Rattle.pl_cells.specs.Cells.{cell, value_of};
 ghost use Rattle.pl_cells.specs.Columns as spec;
-ghost use Rattle.pl_cells.specs.Columns.{field_in, column_cells, AreSound, AddsCells};
+ghost use Rattle.pl_cells.specs.Columns.{IsFaultOf, field_in, column_cells, AreSound, AddsCells};
 ghost use Rattle.pl_cells.specs.InitBuffers.{state_of};
 ghost use Rattle.pl_cells.specs.NullValues.{HaveTexts, means_null};
 
 use crate::buffer::Buffer;
 use crate::cell_buffer::{CellBuffer, put_field};
 use crate::cell_fault::CellFault;
+use crate::each_type::for_each_type;
 use crate::null_test::is_null_field;
 use crate::null_values::NullValuesCompiled;
 use crate::quoting::quote_of;
@@ -149,7 +150,7 @@ fn put_placed<B: CellBuffer>(
     )
 }
 
-// Puts the cells of the first records in a column at the end, whose fields mostly begin with the quote. Refuses the first fault,
+// Puts the cells of the first records in a column at the end, whose fields mostly begin with the quote. Refuses the fault of a cell,
 // and want of memory; the buffer then holds some of the cells.
 #[inline(never)]
 fn put_quoted_column<B: CellBuffer>(
@@ -167,6 +168,7 @@ fn put_quoted_column<B: CellBuffer>(
     requires rows { rows ≤ length table.now }
     requires texts { HaveTexts null_values (suc column) }
     ensures added { OnOk result (AddsCells (column_cells (reading_of (B.state buffer.old) missing_is_null ignore_errors) (means_null (option_copied null_values.entry) column) quote_char (B.state buffer.old).dtype column (take rows (fields_of text.now table.now))) (B.state buffer.old) (B.state buffer.new)) }
+    ensures refused { IfErr result (IsFaultOf (column_cells (reading_of (B.state buffer.old) missing_is_null ignore_errors) (means_null (option_copied null_values.entry) column) quote_char (B.state buffer.old).dtype column (take rows (fields_of text.now table.now)))) }
     ensures kept { OnErr result (cut_to (length (B.state buffer.old).values) (B.state buffer.new) ≡ B.state buffer.old) }
 {
     for row in 0..rows {
@@ -207,7 +209,7 @@ fn begins_quoted(
     quote_of(bytes_of(first), quote_char).is_some()
 }
 
-// Puts the cells of the first records in a column at the end. Refuses the first fault, and want of memory; the buffer then
+// Puts the cells of the first records in a column at the end. Refuses the fault of a cell, and want of memory; the buffer then
 // holds some of the cells.
 #[inline(always)]
 fn put_column<B: CellBuffer>(
@@ -225,6 +227,7 @@ fn put_column<B: CellBuffer>(
     requires rows { rows ≤ length table.now }
     requires texts { HaveTexts null_values (suc column) }
     ensures added { OnOk result (AddsCells (column_cells (reading_of (B.state buffer.old) missing_is_null ignore_errors) (means_null (option_copied null_values.entry) column) quote_char (B.state buffer.old).dtype column (take rows (fields_of text.now table.now))) (B.state buffer.old) (B.state buffer.new)) }
+    ensures refused { IfErr result (IsFaultOf (column_cells (reading_of (B.state buffer.old) missing_is_null ignore_errors) (means_null (option_copied null_values.entry) column) quote_char (B.state buffer.old).dtype column (take rows (fields_of text.now table.now)))) }
     ensures kept { OnErr result (cut_to (length (B.state buffer.old).values) (B.state buffer.new) ≡ B.state buffer.old) }
 {
     buffer.make_room(rows)?;
@@ -262,38 +265,13 @@ fn put_column<B: CellBuffer>(
     Ok(())
 }
 
-// The same for the buffer of each type.
-macro_rules! for_each_type {
-    ($given:expr, $buffer:ident => $call:expr) => {
-        match $given {
-            Buffer::Boolean($buffer) => $call,
-            Buffer::Int8($buffer) => $call,
-            Buffer::Int16($buffer) => $call,
-            Buffer::Int32($buffer) => $call,
-            Buffer::Int64($buffer) => $call,
-            Buffer::Int128($buffer) => $call,
-            Buffer::UInt8($buffer) => $call,
-            Buffer::UInt16($buffer) => $call,
-            Buffer::UInt32($buffer) => $call,
-            Buffer::UInt64($buffer) => $call,
-            Buffer::String($buffer) => $call,
-            Buffer::Categorical($buffer) => $call,
-            Buffer::Enum($buffer) => $call,
-            Buffer::Date($buffer) => $call,
-            Buffer::Time($buffer) => $call,
-            Buffer::Datetime($buffer) => $call,
-            Buffer::Decimal($buffer) => $call,
-        }
-    };
-}
-
 impl Buffer {
     /// Puts the cells of the first `rows` records of a table of a text in a column at the end; a record without a field there
     /// has the cell of the empty field. `quote_char` is the buffer's, and under `Columns` there must be texts for so many
     /// columns.
     ///
-    /// Refuses where a cell has a fault (the first is told), and want of memory. The buffer then holds some of the cells, and
-    /// is as it was once it is cut back to its length before.
+    /// Refuses the fault of one of these cells, and want of memory. The buffer then holds some of the cells, and is as it was once it is
+    /// cut back to its length before.
     pub fn add_column(
         &mut self,
         text: &[u8],
@@ -309,8 +287,9 @@ impl Buffer {
         requires rows { rows ≤ length table.now }
         requires quote { quote_char ≡ (state_of self.old).quote_char }
         requires texts { HaveTexts null_values (suc column) }
-        ensures added { OnOk result (state_of self.new ≡ with_values (state_of self.old) (map value_of (column_cells (reading_of (state_of self.old) missing_is_null ignore_errors) (means_null (option_copied null_values.entry) column) quote_char (state_of self.old).dtype column (take rows (fields_of text.now table.now))))) }
+        ensures added { OnOk result (state_of self.new ≡ with_more (state_of self.old) (map value_of (column_cells (reading_of (state_of self.old) missing_is_null ignore_errors) (means_null (option_copied null_values.entry) column) quote_char (state_of self.old).dtype column (take rows (fields_of text.now table.now))))) }
         ensures sound { OnOk result (AreSound (column_cells (reading_of (state_of self.old) missing_is_null ignore_errors) (means_null (option_copied null_values.entry) column) quote_char (state_of self.old).dtype column (take rows (fields_of text.now table.now)))) }
+        ensures refused { IfErr result (IsFaultOf (column_cells (reading_of (state_of self.old) missing_is_null ignore_errors) (means_null (option_copied null_values.entry) column) quote_char (state_of self.old).dtype column (take rows (fields_of text.now table.now)))) }
         ensures kept { OnErr result (cut_to (length (state_of self.old).values) (state_of self.new) ≡ state_of self.old) }
     {
         for_each_type!(self, buffer => put_column(

@@ -5,7 +5,7 @@ ghost use Rattle.std.specs.Char.{is_ascii_digit};
 ghost use Rattle.pl_frame.specs.Types.{is_within, day_range};
 ghost use Rattle.pl_cells.specs.Columns.{begins_number};
 ghost use Rattle.pl_cells.specs.Dates.{date_value};
-ghost use Rattle.pl_cells.specs.Lanes.{IsDateText};
+ghost use Rattle.pl_cells.specs.Lanes.{HasDateDigits};
 ghost use Rattle.pl_cells.specs.Quoting.{strip};
 
 use crate::dates::day_of;
@@ -13,8 +13,8 @@ use std::simd::prelude::*;
 
 /// True only where the last ten of these bytes are digits and hyphens as a date has them.
 #[inline(always)]
-pub(crate) fn end_in_date(bytes: u8x16) -> bool
-    ensures { OnTrue result (IsDateText (drop 6 bytes)) }
+pub fn end_in_date(bytes: u8x16) -> bool
+    ensures { OnTrue result (HasDateDigits (drop 6 bytes)) }
 {
     let zeros = [
         0, 0, 0, 0, 0, 0, b'0', b'0', b'0', b'0', b'-', b'0', b'0', b'-', b'0', b'0',
@@ -26,7 +26,7 @@ pub(crate) fn end_in_date(bytes: u8x16) -> bool
 
 /// The number of two digits.
 #[inline(always)]
-pub(crate) fn pair(tens: u8, ones: u8) -> u8
+pub fn pair(tens: u8, ones: u8) -> u8
     requires tens { is_ascii_digit tens ≡ true }
     requires ones { is_ascii_digit ones ≡ true }
     ensures value { result ≡ (tens - 48) * 10 + (ones - 48) }
@@ -39,7 +39,7 @@ pub(crate) fn pair(tens: u8, ones: u8) -> u8
 #[inline(always)]
 pub(crate) fn day_of_text(text: &[u8]) -> Option<i64>
     requires ten { length text.now ≡ 10 }
-    requires date { IsDateText text.now }
+    requires date { HasDateDigits text.now }
     ensures value { result ≡ date_value text.now }
     ensures within { IfSome result (λ n. is_within day_range n ≡ true) }
 {

@@ -9,7 +9,6 @@ use crate::column_settings::ColumnSettings;
 use crate::utf8::CsvEncoding;
 use pl_frame::data_type::DataType;
 use pl_frame::error::{ComputeFault, PolarsError, PolarsResult};
-use pl_frame::name::PlSmallStr;
 use pl_frame::schema::Schema;
 use std::alloc::Global;
 
@@ -36,24 +35,12 @@ pub fn init_buffers(
     make_buffers(alloc, projection, capacity, schema, quote_char, encoding)
 }
 
-// The name and the type at a place of a schema.
-#[inline]
-fn entry_at(schema: &Schema, place: usize) -> (&PlSmallStr, &DataType)
-    requires { place < length schema.now }
-    ensures { slice_get schema.now place ≡ Some (result.0.now, result.1.now) }
-{
-    match schema.get_at_index(place) {
-        Some(entry) => entry,
-        None => unreachable!(),
-    }
-}
-
 // Whether the type at a place of a schema can be read.
 fn is_readable_at(schema: &Schema, place: usize) -> bool
     requires { place < length schema.now }
     ensures { result ≡ is_readable (entry_at schema.now place).1 }
 {
-    let (_, dtype) = entry_at(schema, place);
+    let (_, dtype) = schema.entry(place);
     dtype.readable()
 }
 
@@ -84,7 +71,7 @@ fn buffer_at(
     ensures empty { IfOk result (λ buffer. state_of buffer ≡ empty_buffer quote_char encoding (entry_at schema.now place)) }
     ensures refused { IsOkUnless result error.OutOfMemory }
 {
-    let (name, dtype) = entry_at(schema, place);
+    let (name, dtype) = schema.entry(place);
     let settings = ColumnSettings {
         name: name.try_clone()?,
         quote_char,

@@ -2,12 +2,13 @@
 ghost use Rattle.std.specs.Prelude.{◌≡◌, ◌≤◌, map, OnOk, OnErr};
 ghost use Rattle.pl_frame.specs.ByteCount.{byte_count};
 ghost use Rattle.pl_frame.specs.Columns.{text_in};
+ghost use Rattle.pl_cells.specs.BufferValue.{with_more};
 ghost use Rattle.pl_frame.specs.declared.data_type.DataType.TheVariants as dtype;
-ghost use Rattle.pl_cells.specs.BufferValue.{with_values};
 ghost use Rattle.pl_cells.specs.InitBuffers.{state_of};
 ghost use Rattle.pl_cells.specs.Variants.{buffer_for};
 
 use crate::buffer::Buffer;
+use crate::each_type::for_each_type;
 use std::alloc::AllocError;
 
 impl Buffer {
@@ -16,25 +17,7 @@ impl Buffer {
     fn know_variant(&self)
         ensures { buffer_for (state_of self.now).dtype (state_of self.now) ≡ self.now }
     {
-        match self {
-            Buffer::Boolean(buffer) => buffer.know_type(),
-            Buffer::Int8(buffer) => buffer.know_type(),
-            Buffer::Int16(buffer) => buffer.know_type(),
-            Buffer::Int32(buffer) => buffer.know_type(),
-            Buffer::Int64(buffer) => buffer.know_type(),
-            Buffer::Int128(buffer) => buffer.know_type(),
-            Buffer::UInt8(buffer) => buffer.know_type(),
-            Buffer::UInt16(buffer) => buffer.know_type(),
-            Buffer::UInt32(buffer) => buffer.know_type(),
-            Buffer::UInt64(buffer) => buffer.know_type(),
-            Buffer::String(buffer) => buffer.know_type(),
-            Buffer::Categorical(buffer) => buffer.know_type(),
-            Buffer::Enum(buffer) => buffer.know_type(),
-            Buffer::Date(buffer) => buffer.know_type(),
-            Buffer::Time(buffer) => buffer.know_type(),
-            Buffer::Datetime(buffer) => buffer.know_type(),
-            Buffer::Decimal(buffer) => buffer.know_type(),
-        }
+        for_each_type!(self, buffer => buffer.know_type())
     }
 
     /// Makes room for so many more cells, and, where their texts are kept one behind the other, for so many bytes in them.
@@ -63,7 +46,7 @@ impl Buffer {
     /// Puts the cells of another buffer of the type at the end. Refuses only want of memory, and is then as it was.
     pub fn append(&mut self, other: &Buffer) -> Result<(), AllocError>
         requires { (state_of self.old).dtype ≡ (state_of other.now).dtype }
-        ensures ok { OnOk result (state_of self.new ≡ with_values (state_of self.old) (state_of other.now).values) }
+        ensures ok { OnOk result (state_of self.new ≡ with_more (state_of self.old) (state_of other.now).values) }
         ensures err { OnErr result (state_of self.new ≡ state_of self.old) }
     {
         self.know_variant();

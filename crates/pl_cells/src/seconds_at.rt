@@ -4,7 +4,7 @@ ghost use Rattle.std.specs.Bool.{OnTrue};
 ghost use Rattle.pl_frame.specs.Types.{is_within, datetime_range, units_in_second};
 ghost use Rattle.pl_cells.specs.Columns.{begins_number};
 ghost use Rattle.pl_cells.specs.Dates.{date_value};
-ghost use Rattle.pl_cells.specs.Lanes.{IsClockText, IsDateText};
+ghost use Rattle.pl_cells.specs.Lanes.{HasDateDigits, HasClockDigits};
 ghost use Rattle.pl_cells.specs.Quoting.{strip};
 ghost use Rattle.pl_cells.specs.Times.{clock_value, datetime_of, datetime_value, time_value};
 
@@ -15,10 +15,10 @@ use std::simd::prelude::*;
 
 const NANOSECONDS: u64 = 1_000_000_000;
 
-// True only where the last eight of these bytes are digits and colons as a time of whole seconds has them.
+/// True only where the last eight of these bytes are digits and colons as a time of whole seconds has them.
 #[inline(always)]
-fn end_in_clock(bytes: u8x16) -> bool
-    ensures { OnTrue result (IsClockText (drop 8 bytes)) }
+pub fn end_in_clock(bytes: u8x16) -> bool
+    ensures { OnTrue result (HasClockDigits (drop 8 bytes)) }
 {
     let zeros = [
         0, 0, 0, 0, 0, 0, 0, 0, b'0', b'0', b':', b'0', b'0', b':', b'0', b'0',
@@ -34,7 +34,7 @@ fn end_in_clock(bytes: u8x16) -> bool
 #[inline(always)]
 fn second_of_text(text: &[u8]) -> Option<u64>
     requires eight { length text.now ≡ 8 }
-    requires clock { IsClockText text.now }
+    requires clock { HasClockDigits text.now }
     ensures value { result ≡ clock_value text.now }
     ensures small { IfSome result (λ n. n < 86400) }
 {
@@ -48,7 +48,7 @@ fn second_of_text(text: &[u8]) -> Option<u64>
 #[inline(always)]
 fn nanosecond_of_text(text: &[u8]) -> Option<u64>
     requires eight { length text.now ≡ 8 }
-    requires clock { IsClockText text.now }
+    requires clock { HasClockDigits text.now }
     ensures value { result ≡ time_value text.now }
     ensures small { IfSome result (λ n. n < 86400 * 10 ^ 9) }
 {
@@ -60,9 +60,9 @@ fn nanosecond_of_text(text: &[u8]) -> Option<u64>
 #[inline(always)]
 fn count_of_parts(date: &[u8], clock: &[u8], unit: TimeUnit) -> Option<i64>
     requires ten { length date.now ≡ 10 }
-    requires date { IsDateText date.now }
+    requires date { HasDateDigits date.now }
     requires eight { length clock.now ≡ 8 }
-    requires clock { IsClockText clock.now }
+    requires clock { HasClockDigits clock.now }
     ensures value { result ≡ datetime_of (units_in_second unit) (date_value date.now) (time_value clock.now) }
     ensures within { IfSome result (λ n. is_within (datetime_range (units_in_second unit)) n ≡ true) }
 {
@@ -75,8 +75,8 @@ fn count_of_parts(date: &[u8], clock: &[u8], unit: TimeUnit) -> Option<i64>
 #[inline(always)]
 fn count_of_text(text: &[u8], unit: TimeUnit) -> Option<i64>
     requires long { length text.now ≡ 19 }
-    requires date { IsDateText (take 10 text.now) }
-    requires clock { IsClockText (drop 11 text.now) }
+    requires date { HasDateDigits (take 10 text.now) }
+    requires clock { HasClockDigits (drop 11 text.now) }
     ensures value { result ≡ datetime_value unit text.now }
     ensures within { IfSome result (λ n. is_within (datetime_range (units_in_second unit)) n ≡ true) }
 {

@@ -5,7 +5,7 @@ ghost use Rattle.pl_frame.specs.ByteCount.{byte_count};
 ghost use Rattle.pl_frame.specs.Columns.{text_in};
 ghost use Rattle.pl_frame.specs.declared.data_type.DataType.TheVariants as dtype;
 ghost use Rattle.pl_frame.specs.Types.{is_text};
-ghost use Rattle.pl_cells.specs.BufferValue.{Answers, ListAnswers, with_value, with_values, cut_to, reading_of, reading_with, column_of};
+ghost use Rattle.pl_cells.specs.BufferValue.{Answers, ListAnswers, with_value, with_more, cut_to, reading_of, reading_with, column_of};
 ghost use Rattle.pl_cells.specs.Cells.{missing_value, plain_cell, quoted_cell, softened, text_cell};
 ghost use Rattle.pl_cells.specs.Columns.{IsSeen};
 ghost use Rattle.pl_cells.specs.Quoting.{undouble};
@@ -147,7 +147,7 @@ impl<L: TextType> TextBuffer<L> {
     /// Puts the cells of another buffer of the type at the end. Refuses only want of memory, and is then as it was.
     pub(crate) fn append(&mut self, other: &TextBuffer<L>) -> Result<(), AllocError>
         requires { self.old.dtype ≡ other.now.dtype }
-        ensures ok { OnOk result (self.new ≡ with_values self.old other.now.values) }
+        ensures ok { OnOk result (self.new ≡ with_more self.old other.now.values) }
         ensures err { OnErr result (self.new ≡ self.old) }
     {
         self.texts.add_all(&other.texts)

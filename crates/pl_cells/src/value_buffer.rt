@@ -1,7 +1,7 @@
 //! Buffers of truth values and of numbers.
 ghost use Rattle.std.specs.Prelude.{◌≡◌, true, [], length, IfOk, OnOk, OnErr, None};
 ghost use Rattle.pl_frame.specs.Types.{is_text};
-ghost use Rattle.pl_cells.specs.BufferValue.{Answers, with_value, with_values, cut_to, reading_of, column_of};
+ghost use Rattle.pl_cells.specs.BufferValue.{Answers, with_value, with_more, cut_to, reading_of, column_of};
 ghost use Rattle.pl_cells.specs.Cells.{missing_value, plain_cell, quoted_cell, softened, value_or_null, value_text};
 ghost use Rattle.pl_cells.specs.Columns.{IsSeen, is_apart_from_numbers};
 ghost use Rattle.pl_cells.specs.Integers.{without_blanks};
@@ -127,7 +127,7 @@ impl<K: ValueType> ValueBuffer<K> {
     /// Puts the cells of another buffer of the type at the end. Refuses only want of memory, and is then as it was.
     pub(crate) fn append(&mut self, other: &ValueBuffer<K>) -> Result<(), AllocError>
         requires { self.old.dtype ≡ other.now.dtype }
-        ensures ok { OnOk result (self.new ≡ with_values self.old other.now.values) }
+        ensures ok { OnOk result (self.new ≡ with_more self.old other.now.values) }
         ensures err { OnErr result (self.new ≡ self.old) }
     {
         self.values.append(&other.values)

@@ -2,22 +2,12 @@
 #![tactic(auto)]
 
 #[cfg(test)]
-mod booleans;
-#[cfg(test)]
 mod casts;
-#[cfg(test)]
-mod dates;
-#[cfg(test)]
-mod decimals;
 #[cfg(test)]
 mod given;
 #[cfg(test)]
 mod init_buffers;
 #[cfg(test)]
-mod integers;
-#[cfg(test)]
 mod null_values;
 #[cfg(test)]
-mod times;
-#[cfg(test)]
-mod utf8;
+mod texts;

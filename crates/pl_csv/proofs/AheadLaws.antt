@@ -14,11 +14,11 @@ use Rattle.pl_frame.specs.declared.error.PolarsError.{PolarsError}
 use Rattle.pl_frame.specs.declared.error.PolarsError.TheVariants as error
 use Rattle.pl_scan.specs.Laws.{IsEnded}
 use Rattle.pl_scan.proofs.AppendStartLaws.{HaveEnds, data_left-append}
-use Rattle.pl_infer.specs.Causes.{when, first_some}
-use Rattle.pl_infer.specs.Text.{marks_of, comment_of, skips_of}
-use Rattle.pl_infer.specs.declared.read_options.CsvReadOptions.{CsvReadOptions}
-use Rattle.pl_schema.specs.Inference.{inference_of, inferred, empty}
-use Rattle.pl_schema.specs.Schemas.{unreadable}
+use Rattle.pl_options.specs.FirstCause.{when, first_some}
+use Rattle.pl_options.specs.Text.{marks_of, comment_of, skips_of}
+use Rattle.pl_options.specs.declared.read_options.CsvReadOptions.{CsvReadOptions}
+use Rattle.pl_infer.specs.Inference.{inference_of, inferred, empty}
+use Rattle.pl_infer.specs.Schemas.{unreadable}
 use Rattle.pl_read.specs.Options.{keeps_ends, data_of, settled, settled_schema}
 use Rattle.pl_read.specs.Preparing.{IsPrepared}
 use Rattle.pl_read.specs.Projection.{projected}
@@ -27,7 +27,7 @@ use Rattle.pl_read.specs.Steps.{opening_cause}
 use Rattle.pl_read.specs.declared.preparing.Prepared.{Prepared}
 use Rattle.pl_read.proofs.DataLaws.{may-dialect}
 use Rattle.pl_write.specs.declared.options.CsvWriterOptions.{CsvWriterOptions}
-use Rattle.pl_csv.specs.Converting.{IsPlain}
+use Rattle.pl_csv.specs.Converting.{IsRowByRow}
 use Rattle.pl_csv.specs.Sources.{MayReadAhead, IsReadAhead}
 
 -- ---- the schema
@@ -153,7 +153,7 @@ prepared-ahead o schema first rest prepared inside is more =
 
 -- A front that ends with a line end, within which the rows begin, tells what the rows of an input are read by.
 pub read-ahead : (o : CsvReadOptions) (write : CsvWriterOptions) (first : List ℕ) (prepared : Prepared) → MayReadAhead o write → 4 ≤ length first → IsEnded o.parse_options.eol_char first
-    → prepared.start < length first → IsPrepared o (settled_schema o first) first prepared → opening_cause o (settled_schema o first) first ≡ None → IsPlain o prepared.schema → IsReadAhead o first prepared
+    → prepared.start < length first → IsPrepared o (settled_schema o first) first prepared → opening_cause o (settled_schema o first) first ≡ None → IsRowByRow o prepared.schema → IsReadAhead o first prepared
 read-ahead o write first prepared may long ended inside is sound plain = record {
   within = omega arith;
   is = λ rest.

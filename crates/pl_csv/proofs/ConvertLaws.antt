@@ -10,17 +10,17 @@ use Rattle.pl_frame.specs.Dialect.{IsDialect}
 use Rattle.pl_frame.specs.Frame.{IsFrame, names_of}
 use Rattle.pl_frame.specs.FrameParts.{HaveSameColumns, stacked}
 use Rattle.pl_frame.specs.Schema.{Entry}
-use Rattle.pl_frame.specs.Text.{text_of_frame}
+use Rattle.pl_text.specs.FrameText.{text_of_frame}
 use Rattle.pl_frame.specs.declared.error.ComputeFault.TheVariants as compute_fault
 use Rattle.pl_frame.specs.declared.error.FaultKind.{FaultKind}
 use Rattle.pl_frame.specs.declared.error.PolarsError.{PolarsError}
 use Rattle.pl_frame.specs.declared.error.PolarsError.TheVariants as error
 use Rattle.pl_scan.specs.Dialect.{marks_of, comment_of}
 use Rattle.pl_cells.specs.InitBuffers.{entry_at}
-use Rattle.pl_infer.specs.Causes.{first_some, IsFault}
-use Rattle.pl_infer.specs.Text as infer
-use Rattle.pl_infer.specs.declared.read_options.CsvReadOptions.{CsvReadOptions}
-use Rattle.pl_schema.specs.Schemas.{is_categorical}
+use Rattle.pl_options.specs.FirstCause.{first_some, IsFault}
+use Rattle.pl_options.specs.Text as infer
+use Rattle.pl_options.specs.declared.read_options.CsvReadOptions.{CsvReadOptions}
+use Rattle.pl_infer.specs.Schemas.{is_categorical}
 use Rattle.pl_table.specs.Rows.{Row}
 use Rattle.pl_regions.specs.declared.front.Front.{Front}
 use Rattle.pl_rows.specs.Cells.{RowRules}
@@ -49,9 +49,9 @@ use Rattle.pl_write.specs.Printed.{printed_text}
 use Rattle.pl_write.specs.Writing.{AppendsPrefix}
 use Rattle.pl_write.specs.declared.options.CsvWriterOptions.{CsvWriterOptions}
 use Rattle.pl_write.proofs.PrintedLaws.{lines-alone, printed-is-text}
-use Rattle.pl_verbatim.specs.Printing.{CanPrint, IsFrontPrinted}
+use Rattle.pl_verbatim.specs.PrintedTexts.{CanPrint, IsFrontPrinted}
 use Rattle.pl_verbatim.proofs.PrintingLaws.{level-text}
-use Rattle.pl_csv.specs.Converting.{IsPlain, IsPrintedRead}
+use Rattle.pl_csv.specs.Converting.{IsPrintedRead, IsRowByRow}
 use Rattle.pl_csv.specs.Sources.{IsLeftOf}
 use Rattle.pl_csv.specs.Transcoding.{HasAsciiQuote, IsUnread, IsConverted, IsCutShort}
 use Rattle.pl_csv.specs.declared.convert.Printed.{Printed}
@@ -65,11 +65,11 @@ plan-dialect plan o schema records can =
     subst (λ m. IsDialect m (comment_of plan.dialect)) (sym can.plan_is.marks_are) (subst (IsDialect (infer.marks_of o.parse_options)) (sym can.plan_is.comment_is) can.dialect)
 
 -- without a limit
-pub plan-unlimited : (plan : RangePlan) (o : CsvReadOptions) (schema : List Entry) → IsPlanOf plan o schema → IsPlain o schema → plan.limit ≡ None
+pub plan-unlimited : (plan : RangePlan) (o : CsvReadOptions) (schema : List Entry) → IsPlanOf plan o schema → IsRowByRow o schema → plan.limit ≡ None
 plan-unlimited plan o schema is plain = is.limit_is ∙ plain.unlimited
 
 -- and texts can be printed by it
-pub can-print : (plan : RangePlan) (o : CsvReadOptions) (schema : List Entry) (records : List ℕ) → CanReadData plan o schema records → IsPlain o schema → CanPrint plan schema
+pub can-print : (plan : RangePlan) (o : CsvReadOptions) (schema : List Entry) (records : List ℕ) → CanReadData plan o schema records → IsRowByRow o schema → CanPrint plan schema
 can-print plan o schema records can plain =
     let is = can.plan_is in
     record {
@@ -98,18 +98,18 @@ codes-none rules given schema (place ∷ places) none = by (is_categorical (entr
         let here : codes_past column ≡ None = rw e refl in
         first_some-behind (codes_past column) (map codes_past (frame_of_rows rules (entries_in schema places) given)) here ∙ rest none
 
-index-none : (o : CsvReadOptions) (schema : List Entry) (records : List ℕ) → IsPlain o schema → index_past o.row_index (length (rows_in o records)) (data_columns o schema records) ≡ None
+index-none : (o : CsvReadOptions) (schema : List Entry) (records : List ℕ) → IsRowByRow o schema → index_past o.row_index (length (rows_in o records)) (data_columns o schema records) ≡ None
 index-none o schema records plain =
     ap (λ i. index_past i (length (rows_in o records)) (data_columns o schema records)) plain.unnumbered
     ∙ codes-none (rules_of o schema) (rows_in o records) schema (projected o schema) plain.uncoded
 
-frame-plain : (o : CsvReadOptions) (schema : List Entry) (records : List ℕ) → IsPlain o schema → data_frame o schema records ≡ data_columns o schema records
+frame-plain : (o : CsvReadOptions) (schema : List Entry) (records : List ℕ) → IsRowByRow o schema → data_frame o schema records ≡ data_columns o schema records
 frame-plain o schema records plain = ap (λ i. with_index i (length (rows_in o records)) (data_columns o schema records)) plain.unnumbered
 
 -- ---- data whose front was printed, and what is left of it read
 
 -- where it ends
-whole-end : (plan : RangePlan) (o : CsvReadOptions) (schema : List Entry) (records : List ℕ) (write : CsvWriterOptions) (upto n : ℕ) (lines : List (List ℕ)) (e : RangeEnd) → CanReadData plan o schema records → IsPlain o schema
+whole-end : (plan : RangePlan) (o : CsvReadOptions) (schema : List Entry) (records : List ℕ) (write : CsvWriterOptions) (upto n : ℕ) (lines : List (List ℕ)) (e : RangeEnd) → CanReadData plan o schema records → IsRowByRow o schema
     → IsFrontPrinted plan schema (cell_options write.serialize_options) records upto n (concat lines) → e ≡ range_end plan (columns_in schema plan.projection.places.now) (drop upto records)
     → end_behind n e ≡ range_end plan (columns_in schema plan.projection.places.now) records
 whole-end plan o schema records write upto n lines e can plain front e_is =
@@ -122,7 +122,7 @@ whole-end plan o schema records write upto n lines e can plain front e_is =
     ∙ ap (range_end plan columns) (take-append-drop upto records)
 
 -- its columns
-whole-frame : (plan : RangePlan) (o : CsvReadOptions) (schema : List Entry) (records : List ℕ) (write : CsvWriterOptions) (upto n : ℕ) (lines : List (List ℕ)) → CanReadData plan o schema records → IsPlain o schema
+whole-frame : (plan : RangePlan) (o : CsvReadOptions) (schema : List Entry) (records : List ℕ) (write : CsvWriterOptions) (upto n : ℕ) (lines : List (List ℕ)) → CanReadData plan o schema records → IsRowByRow o schema
     → IsFrontPrinted plan schema (cell_options write.serialize_options) records upto n (concat lines)
     → stacked (text_frame plan schema (take upto records)) (range_frame plan schema (drop upto records)) ≡ range_frame plan schema records
 whole-frame plan o schema records write upto n lines can plain front =
@@ -135,7 +135,7 @@ still-ended n e (inl closed) = inl (ap (end_behind n) closed)
 still-ended n e (inr opened) = inr (ap (end_behind n) opened)
 
 -- the text
-pub data-text : (plan : RangePlan) (o : CsvReadOptions) (schema : List Entry) (records : List ℕ) (write : CsvWriterOptions) (upto n : ℕ) (lines : List (List ℕ)) (read : RangeColumns) → CanReadData plan o schema records → IsPlain o schema
+pub data-text : (plan : RangePlan) (o : CsvReadOptions) (schema : List Entry) (records : List ℕ) (write : CsvWriterOptions) (upto n : ℕ) (lines : List (List ℕ)) (read : RangeColumns) → CanReadData plan o schema records → IsRowByRow o schema
     → IsFrontPrinted plan schema (cell_options write.serialize_options) records upto n (concat lines) → IsRangeRead plan schema (drop upto records) read → (read.end ≡ end.Closed) ⊎ (read.end ≡ end.Open)
     → printed_text (frame_options write) (names_of read.columns.items) lines read.columns.items ≡ text_of_frame (frame_options write) (data_frame o schema records)
 data-text plan o schema records write upto n lines read can plain front range ended =
@@ -151,7 +151,7 @@ data-text plan o schema records write upto n lines read can plain front range en
     printed-is-text (frame_options write) lines first rest same (level-text plan schema (take upto records)) before ∙ ap (text_of_frame (frame_options write)) frame
 
 -- no cause
-pub data-sound : (plan : RangePlan) (o : CsvReadOptions) (schema : List Entry) (records : List ℕ) (write : CsvWriterOptions) (upto n : ℕ) (lines : List (List ℕ)) (read : RangeColumns) → CanReadData plan o schema records → IsPlain o schema
+pub data-sound : (plan : RangePlan) (o : CsvReadOptions) (schema : List Entry) (records : List ℕ) (write : CsvWriterOptions) (upto n : ℕ) (lines : List (List ℕ)) (read : RangeColumns) → CanReadData plan o schema records → IsRowByRow o schema
     → IsFrontPrinted plan schema (cell_options write.serialize_options) records upto n (concat lines) → IsRangeRead plan schema (drop upto records) read → (read.end ≡ end.Closed) ⊎ (read.end ≡ end.Open)
     → data_cause o schema records ≡ None
 data-sound plan o schema records write upto n lines read can plain front range ended =
@@ -161,7 +161,7 @@ data-sound plan o schema records write upto n lines read can plain front range e
 
 -- the first cause
 pub data-fault : (plan : RangePlan) (o : CsvReadOptions) (schema : List Entry) (records : List ℕ) (write : CsvWriterOptions) (upto n : ℕ) (lines : List (List ℕ)) (read : RangeColumns) (row column : ℕ) (kind : FaultKind)
-    → CanReadData plan o schema records → IsPlain o schema → IsFrontPrinted plan schema (cell_options write.serialize_options) records upto n (concat lines) → IsRangeRead plan schema (drop upto records) read
+    → CanReadData plan o schema records → IsRowByRow o schema → IsFrontPrinted plan schema (cell_options write.serialize_options) records upto n (concat lines) → IsRangeRead plan schema (drop upto records) read
     → read.end ≡ end.Fault row column kind → data_cause o schema records ≡ Some (error.ComputeError (compute_fault.Record (n + row) column kind))
 data-fault plan o schema records write upto n lines read row column kind can plain front range ended =
     fault-at plan o schema records (n + row) column kind can.plan_is
@@ -185,7 +185,7 @@ pub left-frame : (plan : RangePlan) (o : CsvReadOptions) (schema : List Entry) (
 left-frame plan o schema records left read can range ended = subst IsFrame (sym (columns-are plan o schema left read can.plan_is range ended)) (IsFrame-columns o schema left can.distinct)
 
 -- a front of data that was printed, and what is left of it
-pub is-left-of : (plan : RangePlan) (o : CsvReadOptions) (schema : List Entry) (write : CsvWriterOptions) (records : List ℕ) (front : Front) (left : List ℕ) → CanReadData plan o schema records → IsPlain o schema → length records < 2 ^ 64
+pub is-left-of : (plan : RangePlan) (o : CsvReadOptions) (schema : List Entry) (write : CsvWriterOptions) (records : List ℕ) (front : Front) (left : List ℕ) → CanReadData plan o schema records → IsRowByRow o schema → length records < 2 ^ 64
     → IsFrontPrinted plan schema (cell_options write.serialize_options) records front.end front.rows (concat (map cow_slice_items front.lines.items)) → left ≡ drop front.end records → IsLeftOf plan o schema write records front left
 is-left-of plan o schema write records front left can plain small printed left_is = record { can = can; plain = plain; small = small; printed = printed; left_is = left_is }
 

@@ -21,10 +21,6 @@ pub counted-plain : (has_header : Bool) (m : Marks) (comment : Option (List ℕ)
     → counted has_header m comment bytes ≡ Ok (row_count has_header m comment bytes)
 counted-plain has_header m comment bytes e = ap (λ t. cond t (Err compressed) (Ok (row_count has_header m comment bytes))) e
 
-pub counted-mark : (has_header : Bool) (m : Marks) (comment : Option (List ℕ)) (bytes : List ℕ) → is_compressed bytes ≡ true
-    → counted has_header m comment bytes ≡ Err compressed
-counted-mark has_header m comment bytes e = ap (λ t. cond t (Err compressed) (Ok (row_count has_header m comment bytes))) e
-
 -- ---- each answer by its cause
 
 rows_by : (t : Bool) (n k : ℕ) → ◌≡◌ {A = Result ℕ PolarsError} (Ok n) (cond t (Err compressed) (Ok k)) → (t ≡ false) × (k ≡ n)
@@ -98,15 +94,6 @@ told-of answer has_header m comment held (came, is, inl h) bytes told d = absurd
 told-of answer has_header m comment held (came, is, inr h) bytes told d =
     let same : bytes ≡ came = subst (λ o. IsHeld o came) told is in
     h.1 ∙ ap (counted has_header m comment) (sym same)
-
--- all that came of an opened source is what the path holds
-pub held-of : (held before now : Option (List ℕ)) (P : List ℕ → Type 0) → before ≡ held → CameWhole before now P → HoldsSome held P
-held-of held before now P opened (bytes, came, ended, holds) = (bytes, subst (λ o. IsHeld o bytes) opened (is-whole before now bytes came ended), holds)
-  where
-    is-whole : (b n : Option (List ℕ)) (bytes : List ℕ) → Consumes b n bytes → IsAtEnd n → IsHeld b bytes
-    is-whole None n bytes _ _ = tt
-    is-whole (Some xs) None bytes c _ = absurd c
-    is-whole (Some xs) (Some ys) bytes c e = c ∙ ap (λ l. bytes ++ l) e ∙ append-nil bytes
 
 -- ---- a count by blocks
 
@@ -197,17 +184,5 @@ no_prefix (Some p) t some none = absurd (let e : true ≡ not true = some ∙ ap
 abbrev pub HasPassed : Option (List ℕ) → Option (List ℕ) → Type 0
 HasPassed before now = (bytes : List ℕ) × Consumes before now bytes
 
-pub HasPassed-none : (before : Option (List ℕ)) → HasPassed before before
-HasPassed-none before = ([], Consumes-nil before)
-
 pub HasPassed-more : (before now next : Option (List ℕ)) (block : List ℕ) → HasPassed before now → Consumes now next block → HasPassed before next
 HasPassed-more before now next block passed came = (passed.0 ++ block, Consumes-append before now next passed.0 block passed.1 came)
-
-pub HasPassed-all : (before now next : Option (List ℕ)) (block : List ℕ) → HasPassed before now → Consumes now next block → IsAtEnd next → CameWhole before next (λ bytes. Unit {0})
-HasPassed-all before now next block passed came ended =
-    let all = HasPassed-more before now next block passed came in (all.0, all.1, ended, tt)
-
--- without a dialect the answer says so, whatever came
-pub without_dialect : (has_header : Bool) (m : Marks) (comment before now : Option (List ℕ)) → (¬ IsDialect m comment) → CameWhole before now (λ bytes. Unit {0})
-    → CameWhole before now (λ bytes. IsCountOf has_header m comment bytes (Err no_dialect))
-without_dialect has_header m comment before now none (bytes, came, ended, so) = (bytes, came, ended, inl (none, refl))

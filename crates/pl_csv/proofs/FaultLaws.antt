@@ -7,9 +7,9 @@ use Rattle.pl_frame.specs.declared.error.PolarsError.{PolarsError}
 use Rattle.pl_frame.specs.declared.error.PolarsError.TheVariants as error
 use Rattle.pl_frame.specs.Frame.{ColumnValue}
 use Rattle.pl_frame.specs.Schema.{Entry}
-use Rattle.pl_infer.specs.declared.read_options.CsvReadOptions.{CsvReadOptions}
-use Rattle.pl_infer.specs.declared.row_index.RowIndex.{RowIndex}
-use Rattle.pl_infer.specs.Causes.{when, first_some}
+use Rattle.pl_options.specs.declared.read_options.CsvReadOptions.{CsvReadOptions}
+use Rattle.pl_options.specs.declared.row_index.RowIndex.{RowIndex}
+use Rattle.pl_options.specs.FirstCause.{when, first_some}
 use Rattle.pl_read.specs.Options.{data_of}
 use Rattle.pl_read.specs.Refusals.{unless_given, numbers_past, codes_past, index_past, nothing_read, faulty_record}
 use Rattle.pl_read.specs.Rows.{rows_in, data_columns}

@@ -3,6 +3,7 @@ pub mod ConvertLaws
 pub mod CountingLaws
 pub mod DueLaws
 pub mod FaultLaws
+mod FitTestLaws
 pub mod MadeCellLaws
 pub mod MadeInputLaws
 pub mod MadeReadLaws

@@ -13,8 +13,8 @@ use Rattle.std.proofs.Math.Seq.{drop-append_seam, take-append_seam}
 use Rattle.jiff_core.proofs.SignedLemmas.{signed_arith}
 use Rattle.pl_frame.specs.Dialect.{Marks, marks}
 use Rattle.pl_frame.specs.Frame.{Scalar, Number, Letters}
-use Rattle.pl_frame.specs.Printed.{decimal_text, padded, point_text}
-use Rattle.pl_frame.specs.Text.{WriteOptions, quoted, is_special, written_cell, written_text}
+use Rattle.pl_text.specs.ValueText.{decimal_text, padded, point_text}
+use Rattle.pl_text.specs.FrameText.{WriteOptions, quoted, is_special, written_cell, written_text}
 use Rattle.pl_frame.specs.Types.{is_within, decimal_range}
 use Rattle.pl_frame.specs.declared.data_type.DataType.{DataType}
 use Rattle.pl_frame.specs.declared.data_type.DataType.TheVariants as dtype

@@ -10,10 +10,11 @@ use Rattle.std.proofs.lemmas.List.FromFn.{map-range_with_len_more}
 use Rattle.jiff_core.proofs.CalendarLemmas.{days_from_civil-day_count, day_count-lt_year}
 use Rattle.jiff_core.proofs.SignedLemmas.{signed_arith}
 use Rattle.jiff_core.specs.Calendar.{IsCivilDate, day_count, days_of_years, days_of_months, days_from_civil}
-use Rattle.pl_frame.specs.Printed.{padded, civil, civil_text, date_text}
+use Rattle.pl_frame.specs.Days.{civil}
+use Rattle.pl_text.specs.ValueText.{padded, civil_text, date_text}
 use Rattle.pl_frame.specs.Types.{is_within, day_range}
 use Rattle.pl_csv.specs.MadeInput.{made_names, made_fields, made_line, made_lines, made_input}
-use Rattle.pl_write.proofs.DateLaws.{date_text-is}
+use Rattle.pl_text.proofs.DateLaws.{date_text-is}
 
 -- ---- digits
 

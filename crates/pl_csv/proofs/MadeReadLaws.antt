@@ -19,7 +19,7 @@ use Rattle.pl_cells.specs.Cells.{cell, fault_of}
 use Rattle.pl_rows.specs.Cells.{RowRules}
 use Rattle.pl_rows.specs.Plan.{Columns}
 use Rattle.pl_rows.specs.Rows.{column_fault, first_fault, first_faulty, first_or}
-use Rattle.pl_infer.specs.Causes.{when, first_some}
+use Rattle.pl_options.specs.FirstCause.{when, first_some}
 use Rattle.pl_csv.specs.MadeInput.{made_names, made_fields, made_line, made_lines, made_input}
 use Rattle.pl_csv.specs.Making.{made_schema, made_options, MadeInputIsRead}
 use Rattle.pl_read.specs.Options.{data_of}

@@ -11,9 +11,9 @@ use Rattle.pl_frame.specs.declared.error.PolarsError.{PolarsError}
 use Rattle.pl_frame.specs.declared.error.PolarsError.TheVariants as error
 use Rattle.pl_frame.specs.Frame.{ColumnValue}
 use Rattle.pl_frame.specs.Schema.{Entry}
-use Rattle.pl_infer.specs.declared.parse_options.CsvParseOptions.{CsvParseOptions}
-use Rattle.pl_infer.specs.declared.read_options.CsvReadOptions.{CsvReadOptions}
-use Rattle.pl_infer.specs.Causes.{first_some, IsFirstCause, Tells}
+use Rattle.pl_options.specs.declared.parse_options.CsvParseOptions.{CsvParseOptions}
+use Rattle.pl_options.specs.declared.read_options.CsvReadOptions.{CsvReadOptions}
+use Rattle.pl_options.specs.FirstCause.{first_some, IsFirstCause, Tells}
 use Rattle.pl_read.specs.Options.{settled_schema}
 use Rattle.pl_read.specs.Refusals.{early_causes, late_causes, read_causes}
 use Rattle.pl_words.specs.declared.job.Job.{Job}
@@ -24,7 +24,7 @@ use Rattle.pl_csv.specs.declared.convert_source.Unconverted.TheVariants as uncon
 use Rattle.pl_csv.specs.declared.run.Refusal.{Refusal}
 use Rattle.pl_csv.specs.declared.run.Refusal.TheVariants as refusal
 use Rattle.pl_csv.specs.Making.{IsMakingFault, IsZero, making_status}
-use Rattle.pl_csv.specs.Run.{Converts, Makes, HasRead, HasCause, HasWrongOption, IsRefused, IsDue, EndsAsDue, EndsAsMade, Converted, Made, MadePart, PartWritten}
+use Rattle.pl_csv.specs.Run.{Converts, Makes, HasRead, HasWrongOption, IsRefused, IsDue, EndsAsDue, EndsAsMade, Converted, Made, MadePart, PartWritten, HasNoRead}
 use Rattle.pl_csv.specs.Sources.{IsSourceConverted, IsUnconverted}
 use Rattle.pl_csv.specs.Telling.{status_of, status_of_fault}
 use Rattle.pl_csv.specs.Transcoding.{all_causes, HasAsciiQuote, IsCause, IsValidRead, IsTranscodeFault}
@@ -166,7 +166,7 @@ due-invalid words input status c was first is (inr (inr (inr (inl due)))) =
     due.2 ∙ ap status_of_fault (one_cause d.read (settled_schema d.read input) input d.write due.0 first invalid.is (subst (λ e. Cause e input first) same is))
 
 -- what is due where a cause was found
-due-cause : (words : List (List ℕ)) (left left_now : Option (List ℕ)) (input : List ℕ) (status : ℕ) (first : PolarsError) → HasCause words left left_now first
+due-cause : (words : List (List ℕ)) (left left_now : Option (List ℕ)) (input : List ℕ) (status : ℕ) (first : PolarsError) → HasNoRead words left left_now first
     → left ≡ Some input → IsDue words input status → status ≡ status_of_fault first
 due-cause words left left_now input status first has told due =
     let c = has.conversion in
@@ -247,7 +247,7 @@ wrong_status words first rows workers piece meaning wrong =
 -- ---- refusals
 
 -- what is due where a cause was found, or an option is wrong
-due-first : (words : List (List ℕ)) (left left_now : Option (List ℕ)) (input : List ℕ) (status : ℕ) (first : PolarsError) → HasCause words left left_now first ⊎ HasWrongOption words first
+due-first : (words : List (List ℕ)) (left left_now : Option (List ℕ)) (input : List ℕ) (status : ℕ) (first : PolarsError) → HasNoRead words left left_now first ⊎ HasWrongOption words first
     → left ≡ Some input → IsDue words input status → status ≡ status_of_fault first
 due-first words left left_now input status first (inl has) told due = due-cause words left left_now input status first has told due
 due-first words left left_now input status first (inr wrong) told due =
@@ -321,20 +321,6 @@ converted-source words left left_now received received_now c meaning (input, com
   is = is;
 }
 
--- a making job that was not done was refused
-pub refused-making : (words : List (List ℕ)) (before now : Views) (rows workers piece : ℕ) (fault : PolarsError) → Makes words rows workers piece
-    → IsMakingFault rows workers piece before.out now.out fault → IsRefused words before now (refusal.Polars fault)
-refused-making words before now rows workers piece error.IO meaning (rose, is) = (rose, inr (record { rows = rows; workers = workers; piece = piece; meaning = meaning; is = is }))
-refused-making words before now rows workers piece error.OutOfMemory meaning (inl same) = inl same
-refused-making words before now rows workers piece error.OutOfMemory meaning (inr is) = inr (inr (record { rows = rows; workers = workers; piece = piece; meaning = meaning; is = is }))
-refused-making words before now rows workers piece (error.InvalidOperation op) meaning (is, zero, same) = (inr (record { rows = rows; workers = workers; piece = piece; meaning = meaning; zero = zero; is = is }), same)
-refused-making words before now rows workers piece (error.ComputeError fault) meaning (is, zero, same) = (inr (record { rows = rows; workers = workers; piece = piece; meaning = meaning; zero = zero; is = is }), same)
-refused-making words before now rows workers piece (error.NoData fault) meaning (is, zero, same) = (inr (record { rows = rows; workers = workers; piece = piece; meaning = meaning; zero = zero; is = is }), same)
-refused-making words before now rows workers piece (error.ColumnNotFound name) meaning (is, zero, same) = (inr (record { rows = rows; workers = workers; piece = piece; meaning = meaning; zero = zero; is = is }), same)
-refused-making words before now rows workers piece (error.OutOfBounds index length) meaning (is, zero, same) = (inr (record { rows = rows; workers = workers; piece = piece; meaning = meaning; zero = zero; is = is }), same)
-refused-making words before now rows workers piece (error.Duplicate name at) meaning (is, zero, same) = (inr (record { rows = rows; workers = workers; piece = piece; meaning = meaning; zero = zero; is = is }), same)
-refused-making words before now rows workers piece error.EmptyProjection meaning (is, zero, same) = (inr (record { rows = rows; workers = workers; piece = piece; meaning = meaning; zero = zero; is = is }), same)
-
 -- a making job that was done ends as is due
 pub made-done : (words : List (List ℕ)) (before now : Views) (rows workers piece : ℕ)
     → Converted words before.source.left now.source.left before.out.received now.out.received ⊎ Made words before.out.received now.out.received
@@ -343,7 +329,7 @@ made-done words before now rows workers piece (inl converted) meaning = not_both
 made-done words before now rows workers piece (inr made) meaning = inl (sym (made_status words before.out.received now.out.received rows workers piece meaning made))
 
 -- where an option of a making job is wrong
-made-first : (words : List (List ℕ)) (left left_now : Option (List ℕ)) (faults faults_now : ℕ) (first : PolarsError) (rows workers piece : ℕ) → HasCause words left left_now first ⊎ HasWrongOption words first
+made-first : (words : List (List ℕ)) (left left_now : Option (List ℕ)) (faults faults_now : ℕ) (first : PolarsError) (rows workers piece : ℕ) → HasNoRead words left left_now first ⊎ HasWrongOption words first
     → Makes words rows workers piece → EndsAsMade workers piece (status_of_fault first) faults faults_now
 made-first words left left_now faults faults_now first rows workers piece (inl has) meaning = not_both _ has.conversion rows workers piece has.read.meaning meaning
 made-first words left left_now faults faults_now first rows workers piece (inr wrong) meaning = inl (sym (wrong_status words first rows workers piece meaning wrong))

@@ -10,13 +10,13 @@ use Rattle.std.proofs.lemmas.List.{drop-append-le}
 use Rattle.pl_frame.specs.Causes.{Rose}
 use Rattle.pl_frame.specs.Frame.{names_of}
 use Rattle.pl_frame.specs.Schema.{Entry, HaveDistinctNames}
-use Rattle.pl_frame.specs.Text.{text_of_frame}
+use Rattle.pl_text.specs.FrameText.{text_of_frame}
 use Rattle.pl_frame.specs.declared.error.PolarsError.{PolarsError}
 use Rattle.pl_frame.specs.declared.read_all.ReadAllFault.{ReadAllFault}
 use Rattle.pl_frame.specs.declared.read_all.ReadAllFault.TheVariants as read_fault
 use Rattle.pl_frame.proofs.Known.{Consumes-nil, Consumes-append}
-use Rattle.pl_infer.specs.Causes.{IsFault}
-use Rattle.pl_infer.specs.declared.read_options.CsvReadOptions.{CsvReadOptions}
+use Rattle.pl_options.specs.FirstCause.{IsFault}
+use Rattle.pl_options.specs.declared.read_options.CsvReadOptions.{CsvReadOptions}
 use Rattle.pl_read.specs.Options.{settled_schema}
 use Rattle.pl_read.specs.Reading.{frame_of}
 use Rattle.pl_read.specs.Rows.{data_frame}
@@ -26,7 +26,7 @@ use Rattle.pl_read.proofs.PreparingLaws.{IsPrepared-own, can-read}
 use Rattle.pl_read.proofs.SettlingLaws.{late-data}
 use Rattle.pl_rows.specs.declared.plan.RangePlan.{RangePlan}
 use Rattle.pl_regions.specs.declared.front.Front.{Front}
-use Rattle.pl_verbatim.specs.Printing.{IsFrontPrinted}
+use Rattle.pl_verbatim.specs.PrintedTexts.{IsFrontPrinted}
 use Rattle.pl_regions.specs.Intake as intake
 use Rattle.pl_regions.specs.declared.intake.Intake.{Intake}
 use Rattle.pl_write.specs.Options.{cell_options, frame_options}
@@ -94,7 +94,7 @@ records-ahead start rest bytes kept inside is = ap (λ (l : List ℕ). l ++ byte
 
 -- where a source was not read on to its end
 pub stopped : {T : Type 0} (read : CsvReadOptions) (write : CsvWriterOptions) (before now end : SourceView) (kept : List ℕ) (size limit : ℕ) (fault : ReadAllFault) → IsKept before now kept → size ≡ length kept → limit ≡ 2 ^ 36
-    → (IsErrOf {T = T} (Err fault) read_fault.TooLong → intake.IsTooLong now.left end.left limit size) → (IsErrOf {T = T} (Err fault) read_fault.Source → intake.HasStopped now.left end.left limit size)
+    → (IsErrOf {T = T} (Err fault) read_fault.TooLong → intake.IsPastLimit now.left end.left limit size) → (IsErrOf {T = T} (Err fault) read_fault.Source → intake.HasStopped now.left end.left limit size)
     → (IsErrOf {T = T} (Err fault) read_fault.Source → Rose now.faults end.faults) → IsUnprinted read write before end (unread_of fault)
 stopped read write before now end kept size limit read_fault.Source is size_is limit_is long failed cause =
     let rose : Rose now.faults end.faults = cause refl in

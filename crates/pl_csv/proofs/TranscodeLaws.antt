@@ -7,8 +7,8 @@ use Rattle.pl_frame.specs.declared.error.PolarsError.TheVariants as error
 use Rattle.pl_frame.specs.declared.error.ComputeFault.TheVariants as compute_fault
 use Rattle.pl_frame.specs.Frame.{ColumnValue}
 use Rattle.pl_frame.specs.Schema.{Entry}
-use Rattle.pl_infer.specs.declared.read_options.CsvReadOptions.{CsvReadOptions}
-use Rattle.pl_infer.specs.Causes.{when, IsFirstCause, IsFault}
+use Rattle.pl_options.specs.declared.read_options.CsvReadOptions.{CsvReadOptions}
+use Rattle.pl_options.specs.FirstCause.{when, IsFirstCause, IsFault}
 use Rattle.pl_read.specs.Options.{settled_schema}
 use Rattle.pl_read.specs.Reading.{frame_of}
 use Rattle.pl_read.specs.Refusals.{early_causes, late_causes}
@@ -27,14 +27,6 @@ quote_none write small = by (nat_lt write.serialize_options.quote_char 128) refl
     by true e = refl
     by false e = absurd (grind (arith, nat_tests, e, small))
 
--- or it is not, and then a cause
-quote_some : (write : CsvWriterOptions) → (HasAsciiQuote write → ⊥) → quote_cause write ≡ Some (error.ComputeError compute_fault.Quote)
-quote_some write large = by (nat_lt write.serialize_options.quote_char 128) refl
-  where
-    by : (t : Bool) → nat_lt write.serialize_options.quote_char 128 ≡ t → when (not t) (error.ComputeError compute_fault.Quote) ≡ Some (error.ComputeError compute_fault.Quote)
-    by true e = absurd (large (grind (arith, nat_tests, e)))
-    by false e = refl
-
 -- ---- the cause that is told
 
 -- one of the options
@@ -44,17 +36,6 @@ unread-early read schema input write fault is = inl (record {
   is_dialect = is.is_dialect;
   tells = is.tells;
   is = sym (first_some-early (early_causes read is.is_dialect) (quote_cause write ∷ late_causes read schema input) fault (sym is.is));
-})
-
--- the quote of the output
-pub unread-quote : (read : CsvReadOptions) (schema : List Entry) (input : List ℕ) (write : CsvWriterOptions) → MayRead read → (HasAsciiQuote write → ⊥)
-    → IsUnread read schema input write (error.ComputeError compute_fault.Quote)
-unread-quote read schema input write may large = inl (record {
-  is_dialect = may.is_dialect;
-  tells = may.tells;
-  is = sym
-      (first_some-late (early_causes read may.is_dialect) (quote_cause write ∷ late_causes read schema input) (sym may.is)
-      ∙ first_some-here (quote_cause write) (late_causes read schema input) (error.ComputeError compute_fault.Quote) (quote_some write large));
 })
 
 -- a later one

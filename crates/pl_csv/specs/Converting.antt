@@ -4,10 +4,10 @@ use Rattle.std.specs.Cow.{cow_slice_items}
 use Rattle.std.specs.List.{list_any}
 use Rattle.pl_frame.specs.Frame.{ColumnValue, names_of}
 use Rattle.pl_frame.specs.Schema.{Entry}
-use Rattle.pl_frame.specs.Text.{text_of_frame}
+use Rattle.pl_text.specs.FrameText.{text_of_frame}
 use Rattle.pl_cells.specs.InitBuffers.{entry_at}
-use Rattle.pl_infer.specs.declared.read_options.CsvReadOptions.{CsvReadOptions}
-use Rattle.pl_schema.specs.Schemas.{is_categorical}
+use Rattle.pl_options.specs.declared.read_options.CsvReadOptions.{CsvReadOptions}
+use Rattle.pl_infer.specs.Schemas.{is_categorical}
 use Rattle.pl_read.specs.Options.{settled_schema}
 use Rattle.pl_read.specs.Projection.{projected}
 use Rattle.pl_write.specs.Options.{frame_options}
@@ -18,7 +18,7 @@ use Rattle.pl_csv.specs.declared.convert.Printed.{Printed}
 
 -- Its rows may be printed as they are read: there is no limit of rows, no row index, and no column of categories, whose codes would have
 -- to be counted.
-pub record IsPlain (read : CsvReadOptions) (schema : List Entry) : Type 0 where
+pub record IsRowByRow (read : CsvReadOptions) (schema : List Entry) : Type 0 where
   pub unlimited : read.n_rows ≡ None
   pub unnumbered : read.row_index ≡ None
   pub uncoded : list_any (λ place. is_categorical (entry_at schema place).1) (projected read schema) ≡ false

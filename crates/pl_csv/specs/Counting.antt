@@ -38,11 +38,6 @@ abbrev pub IsCountOf : Bool → Marks → Option (List ℕ) → List ℕ → Res
 IsCountOf has_header m comment bytes answer =
     ((¬ IsDialect m comment) × (answer ≡ Err no_dialect)) ⊎ (IsDialect m comment × (answer ≡ counted has_header m comment bytes))
 
--- this answer, or want of memory, or a fault of the opener whose count rose
-abbrev pub AnswersUnlessFailed : Result ℕ PolarsError → Result ℕ PolarsError → ℕ → ℕ → Type 0
-AnswersUnlessFailed result expected before now =
-    (result ≡ expected) ⊎ (result ≡ Err error.OutOfMemory) ⊎ ((result ≡ Err error.IO) × Rose before now)
-
 -- the faults that counting the rows at a path may have
 abbrev pub IsCountFault : PolarsError → Type 0
 IsCountFault fault = (fault ≡ error.IO) ⊎ (fault ≡ no_dialect) ⊎ (fault ≡ compressed) ⊎ (fault ≡ error.OutOfMemory)

@@ -7,3 +7,33 @@ pub mod MadeInput
 pub mod Making
 pub mod Run
 pub mod Counting
+pub use Rattle.pl_cells.specs.InitBuffers
+pub use Rattle.pl_frame.specs.Causes
+pub use Rattle.pl_frame.specs.Columns
+pub use Rattle.pl_frame.specs.Compression
+pub use Rattle.pl_frame.specs.Dialect
+pub use Rattle.pl_frame.specs.Frame
+pub use Rattle.pl_frame.specs.FrameParts
+pub use Rattle.pl_frame.specs.Opening
+pub use Rattle.pl_frame.specs.Outside
+pub use Rattle.pl_frame.specs.Schema
+pub use Rattle.pl_frame.specs.Types
+pub use Rattle.pl_infer.specs.Schemas
+pub use Rattle.pl_options.specs.FirstCause
+pub use Rattle.pl_read.specs.CsvReader
+pub use Rattle.pl_read.specs.Options as ReadOptions
+pub use Rattle.pl_read.specs.Preparing
+pub use Rattle.pl_read.specs.Projection
+pub use Rattle.pl_read.specs.Reading
+pub use Rattle.pl_read.specs.RoundTrip
+pub use Rattle.pl_read.specs.Rows
+pub use Rattle.pl_read.specs.Steps
+pub use Rattle.pl_round_trip.specs.Fits
+pub use Rattle.pl_round_trip.specs.RoundTrip as ReadAgain
+pub use Rattle.pl_scan.specs.Comment
+pub use Rattle.pl_scan.specs.RowCount
+pub use Rattle.pl_text.specs.FrameText
+pub use Rattle.pl_text.specs.ValueText
+pub use Rattle.pl_words.specs.Words
+pub use Rattle.pl_write.specs.Options as WriteOptions
+pub use Rattle.pl_write.specs.Printed

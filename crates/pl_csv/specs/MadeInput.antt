@@ -1,8 +1,8 @@
 -- The input that a making job makes (docs/command-line.md, "A made input").
 use Rattle.std.specs.Prelude.{ℕ, ◌+◌, ◌%◌, ◌==◌, if◌then◌else◌, pos, List, [], ◌∷◌, ◌++◌, codes, decimal}
 use Rattle.std.specs.List.{flat_map, join_with_byte, range_with_len}
-use Rattle.pl_frame.specs.Printed.{date_text}
-use Rattle.pl_frame.specs.Text.{quoted}
+use Rattle.pl_text.specs.ValueText.{date_text}
+use Rattle.pl_text.specs.FrameText.{quoted}
 
 -- the names of the columns
 abbrev pub made_names : List (List ℕ)

@@ -54,7 +54,7 @@ pub record ConvertedPart (words : List (List ℕ)) (left left_now received recei
   pub is : IsCutShort conversion.read conversion.write input received received_now
 
 -- the input has no reference read that can be written, first for this cause
-pub record HasCause (words : List (List ℕ)) (left left_now : Option (List ℕ)) (first : PolarsError) : Type 0 where
+pub record HasNoRead (words : List (List ℕ)) (left left_now : Option (List ℕ)) (first : PolarsError) : Type 0 where
   pub conversion : Conversion
   pub input : List ℕ
   pub read : HasRead words left left_now conversion input
@@ -101,7 +101,7 @@ IsRefused words before now refusal.Source = Converts words × HasFailed before.s
 IsRefused words before now refusal.TooLong = Converts words × IsTooLong before.source.left now.source.left × (now.out ≡ before.out)
 IsRefused words before now (refusal.Polars error.IO) = Rose before.out.faults now.out.faults × PartWritten words before now
 IsRefused words before now (refusal.Polars error.OutOfMemory) = (now.out ≡ before.out) ⊎ PartWritten words before now
-IsRefused words before now (refusal.Polars first) = (HasCause words before.source.left now.source.left first ⊎ HasWrongOption words first) × (now.out ≡ before.out)
+IsRefused words before now (refusal.Polars first) = (HasNoRead words before.source.left now.source.left first ⊎ HasWrongOption words first) × (now.out ≡ before.out)
 
 -- a refusal with this status holds, and its fault line was told
 pub record IsRefusedWith (words : List (List ℕ)) (before now : Views) (err err_now : SinkView) (status : ℕ) : Type 0 where

@@ -6,20 +6,21 @@ use Rattle.std.specs.List.{concat}
 use Rattle.pl_frame.specs.Came.{Came}
 use Rattle.pl_frame.specs.Causes.{Rose}
 use Rattle.pl_frame.specs.Schema.{Entry}
+use Rattle.pl_frame.specs.declared.error.PolarsError.{PolarsError}
 use Rattle.pl_frame.specs.declared.error.PolarsError.TheVariants as error
 use Rattle.pl_frame.specs.declared.read_all.ReadAllFault.{ReadAllFault}
 use Rattle.pl_frame.specs.declared.read_all.ReadAllFault.TheVariants as read_fault
-use Rattle.pl_infer.specs.declared.read_options.CsvReadOptions.{CsvReadOptions}
+use Rattle.pl_options.specs.declared.read_options.CsvReadOptions.{CsvReadOptions}
 use Rattle.pl_read.specs.Options.{settled_schema}
 use Rattle.pl_read.specs.Preparing.{IsPrepared}
 use Rattle.pl_read.specs.Steps.{MayRead, opening_cause, CanReadData}
 use Rattle.pl_read.specs.declared.preparing.Prepared.{Prepared}
 use Rattle.pl_regions.specs.declared.front.Front.{Front}
 use Rattle.pl_rows.specs.declared.plan.RangePlan.{RangePlan}
-use Rattle.pl_verbatim.specs.Printing.{IsFrontPrinted}
+use Rattle.pl_verbatim.specs.PrintedTexts.{IsFrontPrinted}
 use Rattle.pl_write.specs.Options.{cell_options}
 use Rattle.pl_write.specs.declared.options.CsvWriterOptions.{CsvWriterOptions}
-use Rattle.pl_csv.specs.Converting.{IsPlain}
+use Rattle.pl_csv.specs.Converting.{IsRowByRow}
 use Rattle.pl_csv.specs.Transcoding.{HasAsciiQuote, IsUnread, IsConverted, IsTranscodeFault}
 use Rattle.pl_csv.specs.Views.{SourceView, Views}
 use Rattle.pl_csv.specs.declared.convert_source.Unconverted.{Unconverted}
@@ -56,6 +57,12 @@ IsUnconverted read write before now (unconverted.Polars fault) =
     ((fault ≡ error.OutOfMemory) × (now.out ≡ before.out))
     ⊎ ((input : List ℕ) × HasCome before.source.left now.source.left input × IsTranscodeFault read write input before.out now.out fault)
 
+-- the same as the error that a read or a write answers; a source that gives too many bytes counts as out of memory
+abbrev pub error_of_unconverted : Unconverted → PolarsError
+error_of_unconverted unconverted.Source = error.IO
+error_of_unconverted unconverted.TooLong = error.OutOfMemory
+error_of_unconverted (unconverted.Polars fault) = fault
+
 -- why a source was not read to its end
 abbrev pub unread_of : ReadAllFault → Unconverted
 unread_of read_fault.Source = unconverted.Source
@@ -88,7 +95,7 @@ pub record MayReadAhead (read : CsvReadOptions) (write : CsvWriterOptions) : Typ
 pub record IsReadBy (read : CsvReadOptions) (input : List ℕ) (prepared : Prepared) : Type 0 where
   pub is : IsPrepared read (settled_schema read input) input prepared
   pub sound : opening_cause read (settled_schema read input) input ≡ None
-  pub plain : IsPlain read prepared.schema
+  pub plain : IsRowByRow read prepared.schema
 
 -- a front of an input tells what the rows are read by, whatever stands behind it; they begin within it
 pub record IsReadAhead (read : CsvReadOptions) (first : List ℕ) (prepared : Prepared) : Type 0 where
@@ -100,7 +107,7 @@ pub record IsReadAhead (read : CsvReadOptions) (first : List ℕ) (prepared : Pr
 -- the front of data was printed, and this is left of it
 pub record IsLeftOf (plan : RangePlan) (read : CsvReadOptions) (schema : List Entry) (write : CsvWriterOptions) (records : List ℕ) (front : Front) (left : List ℕ) : Type 0 where
   pub can : CanReadData plan read schema records
-  pub plain : IsPlain read schema
+  pub plain : IsRowByRow read schema
   pub small : length records < 2 ^ 64
   pub printed : IsFrontPrinted plan schema (cell_options write.serialize_options) records front.end front.rows (concat (map cow_slice_items front.lines.items))
   pub left_is : left ≡ drop front.end records

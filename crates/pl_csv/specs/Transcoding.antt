@@ -7,9 +7,9 @@ use Rattle.pl_frame.specs.declared.error.PolarsError.TheVariants as error
 use Rattle.pl_frame.specs.declared.error.ComputeFault.TheVariants as compute_fault
 use Rattle.pl_frame.specs.Frame.{ColumnValue}
 use Rattle.pl_frame.specs.Schema.{Entry}
-use Rattle.pl_frame.specs.Text.{WriteOptions, text_of_frame}
-use Rattle.pl_infer.specs.declared.read_options.CsvReadOptions.{CsvReadOptions}
-use Rattle.pl_infer.specs.Causes.{when, IsFirstCause}
+use Rattle.pl_text.specs.FrameText.{WriteOptions, text_of_frame}
+use Rattle.pl_options.specs.declared.read_options.CsvReadOptions.{CsvReadOptions}
+use Rattle.pl_options.specs.FirstCause.{when, IsFirstCause}
 use Rattle.pl_read.specs.CsvReader.{AnswersUnlessFailed}
 use Rattle.pl_read.specs.Options.{settled_schema}
 use Rattle.pl_read.specs.Reading.{IsRead}

@@ -1,6 +1,6 @@
 //! How an input becomes an output.
 
-use pl_infer::read_options::CsvReadOptions;
+use pl_options::read_options::CsvReadOptions;
 use pl_write::options::CsvWriterOptions;
 
 /// How an input is read, and how its frame is written.

@@ -5,9 +5,9 @@ ghost use Rattle.std.specs.Cow.{cow_slice_items};
 ghost use Rattle.std.specs.List.{list_any};
 ghost use Rattle.pl_cells.specs.InitBuffers.{entry_at};
 ghost use Rattle.pl_frame.specs.Frame.{names_of};
-ghost use Rattle.pl_frame.specs.Text.{text_of_frame};
-ghost use Rattle.pl_infer.specs.Causes.{IsFault};
-ghost use Rattle.pl_schema.specs.Schemas.{is_categorical};
+ghost use Rattle.pl_text.specs.FrameText.{text_of_frame};
+ghost use Rattle.pl_options.specs.FirstCause.{IsFault};
+ghost use Rattle.pl_infer.specs.Schemas.{is_categorical};
 ghost use Rattle.pl_read.specs.Options.{settled_schema};
 ghost use Rattle.pl_read.specs.Reading.{frame_of};
 ghost use Rattle.pl_read.specs.Preparing.{IsPrepared};
@@ -16,7 +16,7 @@ ghost use Rattle.pl_read.specs.Rows.{data_frame};
 ghost use Rattle.pl_read.specs.Steps.{MayRead, late_cause, data_cause, CanReadData};
 ghost use Rattle.pl_write.specs.Options.{frame_options};
 ghost use Rattle.pl_write.specs.Printed.{printed_text};
-ghost use Rattle.pl_csv.specs.Converting.{IsPlain, IsPrintedRead};
+ghost use Rattle.pl_csv.specs.Converting.{IsPrintedRead, IsRowByRow};
 ghost use Rattle.pl_csv.specs.Sources.{IsLeftOf};
 ghost use Rattle.pl_csv.specs.Transcoding.{IsUnread, IsConverted, IsTranscodeFault};
 ghost use Rattle.pl_csv.specs.Views.{sink_view};
@@ -27,7 +27,7 @@ use pl_frame::error::{ComputeFault, PolarsError, PolarsResult};
 use pl_frame::frame::DataFrame;
 use pl_frame::schema::Schema;
 use pl_frame::sink::{Sink, SinkFault};
-use pl_infer::read_options::CsvReadOptions;
+use pl_options::read_options::CsvReadOptions;
 use pl_read::checks::check_options;
 use pl_read::preparing::{Prepared, prepare};
 use pl_read::reading::{plan_of, read_prepared};
@@ -54,10 +54,8 @@ fn has_categories(schema: &Schema, place: usize) -> bool
     requires { place < length schema.now }
     ensures { result ≡ is_categorical (entry_at schema.now place).1 }
 {
-    match schema.get_at_index(place) {
-        Some((_, dtype)) => matches!(dtype, DataType::Categorical),
-        None => false,
-    }
+    let (_, dtype) = schema.entry(place);
+    matches!(dtype, DataType::Categorical)
 }
 
 // Whether one of the columns that are read has categories.
@@ -74,9 +72,9 @@ fn have_categories(schema: &Schema, places: &[usize]) -> bool
 }
 
 /// Whether rows may be printed as they are read.
-pub(crate) fn is_plain(read: &CsvReadOptions, prepared: &Prepared) -> bool
+pub(crate) fn is_row_by_row(read: &CsvReadOptions, prepared: &Prepared) -> bool
     requires { prepared.now.places.items ≡ projected read.now prepared.now.schema }
-    ensures { OnTrue result (IsPlain read.now prepared.now.schema) }
+    ensures { OnTrue result (IsRowByRow read.now prepared.now.schema) }
 {
     read.n_rows.is_none()
         && read.row_index.is_none()
@@ -132,7 +130,7 @@ fn print_data<'a, W: Threads + Wait + Sync>(
     write: &CsvWriterOptions,
 ) -> PolarsResult<Printed<'a>>
     requires can { CanReadData plan.now read.now schema.now records.now }
-    requires plain { IsPlain read.now schema.now }
+    requires plain { IsRowByRow read.now schema.now }
     ensures text { IfOk result (λ printed. printed_text (frame_options write.now) (names_of printed.rest) (map cow_slice_items printed.lines.items) printed.rest
         ≡ text_of_frame (frame_options write.now) (data_frame read.now schema.now records.now)) }
     ensures sound { OnOk result (data_cause read.now schema.now records.now ≡ None) }
@@ -164,7 +162,7 @@ fn print_prepared<'a, W: Threads + Wait + Sync>(
     ensures sound { OnOk result (data_cause read.now prepared.now.schema (drop prepared.now.start input.now) ≡ None) }
     ensures refused { IfErr result (IsFault (data_cause read.now prepared.now.schema (drop prepared.now.start input.now))) }
 {
-    if is_plain(read, prepared) {
+    if is_row_by_row(read, prepared) {
         let plan = plan_of(read, prepared);
         let records = &input[prepared.start..];
         let schema = &prepared.schema;

@@ -6,12 +6,12 @@ ghost use Rattle.pl_csv.specs.Converting.{IsPrintedRead};
 ghost use Rattle.pl_csv.specs.Sources.{HasCome, IsSourceConverted, IsUnconverted, MayReadAhead, IsReadAhead, IsKept, IsUnprinted, unread_of};
 ghost use Rattle.pl_csv.specs.Views.{SourceView, source_view, views};
 
-use crate::convert::{Printed, convert, is_plain, read_left, write_printed};
+use crate::convert::{Printed, convert, is_row_by_row, read_left, write_printed};
 use crate::read_all::{LIMIT, ReadAllFault};
 use pl_frame::error::PolarsError;
 use pl_frame::sink::Sink;
 use pl_frame::source::Source;
-use pl_infer::read_options::CsvReadOptions;
+use pl_options::read_options::CsvReadOptions;
 use pl_read::checks::check_options;
 use pl_read::preparing::{Prepared, prepare};
 use pl_read::reading::plan_of;
@@ -23,20 +23,39 @@ use pl_write::options::CsvWriterOptions;
 use std::alloc::Global;
 use std::sync::{OnceLock, Wait};
 use std::thread::Threads;
+use thiserror::Error;
 
 // So many bytes are read before it is told what the rows are read by, or a piece, where that is shorter. An input of no more is read first.
 const FIRST: usize = 1 << 16;
 
 /// Why what a source gives was not converted.
-#[derive(Debug, Drop)]
+#[derive(Debug, Drop, Error)]
 pub enum Unconverted {
     /// The source failed.
+    #[error("the source failed")]
     Source,
     /// The source gave more than the largest input.
+    #[error("the source gave more than the largest input")]
     TooLong,
     /// The input was not transcoded: for a cause against its frame, for a fault of the sink (`IO`), or for want of memory,
     /// which may come before the input was read as well.
+    #[error("{0}")]
     Polars(PolarsError),
+}
+
+impl From<Unconverted> for PolarsError {
+    ghost use Rattle.std.specs.Prelude.{◌≡◌};
+    ghost use Rattle.pl_csv.specs.Sources.{error_of_unconverted};
+
+    ghost from_gives = { λ fault error. error ≡ error_of_unconverted fault };
+
+    fn from(fault: Unconverted) -> PolarsError {
+        match fault {
+            Unconverted::Source => PolarsError::IO,
+            Unconverted::TooLong => PolarsError::OutOfMemory,
+            Unconverted::Polars(fault) => fault,
+        }
+    }
 }
 
 // Why a source was not read to its end.
@@ -79,7 +98,7 @@ fn prepare_ahead(
     let Ok(prepared) = prepare(alloc, first, read) else {
         return None;
     };
-    if prepared.start < first.len() && is_plain(read, &prepared) {
+    if prepared.start < first.len() && is_row_by_row(read, &prepared) {
         return Some(prepared);
     }
     None
@@ -208,9 +227,9 @@ fn convert_ahead<W: Threads + Wait + Sync, So: Source, S: Sink>(
 }
 
 /// Reads the input that a source gives, and converts it: what `convert` does of the input as a whole. Where a front of the input tells what its
-/// rows are read by, they are printed as they come, by the workers beside the one that reads: where a schema without categories is given, no
-/// lines are skipped, no limit and no row index are asked, there are two workers or more, and the rows begin within the first 64 KB and don't
-/// end there.
+/// rows are read by, they are printed as they come, by the workers beside the one that reads: where a schema is given and no column that
+/// is read has categories, no lines are skipped, no limit and no row index are asked, there are two workers or more, and the rows begin within
+/// the first 64 KiB, or within a piece where that is shorter, and don't end there.
 ///
 /// Refuses a source that fails, and one that gives more than 2^36 bytes, whatever the input means; then as `convert` does. Before the last
 /// byte came, nothing is written.

@@ -6,7 +6,8 @@ ghost use Rattle.pl_frame.specs.declared.error.PolarsError.TheVariants as error;
 ghost use Rattle.pl_scan.specs.Comment.{prefix_of};
 ghost use Rattle.pl_scan.specs.RowCount.{row_count};
 ghost use Rattle.pl_frame.specs.Compression.{is_compressed};
-ghost use Rattle.pl_csv.specs.Counting.{CameWhole, HoldsSome, IsCountOf, no_dialect, compressed, counted, AnswersUnlessFailed, IsCountFault};
+ghost use Rattle.pl_read.specs.CsvReader.{AnswersUnlessFailed};
+ghost use Rattle.pl_csv.specs.Counting.{CameWhole, HoldsSome, IsCountOf, no_dialect, compressed, counted, IsCountFault};
 
 use crate::read_all::{LIMIT, ReadAllFault, read_all};
 use pl_frame::compression::is_compressed;

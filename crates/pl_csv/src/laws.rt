@@ -1,7 +1,7 @@
 //! What holds of every input, as contracts of functions that do nothing.
 ghost use Rattle.std.specs.Prelude.{ℕ, List};
 ghost use Rattle.pl_frame.specs.Schema.{Entry};
-ghost use Rattle.pl_infer.specs.declared.read_options.CsvReadOptions.{CsvReadOptions};
+ghost use Rattle.pl_options.specs.declared.read_options.CsvReadOptions.{CsvReadOptions};
 ghost use Rattle.pl_write.specs.declared.options.CsvWriterOptions.{CsvWriterOptions};
 ghost use Rattle.pl_csv.specs.Making.{MadeInputIsRead};
 ghost use Rattle.pl_csv.specs.Run.{HasOneDue};

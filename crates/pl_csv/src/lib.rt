@@ -6,6 +6,7 @@ mod conversion;
 pub mod convert;
 pub mod convert_source;
 pub mod counting;
+pub mod fits;
 pub mod laws;
 pub mod make_input;
 mod making;

@@ -1,6 +1,6 @@
 //! A large input from a number.
 ghost use Rattle.std.specs.Prelude.{◌≡◌, ◌≤◌, ◌<◌, ◌+◌, ◌%◌, ◌++◌, ◌∷◌, [], pos, decimal, IfOk, OnOk, IsOkUnless};
-ghost use Rattle.pl_frame.specs.Printed.{date_text, padded};
+ghost use Rattle.pl_text.specs.ValueText.{date_text, padded};
 ghost use Rattle.pl_frame.specs.declared.error.PolarsError.TheVariants as error;
 ghost use Rattle.pl_csv.specs.MadeInput.{name_field, day_field, amount_field, made_fields, made_line, made_input};
 

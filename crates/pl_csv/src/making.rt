@@ -15,7 +15,7 @@ use pl_frame::error::{OpFault, PolarsError, PolarsResult};
 use pl_frame::name::PlSmallStr;
 use pl_frame::schema::Schema;
 use pl_frame::sink::{MemSink, Sink, SinkFault, write_all};
-use pl_infer::read_options::CsvReadOptions;
+use pl_options::read_options::CsvReadOptions;
 use pl_write::options::CsvWriterOptions;
 use std::alloc::{AllocError, Global};
 use std::sync::Wait;
@@ -135,7 +135,7 @@ fn summary<W: Threads + Wait + Sync>(
     }
 }
 
-/// Makes an input of so many rows, converts it by so many workers in pieces of so many bytes, and writes its summary line to
+/// Makes an input of `rows` rows, converts it by `workers` workers in pieces of `piece` bytes, and writes its summary line to
 /// `out`. Refuses `Option` exactly where there are no workers or pieces have no bytes; a fault of `out` (`IO`); and want of
 /// memory.
 pub(crate) fn make<W: Threads + Wait + Sync, Si: Sink>(
@@ -152,6 +152,7 @@ pub(crate) fn make<W: Threads + Wait + Sync, Si: Sink>(
         (sink_view (Si.received out.old) (Si.faults out.old) (Si.wants out.old))
         (sink_view (Si.received out.new) (Si.faults out.new) (Si.wants out.new))) }
     ensures later { Si.faults out.old ≤ Si.faults out.new }
+    ensures later_wants { Si.wants out.old ≤ Si.wants out.new }
 {
     let line = summary(rt, alloc, rows, workers, piece)?;
     match write_all(out, &line) {

@@ -12,8 +12,8 @@ use pl_frame::error::PolarsResult;
 use pl_frame::frame::DataFrame;
 use pl_frame::name::PlSmallStr;
 use pl_frame::schema::Schema;
-use pl_infer::parse_options::CsvParseOptions;
-use pl_infer::read_options::CsvReadOptions;
+use pl_options::parse_options::CsvParseOptions;
+use pl_options::read_options::CsvReadOptions;
 use pl_write::options::CsvWriterOptions;
 use std::alloc::Global;
 

@@ -130,6 +130,7 @@ fn do_work<W: Threads + Wait + Sync, So: Source, Si: Sink>(
     ensures unread { (rows workers piece : ℕ) → Makes (map string_bytes words.now) rows workers piece → source.new ≡ source.old }
     ensures source_later { So.faults source.old ≤ So.faults source.new }
     ensures sink_later { Si.faults out.old ≤ Si.faults out.new }
+    ensures sink_wants_later { Si.wants out.old ≤ Si.wants out.new }
 {
     match work_of(alloc, words)? {
         Work::Convert(conversion) => {
@@ -197,6 +198,9 @@ pub fn run<W: Threads + Wait + Sync, So: Source, Si: Sink, Se: Sink>(
     // No count falls.
     ensures source_later { So.faults source.old ≤ So.faults source.new }
     ensures sink_later { Si.faults out.old ≤ Si.faults out.new }
+    ensures sink_wants_later { Si.wants out.old ≤ Si.wants out.new }
+    ensures err_later { Se.faults err.old ≤ Se.faults err.new }
+    ensures err_wants_later { Se.wants err.old ≤ Se.wants err.new }
 {
     match do_work(rt, alloc, words, source, out) {
         Ok(()) => 0,

@@ -1,5 +1,5 @@
 //! The fault line, told to the sink of errors piece by piece, without taking memory.
-ghost use Rattle.std.specs.Prelude.{◌≡◌, ◌++◌, codes, decimal};
+ghost use Rattle.std.specs.Prelude.{◌≡◌, ◌≤◌, ◌++◌, codes, decimal};
 ghost use Rattle.pl_csv.specs.Telling.{kind_name, fault_name, numbers_text, place_text, fault_detail, refusal_name, refusal_detail, fault_line, IsTold, IsTelling};
 ghost use Rattle.pl_csv.specs.Views.{sink_view};
 
@@ -179,6 +179,8 @@ fn tell_end<Se: Sink>(sink: &mut Se, refusal: &Refusal) -> bool
 /// on.
 pub fn tell_refusal<Se: Sink>(sink: &mut Se, refusal: &Refusal)
     ensures told { IsTold (fault_line refusal.now) (sink_view (Se.received sink.old) (Se.faults sink.old) (Se.wants sink.old)) (sink_view (Se.received sink.new) (Se.faults sink.new) (Se.wants sink.new)) }
+    ensures later { Se.faults sink.old ≤ Se.faults sink.new }
+    ensures later_wants { Se.wants sink.old ≤ Se.wants sink.new }
 {
     if tell(sink, refusal_name(refusal)) {
         tell_end(sink, refusal);

@@ -7,7 +7,7 @@ ghost use Rattle.pl_csv.specs.Views.{sink_view};
 use pl_frame::error::{ComputeFault, PolarsError, PolarsResult};
 use pl_frame::frame::DataFrame;
 use pl_frame::sink::{Sink, SinkFault};
-use pl_infer::read_options::CsvReadOptions;
+use pl_options::read_options::CsvReadOptions;
 use pl_read::checks::check_options;
 use pl_read::csv_reader::OpenGate;
 use pl_read::reading::read_checked;

@@ -1,13 +1,16 @@
 //! Cases with known answers, in plain text.
 //!
 //! A case is a line `case NAME`, a line `word HEX` for each word of the command line, and lines `input HEX`, `status N`,
-//! `out HEX` and `err HEX`. HEX is bytes as hexadecimal digits, or `-` for no byte.
+//! `out HEX` and `err HEX`. HEX is bytes as hexadecimal digits, or `-` for no byte. Lines `source N ..`, `sink N ..` and
+//! `err-sink N ..` say how many bytes each call of the source, the sink or the sink of errors moves at most, and behind that
+//! which calls fail, the first one being 0; without them a call moves all, and none fails.
 
 use crate::answer::Answer;
+use crate::device::Device;
 use anyhow::{Context, Result, bail};
 use pl_csv::run::run;
-use pl_frame::sink::MemSink;
-use pl_frame::source::MemSource;
+use pl_frame::sink::PipeSink;
+use pl_frame::source::PipeSource;
 use std::alloc::Global;
 use std::sync::Wait;
 use std::thread::Threads;
@@ -18,6 +21,9 @@ pub struct Case<'a> {
     pub name: &'a str,
     pub words: Vec<String>,
     pub input: Vec<u8>,
+    pub source: Device,
+    pub sink: Device,
+    pub err_sink: Device,
     pub wanted: Answer,
 }
 
@@ -62,6 +68,9 @@ impl<'a> Case<'a> {
             name: "",
             words: Vec::new(alloc),
             input: Vec::new(alloc),
+            source: Device::new(alloc),
+            sink: Device::new(alloc),
+            err_sink: Device::new(alloc),
             wanted: Answer {
                 status: 0,
                 out: Vec::new(alloc),
@@ -88,6 +97,9 @@ impl<'a> Case<'a> {
                 .words
                 .push(String::from_utf8(bytes_of(alloc, value)?)?)?,
             "input" => self.input = bytes_of(alloc, value)?,
+            "source" => self.source = Device::from_numbers(alloc, value)?,
+            "sink" => self.sink = Device::from_numbers(alloc, value)?,
+            "err-sink" => self.err_sink = Device::from_numbers(alloc, value)?,
             "status" => self.wanted.status = value.parse::<u8>()?,
             "out" => self.wanted.out = bytes_of(alloc, value)?,
             "err" => self.wanted.err = bytes_of(alloc, value)?,
@@ -124,9 +136,9 @@ impl<'a> Case<'a> {
 
     /// What `run` answers.
     pub fn answer<W: Threads + Wait + Sync>(&self, rt: &W, alloc: Global) -> Result<Answer> {
-        let mut source = MemSource::new(&self.input);
-        let mut out = MemSink::new(alloc);
-        let mut err = MemSink::new(alloc);
+        let mut source = PipeSource::new(&self.input, self.source.step()?, self.source.fails());
+        let mut out = PipeSink::new(alloc, self.sink.step()?, self.sink.fails());
+        let mut err = PipeSink::new(alloc, self.err_sink.step()?, self.err_sink.fails());
         let status = run(rt, alloc, &self.words, &mut source, &mut out, &mut err);
         Ok(Answer {
             status,

@@ -3,6 +3,7 @@
 
 mod answer;
 mod case;
+mod device;
 
 use anyhow::{Context, Result};
 use case::{Case, Way};

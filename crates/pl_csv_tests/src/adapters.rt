@@ -34,7 +34,7 @@ impl Write for Broken {
 fn a_reader_is_read_to_its_end(rt: HostRuntime) -> Result<(), Fail> {
     let reader: &[u8] = b"bytes";
     match read_all(rt.alloc(), &mut ReadSource::new(reader), 5) {
-        Ok(all) => assert_eq!(rt; all.as_slice(), b"bytes".as_slice()),
+        Ok(all) => assert!(rt; all.as_slice() == b"bytes".as_slice()),
         Err(_) => panic!(rt; "the reader has five bytes"),
     }
     let failed = read_all(rt.alloc(), &mut ReadSource::new(Broken), 5);
@@ -49,7 +49,7 @@ fn files_are_opened_and_faults_counted(rt: HostRuntime) -> Result<(), Fail> {
     let mut opener = FsOpener::new(&rt);
     let rows = count_rows(rt.alloc(), &mut opener, path, b',', None, None, b'\n', true);
     fs::remove_file(&rt, path)?;
-    assert_eq!(rt; rows.ok(), Some(1));
+    assert!(rt; matches!(rows, Ok(1)));
     let rows = count_rows(rt.alloc(), &mut opener, path, b',', None, None, b'\n', true);
     assert!(rt; matches!(rows, Err(PolarsError::IO)));
     Ok(())
@@ -59,12 +59,12 @@ fn files_are_opened_and_faults_counted(rt: HostRuntime) -> Result<(), Fail> {
 fn a_writer_takes_the_bytes_and_its_flush_counts(rt: HostRuntime) -> Result<(), Fail> {
     let mut written = Vec::new(rt.alloc());
     let mut sink = WriteSink::new(&mut written);
-    assert_eq!(rt; write_all(&mut sink, b"bytes"), Ok(()));
-    assert_eq!(rt; written.as_slice(), b"bytes".as_slice());
-    assert_eq!(rt; WriteSink::new(Broken).write(b"a"), Err(SinkFault::Device));
+    assert!(rt; write_all(&mut sink, b"bytes") == Ok(()));
+    assert!(rt; written.as_slice() == b"bytes".as_slice());
+    assert!(rt; WriteSink::new(Broken).write(b"a") == Err(SinkFault::Device));
 
     let mut room = [0u8; 1];
     let mut full = WriteSink::new(room.as_mut_slice());
-    assert_eq!(rt; write_all(&mut full, b"ab"), Err(SinkFault::Device));
+    assert!(rt; write_all(&mut full, b"ab") == Err(SinkFault::Device));
     Ok(())
 }

@@ -7,7 +7,7 @@ use pl_frame::frame::DataFrame;
 use pl_frame::name::PlSmallStr;
 use pl_frame::schema::Schema;
 use pl_frame::source::MemSource;
-use pl_infer::read_options::CsvReadOptions;
+use pl_options::read_options::CsvReadOptions;
 use pl_read::bytes_reader::MmapBytesReader;
 use pl_read::csv_reader::{CsvReader, SerReader};
 use pl_read::reader_makers::ReaderMakers;

@@ -2,7 +2,7 @@
 
 use pl_csv::make_input::make_input;
 
-// The rows with a quoted name, with no amount, and on the first day again.
+// Four rows, the last one with a name between quotes.
 const FOUR: &str =
     "id,name,day,amount\n0,p0,2020-01-01,0.25\n1,p1,2020-01-02,1.25\n2,p2,2020-01-03,2.25\n3,\"a\"\"b,\nc\",2020-01-04,3.25\n";
 
@@ -10,12 +10,4 @@ const FOUR: &str =
 fn four_rows(rt: HostRuntime) {
     let made = make_input(rt.alloc(), 4);
     assert!(rt; matches!(&made, Ok(bytes) if bytes.as_slice() == FOUR.as_bytes()));
-}
-
-#[test]
-fn numbers_begin_again(rt: HostRuntime) {
-    let made = make_input(rt.alloc(), 1101);
-    let last =
-        b"\n1098,p98,2020-01-01,98.25\n1099,\"a\"\"b,\nc\",2020-01-02,\n1100,p0,2020-01-03,100.25\n";
-    assert!(rt; matches!(&made, Ok(bytes) if bytes.as_slice().ends_with(last)));
 }

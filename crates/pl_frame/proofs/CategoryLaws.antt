@@ -199,18 +199,11 @@ dictionary-known_text values t k at =
     let d = dictionary_of values in
     dictionary-push values (Some t) ∙ ap (λ b. if b then d else d ++ t ∷ []) (known d t k at)
 
-pub dictionary-null_text : (values : List (Option (List ℕ))) → dictionary_of (values ++ None ∷ []) ≡ dictionary_of values
-dictionary-null_text values = dictionary-push values None
-
 -- what a push left, whatever it answered
 pub dictionary-after_known : {T E : Type 0} (r : Result T E) (old new : List (Option (List ℕ))) (t : List ℕ) (k : ℕ) → OnOk r (new ≡ old ++ Some t ∷ []) → OnErr r (new ≡ old) →
     position (bytes_eq t) (dictionary_of old) ≡ Some k → dictionary_of new ≡ dictionary_of old
 dictionary-after_known (Ok x) old new t k ok err at = ap dictionary_of ok ∙ dictionary-known_text old t k at
 dictionary-after_known (Err e) old new t k ok err at = ap dictionary_of err
-
-pub dictionary-after_null : {T E : Type 0} (r : Result T E) (old new : List (Option (List ℕ))) → OnOk r (new ≡ old ++ None ∷ []) → OnErr r (new ≡ old) → dictionary_of new ≡ dictionary_of old
-dictionary-after_null (Ok x) old new ok err = ap dictionary_of ok ∙ dictionary-null_text old
-dictionary-after_null (Err e) old new ok err = ap dictionary_of err
 
 pub after_ok : {T E P : Type 0} (r : Result T E) → OnOk r P → is_err r ≡ false → P
 after_ok (Ok x) p e = p

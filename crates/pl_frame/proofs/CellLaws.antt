@@ -8,7 +8,7 @@ use Rattle.std.proofs.lemmas.Str.{is_utf8-from_IsUtf8}
 use Rattle.pl_frame.specs.declared.data_type.DataType.{DataType}
 use Rattle.pl_frame.specs.declared.data_type.DataType.TheVariants as dtype
 use Rattle.pl_frame.specs.Categories.{code_of, dictionary_of}
-use Rattle.pl_frame.specs.Columns.{dictionary, categories_of, truth_cells, number_cells, text_cells, text_in, is_number, is_coded, is_enum, is_text_of, misfits, first_misfit, HoldsType}
+use Rattle.pl_frame.specs.Columns.{dictionary, categories_of, truth_cells, number_cells, text_cells, text_in, is_enum, is_text_of, misfits, first_misfit, HoldsType}
 use Rattle.pl_frame.specs.Frame.{Scalar, Truth, Number, Letters}
 use Rattle.pl_frame.specs.Optional.{AreAllUtf8, flagged}
 use Rattle.pl_frame.specs.Types.{Range, range_of, signed_range, is_within, is_outside, is_narrow}
@@ -96,47 +96,6 @@ null_at (suc n) (suc k) = null_at n k
 
 pub nulls_hold : (type : DataType) (n : ℕ) → HoldsType type (replicate n None)
 nulls_hold type n = position-nowhere (misfits type) (replicate n None) None (λ k l. ap (misfits type) (null_at n k))
-
--- numbers are kept neither as codes nor as places
-pub numbers_uncoded : (type : DataType) → is_number type ≡ true → (is_coded type ≡ false) × (is_enum type ≡ false)
-numbers_uncoded dtype.Boolean h = (refl, refl)
-numbers_uncoded dtype.Int8 h = (refl, refl)
-numbers_uncoded dtype.Int16 h = (refl, refl)
-numbers_uncoded dtype.Int32 h = (refl, refl)
-numbers_uncoded dtype.Int64 h = (refl, refl)
-numbers_uncoded dtype.Int128 h = (refl, refl)
-numbers_uncoded dtype.UInt8 h = (refl, refl)
-numbers_uncoded dtype.UInt16 h = (refl, refl)
-numbers_uncoded dtype.UInt32 h = (refl, refl)
-numbers_uncoded dtype.UInt64 h = (refl, refl)
-numbers_uncoded dtype.String h = (refl, refl)
-numbers_uncoded dtype.Categorical h = absurd (cc)
-numbers_uncoded (dtype.Enum c) h = absurd (cc)
-numbers_uncoded dtype.Date h = (refl, refl)
-numbers_uncoded dtype.Time h = (refl, refl)
-numbers_uncoded (dtype.Datetime u) h = (refl, refl)
-numbers_uncoded (dtype.Decimal p s) h = (refl, refl)
-numbers_uncoded dtype.Null h = (refl, refl)
-
-pub enums_coded : (type : DataType) → is_enum type ≡ true → is_coded type ≡ true
-enums_coded dtype.Boolean h = absurd (cc)
-enums_coded dtype.Int8 h = absurd (cc)
-enums_coded dtype.Int16 h = absurd (cc)
-enums_coded dtype.Int32 h = absurd (cc)
-enums_coded dtype.Int64 h = absurd (cc)
-enums_coded dtype.Int128 h = absurd (cc)
-enums_coded dtype.UInt8 h = absurd (cc)
-enums_coded dtype.UInt16 h = absurd (cc)
-enums_coded dtype.UInt32 h = absurd (cc)
-enums_coded dtype.UInt64 h = absurd (cc)
-enums_coded dtype.String h = absurd (cc)
-enums_coded dtype.Categorical h = refl
-enums_coded (dtype.Enum c) h = refl
-enums_coded dtype.Date h = absurd (cc)
-enums_coded dtype.Time h = absurd (cc)
-enums_coded (dtype.Datetime u) h = absurd (cc)
-enums_coded (dtype.Decimal p s) h = absurd (cc)
-enums_coded dtype.Null h = absurd (cc)
 
 -- ---- numbers in a range
 

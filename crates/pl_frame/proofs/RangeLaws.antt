@@ -1,10 +1,7 @@
 -- Laws of ranges.
-use Rattle.std.proofs.Common.{◌≡◌, ℕ, ◌-◌, ◌^◌, ◌≤◌, pos, arith}
+use Rattle.std.proofs.Common.{◌≡◌, ℕ, ◌^◌, ◌≤◌, pos, arith}
 use Rattle.std.specs.Prelude.{neg_ℤ, ◌-ℤ◌}
 use Rattle.std.proofs.Math.Nat.{pow-le-pow_right, one-le-pow}
-
-pub less_one : (m : ℕ) → 1 ≤ m → pos m -ℤ pos 1 ≡ pos (m - 1)
-less_one m h = grind arith
 
 pub from_zero : (m : ℕ) → pos 0 -ℤ pos m ≡ neg_ℤ (pos m)
 from_zero m = grind arith

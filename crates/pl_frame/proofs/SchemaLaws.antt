@@ -1,12 +1,10 @@
 -- Names that stand both in a list of fields and as the keys of a set.
-use Rattle.std.proofs.Common.{◌≡◌, ℕ, ◌+◌, ◌<◌, ◌≤◌, Bool, ◌||◌, not, cond, if◌then◌else◌, nat_lt, true, false, List, [], ◌∷◌, ◌++◌, length, map, position, slice_get, slice_set, get_or, Option, None, Some, refl, sym, ◌∙◌, ap, subst, arith}
+use Rattle.std.proofs.Common.{◌≡◌, ℕ, ◌+◌, ◌≤◌, Bool, ◌||◌, not, cond, if◌then◌else◌, nat_lt, true, false, List, [], ◌∷◌, ◌++◌, length, map, position, slice_get, slice_set, Option, None, Some, refl, sym, ◌∙◌, ap, subst, arith}
 use Rattle.std.specs.List.{prefix_len, position_or_len, list_any, IsDistinct, AllByRecursion, AllZip}
-use Rattle.std.specs.Option.{option_map, option_map_or, option_and_then}
+use Rattle.std.specs.Option.{option_map, option_map_or}
 use Rattle.std.specs.Str.{bytes_eq}
 use Rattle.indexmap.specs.IndexSet.{insert_key}
 use borrow.Author.Tests.{ltb-false}
-use Rattle.std.proofs.lemmas.Bool.{lt-ltb, false_from_ne_true}
-use Rattle.std.proofs.lemmas.List.Sums.{position_or_len_is}
 use Rattle.std.proofs.Math.Seq.{map-set_same}
 use Rattle.std.proofs.lemmas.List.{length-map, map-append, map-set}
 use Rattle.std.proofs.lemmas.List.Quantifiers.{position-Some}
@@ -14,7 +12,7 @@ use Rattle.std.proofs.lemmas.Option.{slice_get-map, slice_get-get_or, get_or_fro
 use Rattle.std.proofs.lemmas.Map.Made.{AllPairs-from_IsDistinct}
 use Rattle.std.proofs.lemmas.Slice.Eq.{bytes_eq-Decides}
 use Rattle.pl_frame.specs.declared.data_type.DataType.{DataType}
-use Rattle.pl_frame.specs.Schema.{Entry, names_in, place_of, type_at, type_of, with_type, with_type_at, HaveDistinctNames}
+use Rattle.pl_frame.specs.Schema.{Entry, names_in, place_of, type_at, with_type, with_type_at, HaveDistinctNames}
 
 module _ {A B : Type 0} (f : A → B) (p : B → Bool) where
   prefix_len-map : (xs : List A) → prefix_len p (map f xs) ≡ prefix_len (λ x. p (f x)) xs
@@ -123,30 +121,9 @@ with_type-at entries n i t at = by (slice_get entries i) refl
         ap (λ o. option_map_or (λ x. slice_set entries i (x.0, t)) o entries) e ∙ ap (λ m. slice_set entries i (m, t)) same
         ∙ sym (ap (λ o. option_map_or (λ k. slice_set entries k (n, t)) o (entries ++ (n, t) ∷ [])) at)
 
--- a name without a type is not there
-pub place_of-type_of : (entries : List Entry) (n : List ℕ) → type_of n entries ≡ None → place_of n entries ≡ None
-place_of-type_of entries n none = by (place_of n entries) refl
-  where
-    here : (i : ℕ) → place_of n entries ≡ Some i → (o : Option Entry) → slice_get entries i ≡ o → place_of n entries ≡ None
-    here i at None e = absurd (none-some n (sym (ap (option_map (λ entry. entry.0)) e) ∙ name_at-place_of entries n i at))
-    here i at (Some entry) e = absurd (none-some entry.1 (sym none ∙ ap (option_and_then (type_at entries)) at ∙ ap (option_map (λ (x : Entry). x.1)) e))
-
-    by : (o : Option ℕ) → place_of n entries ≡ o → place_of n entries ≡ None
-    by None e = e
-    by (Some i) e = here i e (slice_get entries i) refl
-
 -- a new name goes last
 pub with_type-new : (entries : List Entry) (n : List ℕ) (t : DataType) → place_of n entries ≡ None → with_type entries n t ≡ entries ++ (n, t) ∷ []
 with_type-new entries n t none = ap (λ o. option_map_or (λ i. slice_set entries i (n, t)) o (entries ++ (n, t) ∷ [])) none
-
--- among distinct names, where a name stands is its place
-pub place_of-at : (entries : List Entry) (n : List ℕ) (i : ℕ) → HaveDistinctNames entries → i < length (names_in entries) → get_or (names_in entries) i [] ≡ n → place_of n entries ≡ Some i
-place_of-at entries n i distinct within at =
-    let names = names_in entries in
-    let first = position_or_len_is (bytes_eq n) names i [] (omega arith)
-    (λ k h. false_from_ne_true _ (λ e. distinct k i [] h within (sym ((bytes_eq-Decides _ _).0 e) ∙ sym at)))
-    (λ _. (bytes_eq-Decides _ _).1 (sym at)) in
-    ap (λ k. cond (nat_lt k (length names)) (Some k) None) first ∙ ap (λ b. cond b (Some i) None) (lt-ltb i (length names) within)
 
 -- the keys of a set and of its clone
 pub keys_cloned : {K : Type 0} (bytes : K → List ℕ) (xs ys : List K) → AllZip (λ x y. bytes y ≡ bytes x) xs ys → map bytes ys ≡ map bytes xs

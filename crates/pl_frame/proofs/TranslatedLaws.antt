@@ -1,7 +1,7 @@
 -- Laws of codes among one dictionary that are found among another.
-use Rattle.std.proofs.Common.{◌≡◌, ℕ, suc, zero, ◌+◌, ◌<◌, true, List, [], ◌∷◌, ◌++◌, length, take, position, get_or, slice_get, set, replicate, Option, None, Some, is_none, Result, Ok, Err, OnOk, OnErr, unwrap_or, ◌⊎◌, inl, inr, refl, sym, ◌∙◌, ap, subst, append_assoc}
+use Rattle.std.proofs.Common.{◌≡◌, ℕ, suc, zero, ◌+◌, ◌<◌, List, [], ◌∷◌, ◌++◌, length, take, position, get_or, slice_get, set, Option, None, Some, Result, Ok, Err, OnOk, OnErr, unwrap_or, ◌⊎◌, inl, inr, refl, sym, ◌∙◌, ap, subst, append_assoc}
 use Rattle.std.specs.Str.{bytes_eq}
-use Rattle.std.proofs.lemmas.List.{length-replicate, length-set, take_more, get_or_default}
+use Rattle.std.proofs.lemmas.List.{length-set, take_more, get_or_default}
 use Rattle.std.proofs.lemmas.Option.{slice_get-get_or}
 use Rattle.std.proofs.lemmas.List.Quantifiers.{position-Some}
 use Rattle.pl_frame.specs.Categories.{dictionary_of, code_of}
@@ -27,10 +27,6 @@ value-coded d None code e = cc
 value-coded d (Some text) code e =
     ((position-Some (bytes_eq text) d code [] (sym e)).0, ap Some (text_at_place d text code (sym e)))
 
-pub value-null : (v : Option (List ℕ)) → true ≡ is_none v → v ≡ None
-value-null None e = refl
-value-null (Some text) e = cc
-
 -- the text that stands in a dictionary under the code of a value is that value
 pub text-coded : (xs d : List (List ℕ)) (v : Option (List ℕ)) (code : ℕ) (text item : List ℕ) → Some code ≡ code_of d v → xs ≡ d → item ≡ get_or xs code item → text ≡ item →
     (text ≡ get_or d code []) × (v ≡ Some text)
@@ -53,18 +49,6 @@ values-next front self new other i so_far within pushed =
 
 abbrev nothing : Option ℕ
 nothing = None
-
-nothing_at : (n k : ℕ) → get_or (replicate n nothing) k nothing ≡ nothing
-nothing_at zero k = refl
-nothing_at (suc n) zero = refl
-nothing_at (suc n) (suc k) = nothing_at n k
-
--- at first nothing is known
-pub none-translated : (own others : List (List ℕ)) (codes : List (Option ℕ)) → codes ≡ replicate (length others) None → AreTranslated own others codes
-none-translated own others codes e = rw e record {
-  one_length = length-replicate (length others) nothing;
-  found = λ k code at. let none = nothing_at (length others) k in cc;
-}
 
 -- what is known stays so where each text keeps its place
 translated-grown : (own grown others : List (List ℕ)) (codes : List (Option ℕ)) → AreTranslated own others codes →

@@ -1,4 +1,4 @@
--- Marks of compressed streams (docs/grammar.md, "Starting point").
+-- Marks of compressed streams (docs/command-line.md, "Statuses").
 use Rattle.std.specs.Prelude.{ℕ, Bool, nat_eq, List, [], ◌∷◌}
 use Rattle.std.specs.List.{list_any, starts_with}
 

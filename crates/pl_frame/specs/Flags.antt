@@ -1,5 +1,5 @@
 -- Values with flags beside them, as far as flags are kept.
-use Rattle.std.specs.Prelude.{ℕ, ◌≤◌, Bool, if◌then◌else◌, List, [], ◌∷◌, length, Option, None, Some}
+use Rattle.std.specs.Prelude.{◌≤◌, Bool, if◌then◌else◌, List, [], ◌∷◌, length, Option, None, Some}
 
 -- each value, but none where a flag is not set: behind the last flag every value is there
 abbrev pub marked : {X : Type 0} → List X → List Bool → List (Option X)

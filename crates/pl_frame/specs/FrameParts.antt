@@ -43,6 +43,11 @@ stacked [] others = []
 stacked (column ∷ columns) [] = []
 stacked (column ∷ columns) (other ∷ others) = with_values column (column.values ++ other.values) ∷ stacked columns others
 
+-- the rows of columns and then those of others, one behind the other
+abbrev pub all_stacked : List ColumnValue → List (List ColumnValue) → List ColumnValue
+all_stacked columns [] = columns
+all_stacked columns (others ∷ more) = all_stacked (stacked columns others) more
+
 -- ---- columns
 
 -- the columns of these names and types, without rows

@@ -1,4 +1,5 @@
 pub mod ByteCount
+pub mod ByteOrderMark
 pub mod Came
 pub mod Casts
 pub mod Categories
@@ -6,6 +7,8 @@ pub mod Causes
 pub mod ColumnData
 pub mod Columns
 pub mod Compression
+pub mod Converted
+pub mod Days
 pub mod Dialect
 pub mod Equal
 pub mod EqualLaws
@@ -17,9 +20,7 @@ pub mod Names
 pub mod Opening
 pub mod Optional
 pub mod Outside
-pub mod Printed
 pub mod RowIndex
 pub mod Schema
-pub mod Text
 pub mod Translated
 pub mod Types

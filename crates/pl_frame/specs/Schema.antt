@@ -1,5 +1,5 @@
 -- Schemas, as contracts see them: names with types, in order (docs/types.md).
-use Rattle.std.specs.Prelude.{ℕ, List, [], ◌∷◌, ◌++◌, Option, map, position, slice_get, slice_set, AllPairs, ◌≢◌}
+use Rattle.std.specs.Prelude.{ℕ, List, [], ◌∷◌, ◌++◌, Option, map, position, slice_get, slice_set, AllPairs, ◌≢◌, Bool, is_none}
 use Rattle.std.specs.Option.{option_map, option_map_or, option_and_then}
 use Rattle.std.specs.Str.{bytes_eq}
 use Rattle.pl_frame.specs.declared.data_type.DataType.{DataType}
@@ -19,6 +19,10 @@ HaveDistinctNames entries = AllPairs (λ a b. a ≢ b) (names_in entries)
 -- the first place of a name
 abbrev pub place_of : List ℕ → List Entry → Option ℕ
 place_of name entries = position (bytes_eq name) (names_in entries)
+
+-- the schema doesn't have the name
+abbrev pub lacks : List Entry → List ℕ → Bool
+lacks entries name = is_none (place_of name entries)
 
 -- the type at a place
 abbrev pub type_at : List Entry → ℕ → Option DataType

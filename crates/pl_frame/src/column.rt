@@ -8,12 +8,13 @@ ghost use Rattle.pl_frame.specs.declared.error.PolarsError.TheVariants as error;
 
 use crate::codes::Codes;
 use crate::data_type::DataType;
-use crate::error::{PolarsError, PolarsResult};
+use crate::error::{ComputeFault, FaultKind, PolarsError, PolarsResult};
 use crate::name::PlSmallStr;
 use crate::numbers::Numbers;
 use crate::texts::Texts;
 use std::alloc::AllocError;
 use std::marker::Model;
+use thiserror::Error;
 
 /// What a cell holds.
 #[derive(Clone, Copy, Debug, PartialEq, Eq)]
@@ -25,10 +26,12 @@ pub enum Value<'a> {
 }
 
 /// Why no column could be made.
-#[derive(Clone, Copy, Debug, PartialEq, Eq)]
+#[derive(Clone, Copy, Debug, PartialEq, Eq, Error)]
 pub enum ColumnFault {
     /// The value in this row, and in no earlier one, is outside the range of the type.
+    #[error("the value in row {row} is outside the range of the type")]
     OutOfRange { row: usize },
+    #[error("out of memory")]
     OutOfMemory,
 }
 
@@ -40,6 +43,25 @@ impl From<AllocError> for ColumnFault {
 
     fn from(_e: AllocError) -> ColumnFault {
         ColumnFault::OutOfMemory
+    }
+}
+
+// A column that is not in a table yet has no place there, so its fault is at column 0.
+impl From<ColumnFault> for PolarsError {
+    ghost use Rattle.std.specs.Prelude.{◌≡◌};
+    ghost use Rattle.pl_frame.specs.Converted.{error_of_column};
+
+    ghost from_gives = { λ fault error. error ≡ error_of_column fault };
+
+    fn from(fault: ColumnFault) -> PolarsError {
+        match fault {
+            ColumnFault::OutOfRange { row } => PolarsError::ComputeError(ComputeFault::Record {
+                row,
+                column: 0,
+                kind: FaultKind::Value,
+            }),
+            ColumnFault::OutOfMemory => PolarsError::OutOfMemory,
+        }
     }
 }
 

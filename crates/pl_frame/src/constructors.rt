@@ -30,8 +30,8 @@ impl Column {
         Ok(Column::from_booleans(name, truths))
     }
 
-    /// A column of whole numbers, dates, times, datetimes or decimals. Refuses a number outside the range of the type,
-    /// with its row, and want of memory.
+    /// A column of whole numbers, dates, times, datetimes or decimals, as `is_number` and `readable` of the type tell.
+    /// Refuses a number outside the range of the type, with its row, and want of memory.
     pub fn whole(
         alloc: Global,
         name: PlSmallStr,

@@ -4,7 +4,7 @@ ghost use Rattle.pl_frame.specs.declared.error.PolarsError.TheVariants as error;
 ghost use Rattle.std.specs.Cmp.{partial_equiv_from_equiv};
 ghost use Rattle.std.specs.Cmp.Lexicographic.{lists_equiv, lists_per, nat_list_eq_equiv, pointwise};
 ghost use Rattle.std.specs.Str.{bytes_eq};
-ghost use Rattle.pl_frame.specs.Columns.{is_coded};
+ghost use Rattle.pl_frame.specs.Columns.{is_coded, is_number};
 ghost use Rattle.pl_frame.specs.Types.{is_readable, is_readable_decimal, is_readable_enum, is_text};
 
 use crate::error::{PolarsError, PolarsResult};
@@ -160,6 +160,16 @@ impl DataType {
             DataType::Decimal(precision, scale) => is_readable_decimal(*precision, *scale),
             DataType::Enum(categories) => is_readable_enum(categories),
             _ => true,
+        }
+    }
+
+    /// Whether its values are numbers, without taking memory: whole numbers, dates, times, datetimes or decimals.
+    pub fn is_number(&self) -> bool
+        ensures { result ≡ is_number self.now }
+    {
+        match self {
+            DataType::Boolean | DataType::Null => false,
+            _ => !self.is_text(),
         }
     }
 

@@ -1,6 +1,7 @@
 //! The error type of every call that reads, writes or builds.
 
 use crate::name::PlSmallStr;
+use std::alloc::{AllocError, AllocFailed};
 use thiserror::Error;
 
 /// Which condition on the options failed.
@@ -92,3 +93,25 @@ pub enum PolarsError {
 
 /// What a call answers that may be refused.
 pub type PolarsResult<T> = Result<T, PolarsError>;
+
+impl From<AllocError> for PolarsError {
+    ghost use Rattle.std.specs.Prelude.{◌≡◌};
+    ghost use Rattle.pl_frame.specs.declared.error.PolarsError.TheVariants.{OutOfMemory};
+
+    ghost from_gives = { λ _ fault. fault ≡ OutOfMemory };
+
+    fn from(_fault: AllocError) -> PolarsError {
+        PolarsError::OutOfMemory
+    }
+}
+
+impl<T: Drop> From<AllocFailed<T>> for PolarsError {
+    ghost use Rattle.std.specs.Prelude.{◌≡◌};
+    ghost use Rattle.pl_frame.specs.declared.error.PolarsError.TheVariants.{OutOfMemory};
+
+    ghost from_gives = { λ _ fault. fault ≡ OutOfMemory };
+
+    fn from(_fault: AllocFailed<T>) -> PolarsError {
+        PolarsError::OutOfMemory
+    }
+}

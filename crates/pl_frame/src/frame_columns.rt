@@ -1,5 +1,6 @@
 //! Columns of frames: without rows, in front, and chosen by their places.
-ghost use Rattle.std.specs.Prelude.{◌≡◌, ◌<◌, ◌≤◌, ◌+◌, ◌^◌, ◌∷◌, false, length, IfOk, IfErr, OnOk, OnErr, IsOkUnless};
+ghost use Rattle.std.specs.Prelude.{◌≡◌, ◌↔◌, ◌<◌, ◌≤◌, ◌+◌, ◌^◌, ◌∷◌, false, length, IsTrue, IfOk, IfErr, OnOk, OnErr, IsOkUnless};
+ghost use Rattle.std.specs.List.{AllByRecursion};
 ghost use Rattle.pl_frame.specs.declared.error.PolarsError.TheVariants as error;
 ghost use Rattle.pl_frame.specs.Frame.{height_of};
 ghost use Rattle.pl_frame.specs.FrameParts.{columns_at, empty_columns, has_name, AreDistinctPlaces, AreWithin, IsRowIndexFault};
@@ -52,7 +53,16 @@ impl DataFrame {
         self.put_in_front(column)
     }
 
-    /// The columns at these places, in this order. The places are distinct. Refuses only want of memory.
+    /// Whether `select` takes these places: there is a column at each, and no place stands twice. Takes no memory.
+    pub fn selects(&self, which: &[usize]) -> bool
+        ensures { IsTrue result ↔ (AreWithin which.now self.now × AreDistinctPlaces which.now) }
+    {
+        let width = self.width();
+        are_within(which, width) && are_distinct(which)
+    }
+
+    /// The columns at these places, in this order. The places are distinct, which `selects` tells. Refuses only want of
+    /// memory.
     pub fn select(&self, which: &[usize]) -> PolarsResult<DataFrame>
         requires within { AreWithin which.now self.now }
         requires distinct { AreDistinctPlaces which.now }
@@ -62,6 +72,27 @@ impl DataFrame {
         let columns = copy_columns_at(self.allocator(), self.columns(), which)?;
         Ok(DataFrame::of_distinct(columns))
     }
+}
+
+// Whether each of the places is below the width.
+fn are_within(places: &[usize], width: usize) -> bool
+    ensures { IsTrue result ↔ AllByRecursion (λ place. place < width) places.now }
+{
+    places.iter().all(|place| *place < width)
+}
+
+// Whether no place stands twice.
+fn are_distinct(places: &[usize]) -> bool
+    ensures { IsTrue result ↔ AreDistinctPlaces places.now }
+{
+    let mut left = places;
+    while let Some((place, rest)) = left.split_first() {
+        if rest.contains(place) {
+            return false;
+        }
+        left = rest;
+    }
+    true
 }
 
 // Columns of the names and types of a schema, without rows.

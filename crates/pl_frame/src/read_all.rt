@@ -4,18 +4,36 @@ ghost use Rattle.std.specs.Io.KnownBytes.{Consumes, IsAtEnd};
 ghost use Rattle.pl_frame.specs.Causes.{Rose};
 ghost use Rattle.pl_frame.specs.Came.{Came};
 
+use crate::error::PolarsError;
 use crate::source::Source;
 use std::alloc::Global;
+use thiserror::Error;
 
 /// Why a source was not read to its end.
-#[derive(Clone, Copy, Debug, PartialEq, Eq)]
+#[derive(Clone, Copy, Debug, PartialEq, Eq, Error)]
 pub enum ReadAllFault {
     /// A read failed.
+    #[error("a read failed")]
     Source,
     /// More bytes came than the limit allows.
+    #[error("more bytes came than the limit allows")]
     TooLong,
-    /// Memory was wanting.
+    #[error("out of memory")]
     OutOfMemory,
+}
+
+impl From<ReadAllFault> for PolarsError {
+    ghost use Rattle.std.specs.Prelude.{◌≡◌};
+    ghost use Rattle.pl_frame.specs.Converted.{error_of_read_all};
+
+    ghost from_gives = { λ fault error. error ≡ error_of_read_all fault };
+
+    fn from(fault: ReadAllFault) -> PolarsError {
+        match fault {
+            ReadAllFault::Source => PolarsError::IO,
+            ReadAllFault::TooLong | ReadAllFault::OutOfMemory => PolarsError::OutOfMemory,
+        }
+    }
 }
 
 /// How many bytes a read asks for.

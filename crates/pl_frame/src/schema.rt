@@ -1,5 +1,5 @@
 //! Schemas: ordered lists of distinct names with types.
-ghost use Rattle.std.specs.Prelude.{◌≡◌, ◌≢◌, ◌++◌, ◌∷◌, [], length, slice_get, None, Some, IfOk, IfErr, OnOk, OnErr, IsOkUnless, IsNone};
+ghost use Rattle.std.specs.Prelude.{◌≡◌, ◌≢◌, ◌<◌, ◌++◌, ◌∷◌, [], length, slice_get, None, Some, IfOk, IfErr, OnOk, OnErr, IsOkUnless, IsNone};
 ghost use Rattle.std.specs.Cmp.{partial_equiv_from_equiv};
 ghost use Rattle.std.specs.Cmp.Lexicographic.{lists_equiv, lists_per, pointwise};
 ghost use Rattle.std.specs.Option.{option_map};
@@ -106,6 +106,15 @@ impl Schema {
     {
         let field = self.fields.get(i)?;
         Some((&field.name, &field.dtype))
+    }
+
+    /// The name and the type at a place that is below the width.
+    pub fn entry(&self, place: usize) -> (&PlSmallStr, &DataType)
+        requires { place < length self.now }
+        ensures { slice_get self.now place ≡ Some (result.0.now, result.1.now) }
+    {
+        let field = &self.fields[place];
+        (&field.name, &field.dtype)
     }
 
     /// The place of a name.

@@ -4,16 +4,34 @@ ghost use Rattle.std.specs.Io.KnownBytes.{Appends, WriteAppends};
 ghost use Rattle.pl_frame.specs.Causes.{Rose, TakesSome, raised};
 ghost use Rattle.pl_frame.specs.Outside.{RisesAt, RisesAtErr};
 
+use crate::error::PolarsError;
 use std::alloc::Global;
 use std::marker::Model;
+use thiserror::Error;
 
 /// Why a write failed.
-#[derive(Clone, Copy, Debug, PartialEq, Eq)]
+#[derive(Clone, Copy, Debug, PartialEq, Eq, Error)]
 pub enum SinkFault {
     /// The device failed.
+    #[error("a write failed")]
     Device,
     /// A sink in memory could not grow.
+    #[error("out of memory")]
     OutOfMemory,
+}
+
+impl From<SinkFault> for PolarsError {
+    ghost use Rattle.std.specs.Prelude.{◌≡◌};
+    ghost use Rattle.pl_frame.specs.Converted.{error_of_sink};
+
+    ghost from_gives = { λ fault error. error ≡ error_of_sink fault };
+
+    fn from(fault: SinkFault) -> PolarsError {
+        match fault {
+            SinkFault::Device => PolarsError::IO,
+            SinkFault::OutOfMemory => PolarsError::OutOfMemory,
+        }
+    }
 }
 
 /// Where bytes go.

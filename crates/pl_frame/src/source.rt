@@ -5,11 +5,25 @@ ghost use Rattle.std.specs.Io.KnownBytes.{ReadConsumes};
 ghost use Rattle.pl_frame.specs.Causes.{HasCause, raised};
 ghost use Rattle.pl_frame.specs.Outside.{left_of, RisesAtErr};
 
+use crate::error::PolarsError;
 use std::marker::Model;
+use thiserror::Error;
 
 /// A call of something outside failed.
-#[derive(Clone, Copy, Debug, PartialEq, Eq)]
+#[derive(Clone, Copy, Debug, PartialEq, Eq, Error)]
+#[error("a call of something outside failed")]
 pub struct Failed;
+
+impl From<Failed> for PolarsError {
+    ghost use Rattle.std.specs.Prelude.{◌≡◌};
+    ghost use Rattle.pl_frame.specs.declared.error.PolarsError.TheVariants as error;
+
+    ghost from_gives = { λ _ fault. fault ≡ error.IO };
+
+    fn from(_fault: Failed) -> PolarsError {
+        PolarsError::IO
+    }
+}
 
 /// Where bytes come from.
 pub trait Source {

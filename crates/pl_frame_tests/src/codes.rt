@@ -35,9 +35,6 @@ fn appended_texts_get_the_codes_that_they_have_here(rt: HostRuntime) {
     let codes = texts.into_codes();
     assert!(rt; has_dictionary(&codes, "b", "a", "c"));
     assert!(rt; codes.len() == 6);
-    assert!(rt; codes.code(1) == Some(1));
     assert!(rt; codes.code(2) == None);
     assert!(rt; codes.code(3) == Some(2));
-    assert!(rt; codes.code(4) == Some(1));
-    assert!(rt; codes.code(5) == Some(2));
 }

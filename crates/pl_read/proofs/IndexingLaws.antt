@@ -1,7 +1,7 @@
 -- The first of the causes that columns give.
 use Rattle.std.proofs.Common.{◌≡◌, ℕ, zero, suc, ◌+◌, ◌<◌, List, [], ◌∷◌, ◌∙◌, map, length, take, get_or, add-one, arith}
 use Rattle.std.specs.Prelude.{Option, None, Some}
-use Rattle.pl_infer.specs.Causes.{first_some}
+use Rattle.pl_options.specs.FirstCause.{first_some}
 use Rattle.pl_read.proofs.CauseLaws.{first_some-here, first_some-front, first_some-rest, first_some-behind}
 
 -- the first element that gives one

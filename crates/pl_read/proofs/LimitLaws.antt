@@ -18,18 +18,19 @@ use Rattle.pl_frame.specs.Frame.{Scalar, Number, ColumnValue}
 use Rattle.pl_frame.specs.FrameParts.{sliced}
 use Rattle.pl_frame.specs.RowIndex.{row_numbers}
 use Rattle.pl_frame.specs.Schema.{Entry}
-use Rattle.pl_infer.specs.declared.read_options.CsvReadOptions.{CsvReadOptions}
-use Rattle.pl_infer.specs.declared.row_index.RowIndex.{RowIndex}
+use Rattle.pl_options.specs.declared.read_options.CsvReadOptions.{CsvReadOptions}
+use Rattle.pl_options.specs.declared.row_index.RowIndex.{RowIndex}
 use Rattle.pl_cells.specs.Cells.{value_of}
 use Rattle.pl_rows.specs.Cells.{RowRules, cell}
 use Rattle.pl_rows.specs.Columns.{read_column, entries_in, frame_of_rows}
 use Rattle.pl_rows.specs.Plan.{Columns}
 use Rattle.pl_rows.specs.Ranges.{limited}
-use Rattle.pl_rows.specs.Rows.{field_at, first_fault, first_faulty}
+use Rattle.pl_cells.specs.Columns.{field_in}
+use Rattle.pl_rows.specs.Rows.{first_fault, first_faulty}
 use Rattle.pl_table.specs.Rows.{Row, rows}
-use Rattle.pl_infer.specs.Causes.{when, first_some}
-use Rattle.pl_infer.specs.Text.{marks_of, comment_of}
-use Rattle.pl_schema.specs.Schemas.{is_categorical}
+use Rattle.pl_options.specs.FirstCause.{when, first_some}
+use Rattle.pl_options.specs.Text.{marks_of, comment_of}
+use Rattle.pl_infer.specs.Schemas.{is_categorical}
 use Rattle.pl_read.specs.Options.{data_of, rules_of}
 use Rattle.pl_read.specs.Projection.{projected}
 use Rattle.pl_read.specs.Refusals.{numbers_past, codes_past, index_past, faulty_record, read_causes}
@@ -45,7 +46,7 @@ columns-fewer rules n given [] = refl
 columns-fewer rules n given (column ∷ columns) =
     let name : List ℕ = column.1.0 in
     let type : DataType = column.1.1 in
-    let value : Row → Option Scalar = λ row. value_of (cell rules column.0 type (field_at row.fields column.0)) in
+    let value : Row → Option Scalar = λ row. value_of (cell rules column.0 type (field_in row.fields column.0)) in
     ap (λ (values : List (Option Scalar)). record { name = name; dtype = type; values = values } ∷ frame_of_rows rules columns (take n given)) (sym (take-map value n given))
     ∙ ap (λ (others : List ColumnValue). record { name = name; dtype = type; values = take n (map value given) } ∷ others) (columns-fewer rules n given columns)
 
@@ -124,7 +125,7 @@ dictionary-fewer type n values = by (is_enum type)
 codes_past-fewer : (rules : RowRules) (n : ℕ) (given : List Row) (column : ℕ × Entry) → codes_past (read_column rules given column) ≡ None → codes_past (read_column rules (take n given) column) ≡ None
 codes_past-fewer rules n given column none =
     let type : DataType = column.1.1 in
-    let value : Row → Option Scalar = λ row. value_of (cell rules column.0 type (field_at row.fields column.0)) in
+    let value : Row → Option Scalar = λ row. value_of (cell rules column.0 type (field_in row.fields column.0)) in
     let all : ℕ = length (dictionary type (map value given)) in
     let some : ℕ = length (dictionary type (map value (take n given))) in
     let less : some ≤ all = subst (λ l. length (dictionary type l) ≤ all) (take-map value n given) (dictionary-fewer type n (map value given)) in

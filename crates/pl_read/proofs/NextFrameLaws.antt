@@ -12,9 +12,9 @@ use Rattle.pl_frame.specs.declared.error.PolarsError.{PolarsError}
 use Rattle.pl_frame.specs.declared.error.PolarsError.TheVariants as error
 use Rattle.pl_frame.specs.Frame.{ColumnValue, height_of}
 use Rattle.pl_frame.specs.Schema.{Entry}
-use Rattle.pl_infer.specs.declared.read_options.CsvReadOptions.{CsvReadOptions}
-use Rattle.pl_infer.specs.declared.row_index.RowIndex.{RowIndex}
-use Rattle.pl_infer.specs.Causes.{first_some, IsFault}
+use Rattle.pl_options.specs.declared.read_options.CsvReadOptions.{CsvReadOptions}
+use Rattle.pl_options.specs.declared.row_index.RowIndex.{RowIndex}
+use Rattle.pl_options.specs.FirstCause.{first_some, IsFault}
 use Rattle.pl_rows.specs.declared.columns.RangeColumns.{RangeColumns}
 use Rattle.pl_rows.specs.Ranges.{IsRangeRead}
 use Rattle.pl_rows.specs.Rows.{first_faulty}
@@ -24,7 +24,7 @@ use Rattle.pl_read.specs.declared.next_frames.Behind.{Behind}
 use Rattle.pl_read.specs.Batches.{AreFramesOf, rows_behind, frame_behind, faulty_behind, codes_past_rows}
 use Rattle.pl_frame.specs.Dialect.{AreDistinct, IsDialect}
 use Rattle.pl_scan.specs.Dialect as scan
-use Rattle.pl_infer.specs.Text.{marks_of}
+use Rattle.pl_options.specs.Text.{marks_of}
 use Rattle.pl_rows.specs.Pieces.{left_limit}
 use Rattle.pl_rows.specs.Plan.{AreRising}
 use Rattle.pl_rows.specs.Ranges.{limited}
@@ -92,9 +92,6 @@ pub record AreJudged (b : Behind) (done : List Part) (count : ℕ) : Type 0 wher
   pub count_is : count ≡ length (rows_of_parts b done)
   pub sound : first_faulty (rules_of b.options.now b.schema.now) (columns_read b.options.now b.schema.now) b.rows (rows_of_parts b done) ≡ None
 
-pub AreJudged-none : (b : Behind) (done : List Part) → done ≡ [] → AreJudged b done 0
-AreJudged-none b done none = record { count_is = sym (ap (λ ps. length (rows_of_parts b ps)) none); sound = ap (λ ps. first_faulty (rules_of b.options.now b.schema.now) (columns_read b.options.now b.schema.now) b.rows (rows_of_parts b ps)) none }
-
 -- one more
 pub AreJudged-more : (b : Behind) (done more : List Part) (part : Part) (read : RangeColumns) (count height : ℕ) → AreJudged b done count → more ≡ done ++ part ∷ [] → IsSound b.options.now b.schema.now b.rows part.text.now read
     → height ≡ height_of read.columns.items → AreJudged b more (count + height)
@@ -156,10 +153,6 @@ pub record AreFramed (b : Behind) (all left : List Part) (frames : List (List Co
   pub frames_are : AreFramesOf b.options.now b.schema.now b.rows (rows_of_parts b done) frames
   pub count : length frames ≡ length done
   pub read : HaveRead b left
-
-pub AreFramed-none : (b : Behind) (all left : List Part) (frames : List (List ColumnValue)) → left ≡ all → frames ≡ [] → HaveRead b all → AreFramed b all left frames b.rows
-AreFramed-none b all left frames same none read =
-    subst (λ fs. AreFramed b all left fs b.rows) (sym none) (subst (λ l. AreFramed b all l [] b.rows) (sym same) (record { done = []; all_are = refl; before_is = omega arith; frames_are = refl; count = refl; read = read }))
 
 -- what is known of the next part
 pub record IsNext (b : Behind) (all : List Part) (part : Part) (read : RangeColumns) (before : ℕ) : Type 0 where
@@ -224,15 +217,6 @@ IsNext-fault b all part read before index fault next numbered index_is (inl past
     ∙ numbers_past-fewer b.options.now.row_index (b.rows + length (rows_of_parts b all)) (before + height_of read.columns.items) next.fits numbered in
     inl (before - b.rows, length (rows_behind b.options.now b.rows part.text.now), next.codes ∙ sym (first_some-behind _ (map codes_past read.columns.items) few) ∙ past)
 
--- the frames of all
-pub AreFramed-all : (b : Behind) (all left : List Part) (frames : List (List ColumnValue)) (before : ℕ) → AreFramed b all left frames before → left ≡ []
-    → AreFramesOf b.options.now b.schema.now b.rows (rows_of_parts b all) frames × (length frames ≡ length all)
-AreFramed-all b all left frames before framed none =
-    let same : all ≡ framed.done = framed.all_are ∙ ap (λ l. framed.done ++ l) none ∙ append-nil framed.done in (
-      subst (λ ps. AreFramesOf b.options.now b.schema.now b.rows (rows_of_parts b ps) frames) (sym same) framed.frames_are,
-      framed.count ∙ ap length (sym same),
-    )
-
 -- what is left once the last of the parts in reverse was taken
 pub popped : {X : Type 0} (old new : List X) (x : X) → old ≡ new ++ x ∷ [] → reverse old ≡ x ∷ reverse new
 popped old new x is = ap reverse is ∙ reverse-append new (x ∷ [])
@@ -282,10 +266,6 @@ AreReadParts-one b text parts part read is text_is read_is range = subst (AreRea
   read = (subst (λ t. IfSome part.read (IsRangeRead b.plan b.schema.now t)) (sym text_is) (subst (λ r. IfSome r (IsRangeRead b.plan b.schema.now text)) (sym read_is) range), tt);
 })
 
--- fewer are not more than some
-pub AreReadParts-few : (b : Behind) (text : List ℕ) (most : ℕ) (parts : List Part) → 0 < most → AreReadParts b text 1 parts → AreReadParts b text most parts
-AreReadParts-few b text most parts some are = record { one = are.one; few = omega (arith, are.few); rows_are = are.rows_are; read = are.read }
-
 -- a plan that can read data can read a part
 pub CanReadPart-data : (b : Behind) (text : List ℕ) → CanReadData b.plan (options_behind b.options.now b.rows) b.schema.now text → CanReadPart b.plan b.schema.now
 CanReadPart-data b text can =
@@ -308,8 +288,3 @@ IsDialect-plan b text can =
 pub none-told : (o : Option ℕ) → is_some o ≡ false → o ≡ None
 none-told None told = refl
 none-told (Some n) told = absurd (cc)
-
--- what an answer tells, whatever it is
-pub ok-on : {A E : Type 0} (r : Result A E) (P : A → Type 0) (N : Type 0) → IfOk r P → ((a : A) → P a → N) → OnOk r N
-ok-on (Ok a) P N p then = then a p
-ok-on (Err e) P N p then = tt

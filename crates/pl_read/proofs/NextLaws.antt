@@ -14,9 +14,9 @@ use Rattle.pl_frame.specs.Schema.{Entry, HaveDistinctNames}
 use Rattle.pl_scan.specs.Items.{items_behind}
 use Rattle.pl_scan.proofs.ItemLaws.{length-items}
 use Rattle.pl_table.specs.Rows.{Row, row_of, rows}
-use Rattle.pl_infer.specs.declared.read_options.CsvReadOptions.{CsvReadOptions}
-use Rattle.pl_infer.specs.declared.row_index.RowIndex.{RowIndex}
-use Rattle.pl_infer.specs.Text.{marks_of, comment_of}
+use Rattle.pl_options.specs.declared.read_options.CsvReadOptions.{CsvReadOptions}
+use Rattle.pl_options.specs.declared.row_index.RowIndex.{RowIndex}
+use Rattle.pl_options.specs.Text.{marks_of, comment_of}
 use Rattle.pl_rows.specs.declared.columns.RangeColumns.{RangeColumns}
 use Rattle.pl_rows.specs.declared.plan.RangePlan.{RangePlan}
 use Rattle.pl_rows.specs.declared.range.RangeEnd.TheVariants as end
@@ -29,7 +29,7 @@ use Rattle.pl_rows.specs.Ranges.{limited, has_unjudged, end_of, IsRangeRead}
 use Rattle.pl_rows.specs.Rows.{first_fault, first_faulty}
 use Rattle.pl_rows.proofs.RangeLaws.{first_faulty-more, first_faulty-here}
 use Rattle.pl_rows.proofs.WholeLaws.{fault-first}
-use Rattle.pl_infer.specs.Causes.{when}
+use Rattle.pl_options.specs.FirstCause.{when}
 use Rattle.pl_read.specs.Batches.{rows_behind, index_behind, frame_behind}
 use Rattle.pl_read.specs.NextFrames.{options_behind}
 use Rattle.pl_read.specs.Options.{rules_of}
@@ -155,9 +155,6 @@ free-index o schema before (Some index) free = free
 -- options by the limit behind so many rows, and numbers behind so many
 abbrev pub options_at : CsvReadOptions → ℕ → ℕ → CsvReadOptions
 options_at o rows before = record o { n_rows = left_limit o.n_rows rows; row_index = index_behind before o.row_index }
-
-pub free-at : (o : CsvReadOptions) (schema : List Entry) (rows before : ℕ) → taken_name o schema ≡ None → taken_name (options_at o rows before) schema ≡ None
-free-at o schema rows before free = free-index o schema before o.row_index free
 
 plan_is-behind : (plan : RangePlan) (o : CsvReadOptions) (schema : List Entry) (before : ℕ) → IsPlanOf plan o schema → IsPlanOf (plan_behind plan before plan.last) (options_behind o before) schema
 plan_is-behind plan o schema before is = record {

@@ -7,8 +7,8 @@ use Rattle.std.proofs.lemmas.List.Concat.{flat_map-append}
 use Rattle.pl_frame.specs.Dialect.{IsDialect}
 use Rattle.pl_rows.proofs.RangeLaws.{rows-nil}
 use Rattle.pl_table.proofs.PieceLaws.{rows-append}
-use Rattle.pl_infer.specs.declared.read_options.CsvReadOptions.{CsvReadOptions}
-use Rattle.pl_infer.specs.Text.{marks_of, comment_of}
+use Rattle.pl_options.specs.declared.read_options.CsvReadOptions.{CsvReadOptions}
+use Rattle.pl_options.specs.Text.{marks_of, comment_of}
 use Rattle.pl_read.specs.declared.batch_parts.Part.{Part}
 use Rattle.pl_read.specs.declared.batch_parts.Parts.{Parts}
 use Rattle.pl_read.specs.NextFrames.{texts_of, records_of, AreParts}
@@ -56,27 +56,6 @@ ArePieces-next o n rest left end to texts more dialect are some inside to_is aft
       rows_are = ap (flat_map (records_of o)) more_is ∙ flat_map-append (records_of o) texts (piece ∷ []) ∙ ap (λ l. flat_map (records_of o) texts ++ l) (flat-one (records_of o) piece)
           ∙ ap (λ l. l ++ records_of o piece) are.rows_are ∙ sym (rows-step o n rest left end to dialect are.cut_so inside after);
     }
-
--- all of them
-pub AreParts-end : (o : CsvReadOptions) (n : ℕ) (rest : List ℕ) (left : ℕ) (cut : Parts) → 0 < length rest → ArePieces o n rest left cut.end (texts_of cut.parts.items) → (left ≡ 0) ⊎ (cut.end ≡ length rest)
-    → AreParts o n rest cut
-AreParts-end o n rest left cut bytes are over =
-    let size = length-map cut.parts.items (λ (part : Part). part.text.now) in
-    let some : 0 < cut.end = some_end over in
-    let one = are.some some in
-    record {
-      text = HasCut-end o n rest left cut.end are.cut_so over;
-      some = some;
-      within = are.cut_so.within;
-      start = are.cut_so.ends;
-      one = omega (arith, one, size);
-      few = omega (arith, are.count, size);
-      rows_are = are.rows_are;
-    }
-  where
-    some_end : (left ≡ 0) ⊎ (cut.end ≡ length rest) → 0 < cut.end
-    some_end (inl none) = omega (arith, are.cut_so.some)
-    some_end (inr all) = omega arith
 
 -- the text is all that is left
 pub AreParts-all : (o : CsvReadOptions) (n : ℕ) (rest : List ℕ) (left end to : ℕ) (texts : List (List ℕ)) (cut : Parts) → 0 < n → ArePieces o n rest left end texts → 0 < left → end < length rest

@@ -9,8 +9,8 @@ use Rattle.std.proofs.lemmas.List.{take_all, drop_all, drop-drop}
 use Rattle.std.specs.Option.{option_map_or}
 use Rattle.pl_frame.specs.Dialect.{IsDialect}
 use Rattle.pl_board.specs.Cutting.{cut}
-use Rattle.pl_infer.specs.declared.read_options.CsvReadOptions.{CsvReadOptions}
-use Rattle.pl_infer.specs.Text.{marks_of, comment_of}
+use Rattle.pl_options.specs.declared.read_options.CsvReadOptions.{CsvReadOptions}
+use Rattle.pl_options.specs.Text.{marks_of, comment_of}
 use Rattle.pl_read.specs.Batches.{EndsAtItem, pieces_length, pieces_close, batch_text}
 use Rattle.pl_scan.specs.Laws.{IsEnded}
 use Rattle.pl_scan.specs.LineEnds.{begins_end, is_even_end, even_ends, cut_size}

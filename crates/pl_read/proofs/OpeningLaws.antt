@@ -4,14 +4,14 @@ use Rattle.std.specs.Prelude.{◌⊎◌, Option, None, Some, Result, Ok, Err, Is
 use Rattle.pl_frame.specs.Causes.{Rose}
 use Rattle.pl_frame.specs.declared.error.PolarsError.{PolarsError}
 use Rattle.pl_frame.specs.declared.error.PolarsError.TheVariants as error
-use Rattle.pl_infer.specs.declared.read_options.CsvReadOptions.{CsvReadOptions}
+use Rattle.pl_options.specs.declared.read_options.CsvReadOptions.{CsvReadOptions}
 use Rattle.pl_read.specs.Batches.{Batches, opening_causes, IsOpened, IsOpeningRefusal, IsOpening, IsOpeningFault, OfTold, IsBorrowingFault}
 use Rattle.pl_read.specs.BatchSteps.{IsOpeningFaultOf}
 use Rattle.pl_read.specs.BytesReader.{input_of, IsSourceFault}
 use Rattle.pl_read.specs.CsvReader.{Reader, IsInput, OfInput, IsUnlentFault, AnswersUnlessFailed}
 use Rattle.pl_read.specs.Options.{settled_schema}
 use Rattle.pl_read.specs.Reading.{IsRefusal}
-use Rattle.pl_read.specs.Refusals.{late_causes}
+use Rattle.pl_read.specs.Refusals.{row_causes}
 use Rattle.pl_read.proofs.CauseLaws.{first_some-early}
 use Rattle.pl_read.proofs.ReaderLaws.{no-io, failed-of, none-lent, first-same, told-is}
 
@@ -22,7 +22,7 @@ refusal-opening o input fault refusal =
     record {
       is_dialect = refusal.is_dialect;
       tells = refusal.tells;
-      is = sym (first_some-early (opening_causes o schema input refusal.is_dialect) (drop 10 (late_causes o schema input)) fault (sym refusal.is));
+      is = sym (first_some-early (opening_causes o schema input refusal.is_dialect) (row_causes o schema input) fault (sym refusal.is));
     }
 
 -- so it is never `IO`

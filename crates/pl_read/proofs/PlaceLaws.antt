@@ -12,7 +12,7 @@ use Rattle.pl_frame.proofs.ColumnLaws.{position-found, position-nowhere}
 use Rattle.pl_frame.proofs.SchemaLaws.{none_passes}
 use Rattle.pl_cells.specs.InitBuffers.{entry_at, empty_buffer, empty_buffers, IsTypeFault}
 use Rattle.pl_cells.specs.InitBuffers as cells
-use Rattle.pl_schema.specs.Schemas.{types_of, first_unreadable}
+use Rattle.pl_infer.specs.Schemas.{types_of, first_unreadable_column}
 
 -- none of the numbers passes
 pub find-range : (p : ℕ → Bool) (a n : ℕ) → ((k : ℕ) → k < n → p (a + k) ≡ false) → find p (range_with_len a n) ≡ None
@@ -31,7 +31,7 @@ type_at-get_or (entry ∷ schema) zero = refl
 type_at-get_or (entry ∷ schema) (suc k) = type_at-get_or schema k
 
 -- where all types can be read, that at any place can
-pub readable_at : (schema : List Entry) (k : ℕ) → first_unreadable schema ≡ None → k < length schema → not (is_readable (entry_at schema k).1) ≡ false
+pub readable_at : (schema : List Entry) (k : ℕ) → first_unreadable_column schema ≡ None → k < length schema → not (is_readable (entry_at schema k).1) ≡ false
 readable_at schema k none l = by (not (is_readable (entry_at schema k).1)) refl
   where
     by : (b : Bool) → not (is_readable (entry_at schema k).1) ≡ b → not (is_readable (entry_at schema k).1) ≡ false
@@ -44,21 +44,15 @@ readable_at schema k none l = by (not (is_readable (entry_at schema k).1)) refl
         let unseen = none_passes test (types_of schema) none in
         absurd (cc)
 
-pub all_readable : (schema : List Entry) → first_unreadable schema ≡ None → cells.first_unreadable schema (range_with_len 0 (length schema)) ≡ None
-all_readable schema none = find-range (λ place. not (is_readable (entry_at schema place).1)) 0 (length schema) (λ k l. each k l)
-  where
-    each : (k : ℕ) → k < length schema → not (is_readable (entry_at schema (0 + k)).1) ≡ false
-    each k l = let same : 0 + k ≡ k = omega arith in ap (λ j. not (is_readable (entry_at schema j).1)) same ∙ readable_at schema k none l
-
 -- the least column whose type can't be read
 pub first_unreadable-here : (schema : List Entry) (i : ℕ) → i < length schema → ((k : ℕ) → k < i → not (is_readable (entry_at schema k).1) ≡ false) → not (is_readable (entry_at schema i).1) ≡ true
-    → first_unreadable schema ≡ Some i
+    → first_unreadable_column schema ≡ Some i
 first_unreadable-here schema i l before here =
     let test : DataType → Bool = λ type. not (is_readable type) in
     let within : i < length (types_of schema) = omega (arith, length-map schema (λ (column : Entry). column.1)) in
     position-found test (types_of schema) i dtype.Null within (λ k m. ap test (type_at-get_or schema k) ∙ before k m) (ap test (type_at-get_or schema i) ∙ here)
 
-pub first_unreadable-none : (schema : List Entry) → ((k : ℕ) → k < length schema → not (is_readable (entry_at schema k).1) ≡ false) → first_unreadable schema ≡ None
+pub first_unreadable-none : (schema : List Entry) → ((k : ℕ) → k < length schema → not (is_readable (entry_at schema k).1) ≡ false) → first_unreadable_column schema ≡ None
 first_unreadable-none schema all =
     let test : DataType → Bool = λ type. not (is_readable type) in
     position-nowhere test (types_of schema) dtype.Null (λ k m. ap test (type_at-get_or schema k) ∙ all k (fewer k m))

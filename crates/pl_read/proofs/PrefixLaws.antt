@@ -13,7 +13,7 @@ use Rattle.pl_frame.specs.Compression.{is_compressed}
 use Rattle.pl_frame.specs.Dialect.{Marks, IsDialect}
 use Rattle.pl_frame.specs.Frame.{ColumnValue}
 use Rattle.pl_frame.specs.Schema.{Entry}
-use Rattle.pl_infer.specs.declared.read_options.CsvReadOptions.{CsvReadOptions}
+use Rattle.pl_options.specs.declared.read_options.CsvReadOptions.{CsvReadOptions}
 use Rattle.pl_scan.specs.Laws.{IsEnded}
 use Rattle.pl_scan.proofs.AppendLaws.{ended-front}
 use Rattle.pl_scan.proofs.AppendStartLaws.{HaveEnds, data_left-append, ended-data}
@@ -24,13 +24,13 @@ use Rattle.pl_rows.specs.Rows.{first_faulty}
 use Rattle.pl_table.specs.Rows.{Row, rows}
 use Rattle.pl_table.proofs.PieceLaws.{rows-append}
 use Rattle.pl_read.specs.Laws.{HoldsLines, behind_line, Decides, LimitedReadDependsOnPrefix}
-use Rattle.pl_infer.specs.Causes.{Tells, IsFirstCause, when, first_some}
-use Rattle.pl_infer.specs.Text.{marks_of, comment_of, skips_of}
-use Rattle.pl_schema.specs.Schemas.{unreadable}
+use Rattle.pl_options.specs.FirstCause.{Tells, IsFirstCause, when, first_some}
+use Rattle.pl_options.specs.Text.{marks_of, comment_of, skips_of}
+use Rattle.pl_infer.specs.Schemas.{unreadable}
 use Rattle.pl_read.specs.Options.{keeps_ends, data_of, rules_of}
 use Rattle.pl_read.specs.Projection.{projected}
 use Rattle.pl_read.specs.Reading.{IsRead, frame_of}
-use Rattle.pl_schema.specs.Inference.{inference_of, empty, repeated}
+use Rattle.pl_infer.specs.Inference.{inference_of, empty, repeated}
 use Rattle.pl_read.specs.Refusals.{unless_given, late_causes, overrides, unknown, out_of_bounds, duplicate, nothing_read, faulty_record, index_past, early_causes, read_causes}
 use Rattle.pl_read.specs.Rows.{columns_read, rows_in, data_columns, with_index, data_frame}
 

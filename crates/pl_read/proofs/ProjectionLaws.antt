@@ -16,13 +16,13 @@ use Rattle.pl_frame.specs.declared.error.PolarsError.{PolarsError}
 use Rattle.pl_frame.specs.declared.error.PolarsError.TheVariants as error
 use Rattle.pl_frame.specs.Schema.{Entry}
 use Rattle.pl_cells.specs.InitBuffers.{entry_at}
-use Rattle.pl_infer.specs.declared.read_options.CsvReadOptions.{CsvReadOptions}
-use Rattle.pl_infer.specs.declared.row_index.RowIndex.{RowIndex}
+use Rattle.pl_options.specs.declared.read_options.CsvReadOptions.{CsvReadOptions}
+use Rattle.pl_options.specs.declared.row_index.RowIndex.{RowIndex}
 use Rattle.pl_rows.specs.Plan.{AreRising}
 use Rattle.pl_rows.proofs.PlanLaws.{places-more, rising-below}
 use Rattle.pl_read.specs.declared.projecting.Times.TheVariants as times
 use Rattle.pl_read.specs.Projection.{greater, greatest, asked, doubled, doubled_name, outside, projected, has_projected, taken_name, times_asked}
-use Rattle.pl_infer.specs.Causes.{IsFault}
+use Rattle.pl_options.specs.FirstCause.{IsFault}
 use Rattle.pl_read.specs.Steps.{once_more, is_asked, is_more, times_of, all_times, projection_cause}
 use Rattle.pl_read.specs.Refusals.{out_of_bounds, duplicate}
 use Rattle.pl_read.proofs.CauseLaws.{first_some-one, first_some-behind, first_some-here}
@@ -207,11 +207,6 @@ projected-is o schema places width given is same times_are =
 
 abbrev twice : List ℕ → PolarsError
 twice name = error.Duplicate name name_place.Projection
-
--- a place outside
-pub projection-outside : (o : CsvReadOptions) (schema : List Entry) (place : ℕ) → outside o schema ≡ Some place → projection_cause o schema ≡ Some (error.OutOfBounds place (length schema))
-projection-outside o schema place some =
-    first_some-here (out_of_bounds o schema) (duplicate o schema ∷ []) (error.OutOfBounds place (length schema)) (ap (option_map (λ p. error.OutOfBounds p (length schema))) some)
 
 -- none outside
 within : (o : CsvReadOptions) (schema : List Entry) → outside o schema ≡ None → projection_cause o schema ≡ duplicate o schema

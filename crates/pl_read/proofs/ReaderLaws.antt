@@ -10,13 +10,13 @@ use Rattle.pl_frame.specs.Schema.{Entry}
 use Rattle.pl_frame.specs.declared.error.NoDataFault.TheVariants as no_data
 use Rattle.pl_frame.specs.declared.error.PolarsError.{PolarsError}
 use Rattle.pl_frame.specs.declared.error.PolarsError.TheVariants as error
-use Rattle.pl_infer.specs.declared.parse_options.CsvParseOptions.{CsvParseOptions}
-use Rattle.pl_infer.specs.declared.read_options.CsvReadOptions.{CsvReadOptions}
-use Rattle.pl_infer.specs.declared.row_index.RowIndex.{RowIndex}
+use Rattle.pl_options.specs.declared.parse_options.CsvParseOptions.{CsvParseOptions}
+use Rattle.pl_options.specs.declared.read_options.CsvReadOptions.{CsvReadOptions}
+use Rattle.pl_options.specs.declared.row_index.RowIndex.{RowIndex}
 use Rattle.pl_read.specs.BytesReader.{input_of, IsSourceFault}
 use Rattle.pl_read.specs.CsvReader.{Reader, IsInput, OfInput, IsFinishFault, IsMeaning, AnswersUnlessFailed}
-use Rattle.pl_infer.specs.Causes.{Tells, IsFirstCause, when, first_some}
-use Rattle.pl_schema.specs.Inference.{inference_of, empty, repeated}
+use Rattle.pl_options.specs.FirstCause.{Tells, IsFirstCause, when, first_some}
+use Rattle.pl_infer.specs.Inference.{inference_of, empty, repeated}
 use Rattle.pl_read.specs.Options.{data_of, settled_schema}
 use Rattle.pl_read.specs.Reading.{IsRead, IsRefusal, IsReadFault}
 use Rattle.pl_read.specs.Refusals.{unless_given, numbers_past, codes_past, index_past, read_causes, nothing_read, faulty_record, unknown, out_of_bounds, duplicate}

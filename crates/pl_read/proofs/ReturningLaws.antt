@@ -11,7 +11,7 @@ use Rattle.pl_frame.specs.declared.error.FaultKind.TheVariants as fault
 use Rattle.pl_frame.specs.Frame.{Scalar, ColumnValue, IsFrame, cell_at, height_of}
 use Rattle.pl_frame.specs.FrameParts.{schema_of}
 use Rattle.pl_frame.specs.Schema.{Entry}
-use Rattle.pl_frame.specs.Text.{WriteOptions, written_cell}
+use Rattle.pl_text.specs.FrameText.{WriteOptions, written_cell}
 use Rattle.pl_cells.specs.declared.null_values.NullValuesCompiled.{NullValuesCompiled}
 use Rattle.pl_cells.specs.Cells.{Cell, fault_of, value_of}
 use Rattle.pl_cells.specs.Cells as cells
@@ -20,7 +20,8 @@ use Rattle.pl_cells.specs.NullValues.{means_null}
 use Rattle.pl_rows.specs.Cells.{RowRules, cell}
 use Rattle.pl_rows.specs.Columns.{column_cells, read_column, entries_in, columns_in, frame_of_rows}
 use Rattle.pl_rows.specs.Plan.{Columns}
-use Rattle.pl_rows.specs.Rows.{field_at, column_fault, is_forgiven, excess_fault, passes_excess, first_or, first_fault, first_faulty}
+use Rattle.pl_cells.specs.Columns.{field_in}
+use Rattle.pl_rows.specs.Rows.{column_fault, is_forgiven, excess_fault, passes_excess, first_or, first_fault, first_faulty}
 use Rattle.pl_table.specs.Rows.{Row, ended_row}
 use Rattle.pl_round_trip.specs.RoundTrip.{IsLineTail, with_tail, written_texts}
 use Rattle.pl_round_trip.specs.Fits.{FitsColumn, Fits}
@@ -65,7 +66,7 @@ map-map f g (x ∷ xs) = ap (λ l. f (g x) ∷ l) (map-map f g xs)
 
 -- ---- the fields of a row
 
-fields-at : (tail : List ℕ) (texts : List (List ℕ)) (k : ℕ) → IsLineTail tail → k < length texts → (end : List ℕ) × IsLineTail end × (field_at (with_tail tail texts) k ≡ field_at texts k ++ end)
+fields-at : (tail : List ℕ) (texts : List (List ℕ)) (k : ℕ) → IsLineTail tail → k < length texts → (end : List ℕ) × IsLineTail end × (field_in (with_tail tail texts) k ≡ field_in texts k ++ end)
 fields-at tail [] k ends below = absurd (omega (arith, below))
 fields-at tail (text ∷ []) zero ends below = (tail, ends, refl)
 fields-at tail (text ∷ []) (suc k) ends below = absurd (omega (arith, below))
@@ -81,7 +82,7 @@ count-fields : (write : WriteOptions) (columns : List ColumnValue) (tail : List 
 count-fields write columns tail row = count-tail tail (written_texts write columns row) ∙ length-map columns (λ column. written_cell write column.dtype (cell_at column row))
 
 text-at : (write : WriteOptions) (columns : List ColumnValue) (row k : ℕ) (column : ColumnValue) → slice_get columns k ≡ Some column
-    → field_at (written_texts write columns row) k ≡ written_cell write column.dtype (cell_at column row)
+    → field_in (written_texts write columns row) k ≡ written_cell write column.dtype (cell_at column row)
 text-at write columns row k column at =
     let put : ColumnValue → List ℕ = λ c. written_cell write c.dtype (cell_at c row) in
     ap (λ (t : Option (List ℕ)). unwrap_or t []) (slice_get-map put columns k ∙ ap (option_map put) at)
@@ -120,7 +121,7 @@ module _ (rules : RowRules) (write : WriteOptions) (columns : List ColumnValue) 
   rows_written row = ended_row (row_fields write columns tail row)
 
   cell-is : (k row : ℕ) (column : ColumnValue) → slice_get columns k ≡ Some column → k < length columns → row < height_of columns
-      → cell rules k column.dtype (field_at (row_fields write columns tail row) k) ≡ Ok (cell_at column row)
+      → cell rules k column.dtype (field_in (row_fields write columns tail row) k) ≡ Ok (cell_at column row)
   cell-is k row column at below short =
       let own = all-at (FitsColumn write) columns k column fits.each at in
       let height = all-at (λ (c : ColumnValue). length c.values ≡ height_of columns) columns k column frame.one_height at in
@@ -174,8 +175,8 @@ module _ (rules : RowRules) (write : WriteOptions) (columns : List ColumnValue) 
       → column_cells rules (map (λ row. ended_row (row_fields write columns tail row)) (range_with_len 0 (height_of columns))) (k, column.dtype) ≡ column.values
   own-cells k column at below =
       let height = all-at (λ (c : ColumnValue). length c.values ≡ height_of columns) columns k column frame.one_height at in
-      let read : ℕ → Option Scalar = λ row. value_of (cell rules k column.dtype (field_at (row_fields write columns tail row) k)) in
-      map-map (λ (row : Row). value_of (cell rules k column.dtype (field_at row.fields k))) rows_written (range_with_len 0 (height_of columns))
+      let read : ℕ → Option Scalar = λ row. value_of (cell rules k column.dtype (field_in (row_fields write columns tail row) k)) in
+      map-map (λ (row : Row). value_of (cell rules k column.dtype (field_in row.fields k))) rows_written (range_with_len 0 (height_of columns))
       ∙ ap (λ n. map read (range_with_len 0 n)) (sym height)
       ∙ map-places read column.values 0
       (λ row short. let front : 0 + row ≡ row = omega arith in

@@ -18,15 +18,15 @@ use Rattle.pl_frame.specs.RowIndex.{row_index_column}
 use Rattle.pl_frame.specs.Schema.{Entry}
 use Rattle.pl_cells.specs.InitBuffers.{entry_at}
 use Rattle.pl_cells.specs.NullValues.{unknown_name}
-use Rattle.pl_infer.specs.declared.read_options.CsvReadOptions.{CsvReadOptions}
-use Rattle.pl_infer.specs.declared.row_index.RowIndex.{RowIndex}
+use Rattle.pl_options.specs.declared.read_options.CsvReadOptions.{CsvReadOptions}
+use Rattle.pl_options.specs.declared.row_index.RowIndex.{RowIndex}
 use Rattle.pl_rows.specs.Cells.{RowRules}
 use Rattle.pl_rows.specs.Columns.{read_column, entries_in, columns_in, frame_of_rows}
 use Rattle.pl_rows.specs.Plan.{Columns}
 use Rattle.pl_rows.specs.Rows.{column_fault, excess_fault, passes_excess, first_or, first_fault, first_faulty}
 use Rattle.pl_table.specs.Rows.{Row}
 use Rattle.pl_read.specs.Laws.{unprojected, selected, ProjectionSelects}
-use Rattle.pl_infer.specs.Causes.{when, first_some}
+use Rattle.pl_options.specs.FirstCause.{when, first_some}
 use Rattle.pl_read.specs.Options.{data_of, rules_of}
 use Rattle.pl_read.specs.Projection.{times_asked, asked, projected, unknown_column, doubled, doubled_name, has_projected, taken_name}
 use Rattle.pl_read.specs.Refusals.{unknown, out_of_bounds, duplicate, nothing_read, faulty_record, numbers_past, codes_past, index_past, read_causes}

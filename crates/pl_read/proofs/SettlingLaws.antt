@@ -12,12 +12,12 @@ use Rattle.pl_frame.specs.declared.error.NamePlace.TheVariants as name_place
 use Rattle.pl_frame.specs.declared.error.PolarsError.{PolarsError}
 use Rattle.pl_frame.specs.Names.{repeated_name}
 use Rattle.pl_frame.specs.Schema.{Entry, names_in, with_type_at}
-use Rattle.pl_infer.specs.Causes.{when, first_some, IsFault}
-use Rattle.pl_schema.specs.Inference.{inference_of, inferred, inference_causes, empty, repeated}
-use Rattle.pl_infer.specs.declared.read_options.CsvReadOptions.{CsvReadOptions}
-use Rattle.pl_schema.specs.Schemas.{unreadable}
+use Rattle.pl_options.specs.FirstCause.{when, first_some, IsFault}
+use Rattle.pl_infer.specs.Inference.{inference_of, inferred, inference_causes, empty, repeated}
+use Rattle.pl_options.specs.declared.read_options.CsvReadOptions.{CsvReadOptions}
+use Rattle.pl_infer.specs.Schemas.{unreadable}
 use Rattle.pl_read.specs.Options.{with_types, schema_of, settled, settled_schema, data_of}
-use Rattle.pl_read.specs.Refusals.{unless_given, no_record, repeats, overrides, faulty_record, index_past, late_causes}
+use Rattle.pl_read.specs.Refusals.{unless_given, no_record, repeats, overrides, faulty_record, index_past, plan_causes, causes_before_rows, row_causes}
 use Rattle.pl_read.specs.Rows.{rows_in, data_columns}
 use Rattle.pl_read.specs.Steps.{late_cause, schema_cause, types_cause, settling_cause, settled_cause, opening_cause, data_cause}
 use Rattle.pl_read.proofs.CauseLaws.{first_some-one, first_some-behind, first_some-here, first_some-late, fault-early, fault-behind}
@@ -134,7 +134,7 @@ pub opening-early : (o : CsvReadOptions) (input : List ℕ) (fault : PolarsError
 opening-early o input fault plain is =
     let schema : List Entry = settled_schema o input in
     let front : List (Option PolarsError) = no_record o input ∷ repeats o schema ∷ overrides o schema ∷ unreadable schema ∷ [] in
-    let behind : List (Option PolarsError) = take 5 (drop 5 (late_causes o schema input)) in
+    let behind : List (Option PolarsError) = plan_causes o schema input in
     fault-behind (when (is_compressed input) (error.ComputeError compute_fault.Compressed)) (front ++ behind) fault
     (ap (λ t. when t (error.ComputeError compute_fault.Compressed)) plain) (fault-early front behind fault is)
 
@@ -144,19 +144,19 @@ pub opening-settled : (o : CsvReadOptions) (input : List ℕ) (given : List Entr
 opening-settled o input given is plain none =
     let schema : List Entry = settled_schema o input in
     let front : List (Option PolarsError) = no_record o input ∷ repeats o schema ∷ overrides o schema ∷ unreadable schema ∷ [] in
-    let behind : List (Option PolarsError) = take 5 (drop 5 (late_causes o schema input)) in
+    let behind : List (Option PolarsError) = plan_causes o schema input in
     ap (λ (s : List Entry). settled_cause o s input) is
     ∙ sym (first_some-behind (when (is_compressed input) (error.ComputeError compute_fault.Compressed)) (front ++ behind)
     (ap (λ t. when t (error.ComputeError compute_fault.Compressed)) plain) ∙ first_some-late front behind none)
 
 -- a fault that stands before the rows
 pub late-opening : (o : CsvReadOptions) (schema : List Entry) (input : List ℕ) (fault : PolarsError) → IsFault (opening_cause o schema input) fault → IsFault (late_cause o schema input) fault
-late-opening o schema input fault is = fault-early (take 10 (late_causes o schema input)) (drop 10 (late_causes o schema input)) fault is
+late-opening o schema input fault is = fault-early (causes_before_rows o schema input) (row_causes o schema input) fault is
 
 -- where there is none, it is the first against the data
 pub late-data : (o : CsvReadOptions) (schema : List Entry) (input records : List ℕ) → opening_cause o schema input ≡ None → data_of o input ≡ Some records → late_cause o schema input ≡ data_cause o schema records
 late-data o schema input records none is =
-    first_some-late (take 10 (late_causes o schema input)) (drop 10 (late_causes o schema input)) none
+    first_some-late (causes_before_rows o schema input) (row_causes o schema input) none
     ∙ ap (λ (some : Option (List ℕ)). first_some (
     option_and_then (faulty_record o schema) some ∷ option_and_then (λ records. index_past o.row_index (length (rows_in o records)) (data_columns o schema records)) some ∷ []
     )) is

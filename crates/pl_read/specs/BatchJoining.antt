@@ -1,10 +1,10 @@
 -- Laws of readers of batches (docs/batches.md, "All batches").
 use Rattle.std.specs.Prelude.{◌≡◌, ℕ, ◌<◌, true, List, [], ◌∷◌, map}
 use Rattle.pl_frame.specs.Frame.{ColumnValue}
-use Rattle.pl_frame.specs.FrameParts.{stacked, empty_columns}
+use Rattle.pl_frame.specs.FrameParts.{all_stacked, empty_columns}
 use Rattle.pl_frame.specs.Schema.{Entry}
 use Rattle.pl_cells.specs.InitBuffers.{entry_at}
-use Rattle.pl_infer.specs.declared.read_options.CsvReadOptions.{CsvReadOptions}
+use Rattle.pl_options.specs.declared.read_options.CsvReadOptions.{CsvReadOptions}
 use Rattle.pl_read.specs.Batches.{Batches, StandsInData, is_over, AreBatches, opened, IsOpened}
 use Rattle.pl_read.specs.Options.{settled_schema}
 use Rattle.pl_read.specs.Projection.{projected}
@@ -22,15 +22,10 @@ abbrev pub AreCalls : Batches → List Call → Type 0
 AreCalls b [] = (n : ℕ) × (0 < n) × (is_over b n ≡ true)
 AreCalls b (call ∷ calls) = (0 < call.count) × AreBatches b call.behind call.count call.frames × StandsInData call.behind × AreCalls call.behind calls
 
--- the rows of a frame and then those of others, in order
-abbrev pub joined : List ColumnValue → List (List ColumnValue) → List ColumnValue
-joined first [] = first
-joined first (frame ∷ frames) = joined (stacked first frame) frames
-
 -- the rows of a frame and then those of the frames of calls
 abbrev pub all_joined : List ColumnValue → List Call → List ColumnValue
 all_joined first [] = first
-all_joined first (call ∷ calls) = all_joined (joined first call.frames) calls
+all_joined first (call ∷ calls) = all_joined (all_stacked first call.frames) calls
 
 -- the columns that are read, behind the row index where one is asked, without rows
 abbrev pub empty_frame : CsvReadOptions → List Entry → List ColumnValue

@@ -4,7 +4,7 @@ use Rattle.std.specs.Option.{option_map}
 use Rattle.pl_frame.specs.declared.error.ComputeFault.{ComputeFault}
 use Rattle.pl_frame.specs.declared.error.PolarsError.{PolarsError}
 use Rattle.pl_frame.specs.declared.error.PolarsError.TheVariants as error
-use Rattle.pl_infer.specs.declared.read_options.CsvReadOptions.{CsvReadOptions}
+use Rattle.pl_options.specs.declared.read_options.CsvReadOptions.{CsvReadOptions}
 use Rattle.pl_rows.specs.Rows.{first_faulty}
 use Rattle.pl_read.specs.declared.next_frames.NextFrames.{NextFrames}
 use Rattle.pl_read.specs.declared.preparing.Prepared.{Prepared}

@@ -10,10 +10,10 @@ use Rattle.pl_frame.specs.declared.error.ComputeFault.TheVariants as compute_fau
 use Rattle.pl_board.specs.Cutting.{cut}
 use Rattle.pl_scan.specs.Closing.{ends_open}
 use Rattle.pl_scan.specs.Laws.{IsEnded}
-use Rattle.pl_infer.specs.declared.read_options.CsvReadOptions.{CsvReadOptions}
-use Rattle.pl_infer.specs.Causes.{IsFirstCause, first_some}
-use Rattle.pl_infer.specs.declared.row_index.RowIndex.{RowIndex}
-use Rattle.pl_infer.specs.Text.{marks_of, comment_of}
+use Rattle.pl_options.specs.declared.read_options.CsvReadOptions.{CsvReadOptions}
+use Rattle.pl_options.specs.FirstCause.{IsFirstCause, first_some}
+use Rattle.pl_options.specs.declared.row_index.RowIndex.{RowIndex}
+use Rattle.pl_options.specs.Text.{marks_of, comment_of}
 use Rattle.pl_rows.specs.Columns.{entries_in, frame_of_rows}
 use Rattle.pl_rows.specs.Pieces.{left_limit}
 use Rattle.pl_rows.specs.Ranges.{limited}
@@ -23,7 +23,7 @@ use Rattle.pl_read.specs.BytesReader.{input_of}
 use Rattle.pl_read.specs.CsvReader.{OfInput}
 use Rattle.pl_read.specs.Options.{rules_of, data_of, settled_schema}
 use Rattle.pl_read.specs.Projection.{projected}
-use Rattle.pl_read.specs.Refusals.{numbers_past, codes_past, early_causes, late_causes}
+use Rattle.pl_read.specs.Refusals.{numbers_past, codes_past, early_causes, causes_before_rows}
 use Rattle.pl_read.specs.Rows.{columns_read, rows_in, with_index}
 
 -- What a reader of batches holds: how it reads, and by which settled schema; the data, which is what stands from the starting
@@ -170,7 +170,7 @@ opened o input =
 
 -- the causes against an input that stand before those of its rows, in their order
 abbrev pub opening_causes : CsvReadOptions → List Entry → List ℕ → Bool → List (Option PolarsError)
-opening_causes o schema input is_dialect = early_causes o is_dialect ++ take 10 (late_causes o schema input)
+opening_causes o schema input is_dialect = early_causes o is_dialect ++ causes_before_rows o schema input
 
 -- no such cause stands against an input, and the reader is over it
 abbrev pub IsOpened : CsvReadOptions → List ℕ → Batches → Type 0

@@ -3,8 +3,8 @@ use Rattle.std.specs.Prelude.{◌≡◌, ℕ, Bool, List, length, Option, None}
 use Rattle.pl_frame.specs.Schema.{Entry}
 use Rattle.pl_scan.specs.Dialect as scan
 use Rattle.pl_cells.specs.declared.null_values.NullValuesCompiled.{NullValuesCompiled}
-use Rattle.pl_infer.specs.declared.parse_options.CsvParseOptions.{CsvParseOptions}
-use Rattle.pl_infer.specs.Text.{marks_of, comment_of}
+use Rattle.pl_options.specs.declared.parse_options.CsvParseOptions.{CsvParseOptions}
+use Rattle.pl_options.specs.Text.{marks_of, comment_of}
 use Rattle.pl_rows.specs.declared.plan.RangePlan.{RangePlan}
 use Rattle.pl_rows.specs.Cells.{RowRules}
 use Rattle.pl_rows.specs.Columns.{columns_in}

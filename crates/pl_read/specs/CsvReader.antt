@@ -5,7 +5,7 @@ use Rattle.pl_frame.specs.Causes.{Rose}
 use Rattle.pl_frame.specs.Frame.{ColumnValue}
 use Rattle.pl_frame.specs.declared.error.PolarsError.{PolarsError}
 use Rattle.pl_frame.specs.declared.error.PolarsError.TheVariants as error
-use Rattle.pl_infer.specs.declared.read_options.CsvReadOptions.{CsvReadOptions}
+use Rattle.pl_options.specs.declared.read_options.CsvReadOptions.{CsvReadOptions}
 use Rattle.pl_read.specs.BytesReader.{input_of}
 use Rattle.pl_read.specs.Options.{settled_schema}
 use Rattle.pl_read.specs.Reading.{IsRead, IsRefusal}

@@ -6,12 +6,12 @@ use Rattle.pl_frame.specs.Frame.{ColumnValue}
 use Rattle.pl_frame.specs.FrameParts.{sliced, columns_at}
 use Rattle.pl_frame.specs.Schema.{Entry}
 use Rattle.pl_frame.specs.declared.error.PolarsError.{PolarsError}
-use Rattle.pl_infer.specs.declared.read_options.CsvReadOptions.{CsvReadOptions}
-use Rattle.pl_infer.specs.declared.row_index.RowIndex.{RowIndex}
+use Rattle.pl_options.specs.declared.read_options.CsvReadOptions.{CsvReadOptions}
+use Rattle.pl_options.specs.declared.row_index.RowIndex.{RowIndex}
 use Rattle.pl_scan.specs.Closing.{ends_open}
 use Rattle.pl_table.specs.Rows.{rows}
-use Rattle.pl_infer.specs.Text.{marks_of, comment_of}
-use Rattle.pl_schema.specs.Inference.{inference_of, first_record}
+use Rattle.pl_options.specs.Text.{marks_of, comment_of}
+use Rattle.pl_infer.specs.Inference.{inference_of, first_record}
 use Rattle.pl_read.specs.Options.{data_of, settled_schema}
 use Rattle.pl_read.specs.Projection.{asked, projected, unknown_column, outside, doubled}
 use Rattle.pl_read.specs.Reading.{IsRead, IsRefusal}

@@ -19,3 +19,16 @@ pub mod NextFrames
 pub mod RowTest
 pub mod Workers
 pub mod RoundTrip
+pub use Rattle.pl_cells.specs.InitBuffers
+pub use Rattle.pl_cells.specs.NullValues
+pub use Rattle.pl_frame.specs.Came
+pub use Rattle.pl_frame.specs.Causes
+pub use Rattle.pl_frame.specs.Dialect
+pub use Rattle.pl_frame.specs.Frame
+pub use Rattle.pl_frame.specs.Opening
+pub use Rattle.pl_frame.specs.Schema
+pub use Rattle.pl_options.specs.FirstCause
+pub use Rattle.pl_options.specs.Options as ReadOptions
+pub use Rattle.pl_options.specs.ReaderBytes
+pub use Rattle.pl_options.specs.Text
+pub use Rattle.pl_rows.specs.Plan

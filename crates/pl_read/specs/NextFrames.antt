@@ -8,8 +8,8 @@ use Rattle.pl_frame.specs.declared.error.PolarsError.TheVariants as error
 use Rattle.pl_scan.specs.Dialect as scan
 use Rattle.pl_cells.specs.InitBuffers.{first_unreadable}
 use Rattle.pl_cells.specs.NullValues.{HaveTexts}
-use Rattle.pl_infer.specs.declared.read_options.CsvReadOptions.{CsvReadOptions}
-use Rattle.pl_infer.specs.Text.{marks_of, comment_of}
+use Rattle.pl_options.specs.declared.read_options.CsvReadOptions.{CsvReadOptions}
+use Rattle.pl_options.specs.Text.{marks_of, comment_of}
 use Rattle.pl_rows.specs.declared.plan.RangePlan.{RangePlan}
 use Rattle.pl_rows.specs.Pieces.{left_limit}
 use Rattle.pl_rows.specs.Plan.{AreRising}

@@ -5,10 +5,10 @@ use Rattle.pl_frame.specs.declared.data_type.DataType.{DataType}
 use Rattle.pl_frame.specs.Schema.{Entry}
 use Rattle.pl_scan.specs.Start.{data_left}
 use Rattle.pl_cells.specs.NullValues.{compiled_for}
-use Rattle.pl_infer.specs.declared.read_options.CsvReadOptions.{CsvReadOptions}
-use Rattle.pl_infer.specs.Text.{marks_of, comment_of, skips_of}
+use Rattle.pl_options.specs.declared.read_options.CsvReadOptions.{CsvReadOptions}
+use Rattle.pl_options.specs.Text.{marks_of, comment_of, skips_of}
 use Rattle.pl_rows.specs.Cells.{RowRules}
-use Rattle.pl_schema.specs.Inference.{inference_of, inferred}
+use Rattle.pl_infer.specs.Inference.{inference_of, inferred}
 
 -- ---- the head
 

@@ -3,9 +3,9 @@ use Rattle.std.specs.Prelude.{ℕ, Bool, nat_eq, nat_le, nat_lt, max, if◌then�
 use Rattle.std.specs.List.{range_with_len, list_any, filter_map, fold}
 use Rattle.std.specs.Option.{option_map, option_and_then}
 use Rattle.std.specs.Str.{bytes_eq}
-use Rattle.pl_frame.specs.Schema.{Entry, place_of}
+use Rattle.pl_frame.specs.Schema.{Entry, lacks, place_of}
 use Rattle.pl_cells.specs.InitBuffers.{entry_at}
-use Rattle.pl_infer.specs.declared.read_options.CsvReadOptions.{CsvReadOptions}
+use Rattle.pl_options.specs.declared.read_options.CsvReadOptions.{CsvReadOptions}
 
 -- the places of columns that are asked: those of the names, where names are given; else the places that are given; else all
 abbrev pub asked : CsvReadOptions → List Entry → List ℕ
@@ -23,10 +23,6 @@ abbrev pub projected : CsvReadOptions → List Entry → List ℕ
 projected o schema = filter (λ place. nat_lt 0 (times_asked (asked o schema) place)) (range_with_len 0 (length schema))
 
 -- ---- what stands against it
-
--- the schema doesn't have the name
-abbrev pub lacks : List Entry → List ℕ → Bool
-lacks schema name = is_none (place_of name schema)
 
 -- the first of the asked names that the schema doesn't have
 abbrev pub unknown_column : CsvReadOptions → List Entry → Option (List ℕ)

@@ -4,8 +4,8 @@ use Rattle.pl_frame.specs.Frame.{ColumnValue}
 use Rattle.pl_frame.specs.Schema.{Entry}
 use Rattle.pl_frame.specs.declared.error.PolarsError.{PolarsError}
 use Rattle.pl_frame.specs.declared.error.PolarsError.TheVariants as error
-use Rattle.pl_infer.specs.declared.read_options.CsvReadOptions.{CsvReadOptions}
-use Rattle.pl_infer.specs.Causes.{IsFirstCause}
+use Rattle.pl_options.specs.declared.read_options.CsvReadOptions.{CsvReadOptions}
+use Rattle.pl_options.specs.FirstCause.{IsFirstCause}
 use Rattle.pl_read.specs.Options.{data_of}
 use Rattle.pl_read.specs.Refusals.{read_causes}
 use Rattle.pl_read.specs.Rows.{data_frame}

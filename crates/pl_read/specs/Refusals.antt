@@ -12,11 +12,11 @@ use Rattle.pl_frame.specs.Compression.{is_compressed}
 use Rattle.pl_frame.specs.Frame.{ColumnValue}
 use Rattle.pl_frame.specs.Schema.{Entry}
 use Rattle.pl_cells.specs.NullValues.{unknown_name}
-use Rattle.pl_infer.specs.declared.read_options.CsvReadOptions.{CsvReadOptions}
-use Rattle.pl_infer.specs.declared.row_index.RowIndex.{RowIndex}
-use Rattle.pl_infer.specs.Causes.{when, first_some}
-use Rattle.pl_schema.specs.Inference.{inference_of, empty, repeated}
-use Rattle.pl_schema.specs.Schemas.{unreadable, is_categorical}
+use Rattle.pl_options.specs.declared.read_options.CsvReadOptions.{CsvReadOptions}
+use Rattle.pl_options.specs.declared.row_index.RowIndex.{RowIndex}
+use Rattle.pl_options.specs.FirstCause.{when, first_some}
+use Rattle.pl_infer.specs.Inference.{inference_of, empty, repeated}
+use Rattle.pl_infer.specs.Schemas.{unreadable, is_categorical}
 use Rattle.pl_rows.specs.Rows.{first_faulty}
 use Rattle.pl_read.specs.Options.{data_of, rules_of}
 use Rattle.pl_read.specs.Projection.{projected, unknown_column, outside, doubled_name, taken_name}
@@ -105,22 +105,40 @@ early_causes o is_dialect =
     ∷ when (has_wrong_option o) (error.InvalidOperation op_fault.Option)
     ∷ []
 
--- the causes that stand behind it, given the settled schema
-abbrev pub late_causes : CsvReadOptions → List Entry → List ℕ → List (Option PolarsError)
-late_causes o schema input =
+-- the causes against the settled schema, or against there being one
+abbrev pub schema_causes : CsvReadOptions → List Entry → List ℕ → List (Option PolarsError)
+schema_causes o schema input =
     when (is_compressed input) (error.ComputeError compute_fault.Compressed)
     ∷ no_record o input
     ∷ repeats o schema
     ∷ overrides o schema
     ∷ unreadable schema
-    ∷ unknown o schema
+    ∷ []
+
+-- the causes against what is read of it: names, skips and places
+abbrev pub plan_causes : CsvReadOptions → List Entry → List ℕ → List (Option PolarsError)
+plan_causes o schema input =
+    unknown o schema
     ∷ when (is_none (data_of o input)) (error.NoData no_data.Skip)
     ∷ out_of_bounds o schema
     ∷ duplicate o schema
     ∷ option_and_then (nothing_read o schema) (data_of o input)
-    ∷ option_and_then (faulty_record o schema) (data_of o input)
+    ∷ []
+
+-- the causes against the rows
+abbrev pub row_causes : CsvReadOptions → List Entry → List ℕ → List (Option PolarsError)
+row_causes o schema input =
+    option_and_then (faulty_record o schema) (data_of o input)
     ∷ option_and_then (λ records. index_past o.row_index (length (rows_in o records)) (data_columns o schema records)) (data_of o input)
     ∷ []
+
+-- the causes that stand behind the quote of an output and before those against the rows, given the settled schema
+abbrev pub causes_before_rows : CsvReadOptions → List Entry → List ℕ → List (Option PolarsError)
+causes_before_rows o schema input = schema_causes o schema input ++ plan_causes o schema input
+
+-- the causes that stand behind the quote of an output, given the settled schema
+abbrev pub late_causes : CsvReadOptions → List Entry → List ℕ → List (Option PolarsError)
+late_causes o schema input = causes_before_rows o schema input ++ row_causes o schema input
 
 -- the causes against the frame of an input, in their order
 abbrev pub read_causes : CsvReadOptions → List Entry → List ℕ → Bool → List (Option PolarsError)

@@ -3,11 +3,11 @@ use Rattle.std.specs.Prelude.{◌≡◌, ◌≢◌, ℕ, ◌<◌, true, List, []
 use Rattle.pl_frame.specs.declared.error.PolarsError.{PolarsError}
 use Rattle.pl_frame.specs.Frame.{ColumnValue, IsFrame}
 use Rattle.pl_frame.specs.FrameParts.{schema_of}
-use Rattle.pl_frame.specs.Text.{WriteOptions, text_of_frame}
+use Rattle.pl_text.specs.FrameText.{WriteOptions, text_of_frame}
 use Rattle.pl_cells.specs.declared.null_values.NullValues.{NullValues}
 use Rattle.pl_cells.specs.declared.null_values.NullValues.TheVariants as values
-use Rattle.pl_infer.specs.declared.parse_options.CsvParseOptions.{CsvParseOptions}
-use Rattle.pl_infer.specs.declared.read_options.CsvReadOptions.{CsvReadOptions}
+use Rattle.pl_options.specs.declared.parse_options.CsvParseOptions.{CsvParseOptions}
+use Rattle.pl_options.specs.declared.read_options.CsvReadOptions.{CsvReadOptions}
 use Rattle.pl_round_trip.specs.Fits.{Fits}
 use Rattle.pl_read.specs.CsvReader.{AnswersUnlessFailed}
 use Rattle.pl_read.specs.Options.{settled_schema}

@@ -4,7 +4,7 @@ use Rattle.std.specs.List.{range_with_len}
 use Rattle.pl_frame.specs.Frame.{Scalar, ColumnValue, cell_at, height_of}
 use Rattle.pl_frame.specs.FrameParts.{filtered}
 use Rattle.pl_frame.specs.declared.error.PolarsError.{PolarsError}
-use Rattle.pl_infer.specs.declared.read_options.CsvReadOptions.{CsvReadOptions}
+use Rattle.pl_options.specs.declared.read_options.CsvReadOptions.{CsvReadOptions}
 use Rattle.pl_read.specs.Options.{settled_schema}
 use Rattle.pl_read.specs.Reading.{IsRead}
 

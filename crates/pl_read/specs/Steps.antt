@@ -7,10 +7,10 @@ use Rattle.pl_frame.specs.Schema.{Entry, HaveDistinctNames}
 use Rattle.pl_frame.specs.Dialect.{IsDialect}
 use Rattle.pl_scan.specs.Dialect as scan
 use Rattle.pl_cells.specs.NullValues.{unknown_name, HaveTexts}
-use Rattle.pl_infer.specs.declared.read_options.CsvReadOptions.{CsvReadOptions}
-use Rattle.pl_infer.specs.Causes.{IsFirstCause, first_some}
-use Rattle.pl_infer.specs.Text.{marks_of, comment_of}
-use Rattle.pl_schema.specs.Schemas.{unreadable, first_unreadable}
+use Rattle.pl_options.specs.declared.read_options.CsvReadOptions.{CsvReadOptions}
+use Rattle.pl_options.specs.FirstCause.{IsFirstCause, first_some}
+use Rattle.pl_options.specs.Text.{marks_of, comment_of}
+use Rattle.pl_infer.specs.Schemas.{unreadable, first_unreadable_column}
 use Rattle.pl_read.specs.Options.{rules_of, schema_of, settled, settled_schema}
 use Rattle.pl_rows.specs.declared.plan.RangePlan.{RangePlan}
 use Rattle.pl_rows.specs.Plan.{rules_of as plan_rules}
@@ -18,7 +18,7 @@ use Rattle.pl_read.specs.declared.projecting.Times.{Times}
 use Rattle.pl_read.specs.declared.projecting.Times.TheVariants as times
 use Rattle.pl_read.specs.Projection.{projected, taken_name, times_asked}
 use Rattle.pl_read.specs.Rows.{rows_in, data_columns}
-use Rattle.pl_read.specs.Refusals.{early_causes, late_causes, no_record, repeats, overrides, out_of_bounds, duplicate, nothing_read, faulty_record, index_past}
+use Rattle.pl_read.specs.Refusals.{early_causes, late_causes, no_record, repeats, overrides, out_of_bounds, duplicate, nothing_read, faulty_record, index_past, plan_causes, causes_before_rows}
 
 -- the marks are a dialect, and no option has a value that it may not have
 abbrev pub MayRead : CsvReadOptions → Type 0
@@ -60,11 +60,11 @@ asked_cause o schema records = first_some (out_of_bounds o schema ∷ duplicate 
 
 -- the first cause against an input that stands behind those against its schema, and before those of its rows
 abbrev pub settled_cause : CsvReadOptions → List Entry → List ℕ → Option PolarsError
-settled_cause o schema input = first_some (take 5 (drop 5 (late_causes o schema input)))
+settled_cause o schema input = first_some (plan_causes o schema input)
 
 -- the first cause against an input, behind those against the options, that stands before those of its rows
 abbrev pub opening_cause : CsvReadOptions → List Entry → List ℕ → Option PolarsError
-opening_cause o schema input = first_some (take 10 (late_causes o schema input))
+opening_cause o schema input = first_some (causes_before_rows o schema input)
 
 -- ---- the plan of a read
 
@@ -83,7 +83,7 @@ pub record CanReadData (plan : RangePlan) (o : CsvReadOptions) (schema : List En
   pub plan_is : IsPlanOf plan o schema
   pub dialect : IsDialect (marks_of o.parse_options) (comment_of o.parse_options)
   pub pieces : 0 < o.chunk_size
-  pub readable : first_unreadable schema ≡ None
+  pub readable : first_unreadable_column schema ≡ None
   pub texts : HaveTexts plan.options.null_values (length schema)
   pub distinct : HaveDistinctNames schema
   pub free : taken_name o schema ≡ None

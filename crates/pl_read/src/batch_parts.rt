@@ -1,15 +1,15 @@
 //! The text of the next batches, cut into parts that are read on their own.
 ghost use Rattle.std.specs.Prelude.{◌≡◌, ◌<◌, not, length, IfOk, IfSome, None, [], ◌∷◌};
 ghost use Rattle.pl_frame.specs.Dialect.{AreDistinct, IsDialect};
-ghost use Rattle.pl_infer.specs.Text.{marks_of, comment_of};
+ghost use Rattle.pl_options.specs.Text.{marks_of, comment_of};
 ghost use Rattle.pl_rows.specs.Ranges.{IsRangeRead};
 ghost use Rattle.pl_scan.specs.Closing.{ends_open};
 ghost use Rattle.pl_read.specs.NextFrames.{AreParts, CanReadPart, texts_of};
 
 use pl_board::cutting::piece_end;
 use pl_frame::schema::Schema;
-use pl_infer::parse_options::CsvParseOptions;
-use pl_infer::read_options::CsvReadOptions;
+use pl_options::parse_options::CsvParseOptions;
+use pl_options::read_options::CsvReadOptions;
 use pl_rows::columns::{RangeColumns, read_columns};
 use pl_rows::plan::RangePlan;
 use pl_scan::closes::closes;

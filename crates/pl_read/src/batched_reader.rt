@@ -1,7 +1,7 @@
 //! Readers of batches: the rows of an input, some frames at a time.
 ghost use Rattle.std.specs.Prelude.{◌≡◌, ◌⊎◌, false, true, None, IfOk, OnOk, IfErr, IfSome, IfNone, MatchOption, length};
 ghost use Rattle.pl_frame.specs.declared.error.PolarsError.TheVariants as error;
-ghost use Rattle.pl_infer.specs.ReaderBytes.{bytes_in};
+ghost use Rattle.pl_options.specs.ReaderBytes.{bytes_in};
 ghost use Rattle.pl_read.specs.Batches.{StandsInData, AreBatches, IsBatchCause, IsBatchFault, IsOpened, is_reached, is_over};
 ghost use Rattle.pl_read.specs.BatchSteps.{AreNext, IsOpeningFaultOf};
 ghost use Rattle.pl_read.specs.Steps.{MayRead};
@@ -13,8 +13,8 @@ use crate::reading::plan_of;
 use crate::workers::worker_count;
 use pl_frame::error::{ComputeFault, PolarsError, PolarsResult};
 use pl_frame::frame::DataFrame;
-use pl_infer::read_options::CsvReadOptions;
-use pl_infer::reader_bytes::ReaderBytes;
+use pl_options::read_options::CsvReadOptions;
+use pl_options::reader_bytes::ReaderBytes;
 use std::alloc::Global;
 use std::marker::Model;
 use std::sync::Wait;
@@ -34,7 +34,7 @@ pub struct BatchedCsvReader<'a> {
 }
 
 impl<'a> Model for BatchedCsvReader<'a> {
-    ghost use Rattle.pl_infer.specs.ReaderBytes.{bytes_in};
+    ghost use Rattle.pl_options.specs.ReaderBytes.{bytes_in};
     ghost use Rattle.pl_read.specs.Batches.{Batches};
     ghost use Rattle.pl_read.specs.BatchSteps.{held, MayReadOn};
 
@@ -46,9 +46,10 @@ impl<'a> Model for BatchedCsvReader<'a> {
 }
 
 impl<'a> BatchedCsvReader<'a> {
-    // A reader of the batches of these bytes, of which none was given. Refuses the first cause against them that stands before those
-    // of their rows, and want of memory.
-    pub(crate) fn open(
+    /// A reader of the batches of these bytes, of which none was given. With `read_unlent` and `lent_or_read` it is `batched_borrowed` in
+    /// steps, each of which says what it does to the source. Refuses the first cause against the bytes that stands before those of
+    /// their rows, and want of memory.
+    pub fn open(
         alloc: Global,
         bytes: ReaderBytes<'a>,
         options: CsvReadOptions,
@@ -185,9 +186,10 @@ impl Model for OwnedBatchedCsvReader {
 }
 
 impl OwnedBatchedCsvReader {
-    // A reader of the batches of these bytes, of which none was given. Refuses the first cause against them that stands before those
-    // of their rows, and want of memory.
-    pub(crate) fn open(
+    /// A reader of the batches of these bytes, of which none was given. With `read_unlent` and `lent_or_read` it is `batched_borrowed` in
+    /// steps, each of which says what it does to the source. Refuses the first cause against the bytes that stands before those of
+    /// their rows, and want of memory.
+    pub fn open(
         alloc: Global,
         bytes: Vec<u8>,
         options: CsvReadOptions,

@@ -2,14 +2,15 @@
 ghost use Rattle.std.specs.Prelude.{◌≡◌, ◌≢◌, ◌≤◌, ◌⊎◌, ℕ, List, Option, None, Some, IsNone, IsSome, Ok, IfOk, IfErr, IfSome};
 ghost use Rattle.std.specs.Io.KnownBytes.{IsAtEnd};
 ghost use Rattle.std.specs.Option.{option_map};
+ghost use Rattle.pl_frame.specs.Came.{IsReadOn};
 ghost use Rattle.pl_frame.specs.declared.error.PolarsError.TheVariants as error;
-ghost use Rattle.pl_infer.specs.ReaderBytes.{bytes_in};
+ghost use Rattle.pl_options.specs.ReaderBytes.{bytes_in};
 ghost use Rattle.pl_read.specs.BytesReader.{input_of, IsSourceFault};
 
 use pl_frame::error::{PolarsError, PolarsResult};
 use pl_frame::read_all::{ReadAllFault, read_all};
 use pl_frame::source::{MemSource, PipeSource, Source};
-use pl_infer::reader_bytes::ReaderBytes;
+use pl_options::reader_bytes::ReaderBytes;
 use std::alloc::Global;
 
 /// A source that may have all its bytes in memory.
@@ -57,7 +58,8 @@ impl<'a> MmapBytesReader for PipeSource<'a> {
 /// What is left of a reader's source, read to its end, where the reader lends no bytes; `None` where it does, and then
 /// nothing is read.
 ///
-/// Refuses `IO` only where the reader's count of faults rose, and want of memory, in which a source without end ends.
+/// Refuses `IO` only where the reader's count of faults rose, and want of memory, in which a source without end ends. Whatever the
+/// answer, the reader stands where its reads left it.
 pub fn read_unlent<R: MmapBytesReader>(
     alloc: Global,
     reader: &mut R,
@@ -67,6 +69,7 @@ pub fn read_unlent<R: MmapBytesReader>(
     ensures bytes { IfOk result (λ read. IfSome read (λ bytes. IfSome (R.left reader.old) (λ left. bytes.items ≡ left))) }
     ensures end { IfOk result (λ read. IsSome read → IsAtEnd (R.left reader.new)) }
     ensures refused { IfErr result (IsSourceFault (R.faults reader.old) (R.faults reader.new)) }
+    ensures read_on { IsReadOn (R.left reader.old) (R.left reader.new) }
     ensures later { R.faults reader.old ≤ R.faults reader.new }
 {
     if reader.to_bytes().is_some() {
@@ -96,8 +99,8 @@ pub fn lent_or_read<R: MmapBytesReader>(reader: &R, read: Option<Vec<u8>>) -> Re
 
 /// The bytes of a reader where it lends them, and else what is left of its source, read to its end.
 ///
-/// Refuses `IO` only where the reader lends no bytes and its count of faults rose, as `read_unlent` says, and want of
-/// memory, in which a source without end ends.
+/// Refuses `IO` only where the reader lends no bytes, and want of memory, in which a source without end ends. The answer borrows the
+/// reader, so no clause says what its count of faults is then: where that matters, call `read_unlent` and then `lent_or_read`.
 pub fn get_reader_bytes<R: MmapBytesReader>(
     alloc: Global,
     reader: &mut R,

@@ -1,10 +1,10 @@
 //! What stands against a read before its schema is looked at.
 ghost use Rattle.std.specs.Prelude.{◌≡◌, OnOk, IfErr, None, Some};
-ghost use Rattle.pl_infer.specs.Causes.{IsFirstCause};
+ghost use Rattle.pl_options.specs.FirstCause.{IsFirstCause};
 ghost use Rattle.pl_read.specs.Refusals.{is_zero, has_wrong_option, early_causes};
 
 use pl_frame::error::{OpFault, PolarsError, PolarsResult};
-use pl_infer::read_options::CsvReadOptions;
+use pl_options::read_options::CsvReadOptions;
 
 // Whether a count is given, and it is 0.
 fn is_zero(count: Option<usize>) -> bool

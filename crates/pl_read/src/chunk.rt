@@ -6,7 +6,7 @@ ghost use Rattle.pl_frame.specs.Schema.{HaveDistinctNames};
 ghost use Rattle.pl_frame.specs.declared.error.PolarsError.TheVariants as error;
 ghost use Rattle.pl_cells.specs.InitBuffers.{first_unreadable};
 ghost use Rattle.pl_cells.specs.NullValues.{HaveTexts};
-ghost use Rattle.pl_infer.specs.Text.{marks_of, comment_of};
+ghost use Rattle.pl_options.specs.Text.{marks_of, comment_of};
 ghost use Rattle.pl_read.specs.Chunk.{IsChunkPlan, IsChunkRead};
 ghost use Rattle.pl_rows.specs.Plan.{AreRising};
 
@@ -14,7 +14,7 @@ use pl_cells::null_values::NullValuesCompiled;
 use pl_frame::error::{PolarsError, PolarsResult};
 use pl_frame::frame::DataFrame;
 use pl_frame::schema::Schema;
-use pl_infer::parse_options::CsvParseOptions;
+use pl_options::parse_options::CsvParseOptions;
 use pl_rows::columns::read_columns;
 use pl_rows::plan::{Projection, RangePlan, RowOptions};
 use std::alloc::Global;

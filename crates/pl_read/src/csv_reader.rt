@@ -1,11 +1,12 @@
 //! The reader of frames, and how readers of batches come of it.
 ghost use Rattle.std.specs.Prelude.{◌≡◌, ◌≤◌, ℕ, List, Result, Some, IsSome, IfOk, IfErr, IsOkUnless};
 ghost use Rattle.std.specs.Thread.{IsSync};
+ghost use Rattle.pl_frame.specs.Came.{IsReadOn};
 ghost use Rattle.pl_frame.specs.Frame.{ColumnValue};
 ghost use Rattle.pl_frame.specs.declared.error.PolarsError.{PolarsError};
 ghost use Rattle.pl_frame.specs.declared.error.PolarsError.TheVariants as error;
-ghost use Rattle.pl_infer.specs.Options.{default_read_options};
-ghost use Rattle.pl_infer.specs.ReaderBytes.{bytes_in};
+ghost use Rattle.pl_options.specs.Options.{default_read_options};
+ghost use Rattle.pl_options.specs.ReaderBytes.{bytes_in};
 ghost use Rattle.pl_read.specs.Batches.{Batches, options_under, IsOpened, IsOpening, IsOpeningFault, OfTold, IsBorrowingFault};
 ghost use Rattle.pl_read.specs.BatchSteps.{IsOpeningFaultOf};
 ghost use Rattle.pl_read.specs.BytesReader.{input_of};
@@ -24,8 +25,8 @@ pub use pl_board::gate::{Gate, OpenGate};
 use pl_frame::error::{PolarsError, PolarsResult};
 use pl_frame::frame::DataFrame;
 use pl_frame::schema::Schema;
-use pl_infer::read_options::CsvReadOptions;
-use pl_infer::reader_bytes::ReaderBytes;
+use pl_options::read_options::CsvReadOptions;
+use pl_options::reader_bytes::ReaderBytes;
 use std::alloc::Global;
 use std::marker::Model;
 use std::sync::Wait;
@@ -68,8 +69,9 @@ pub trait SerReader<R: MmapBytesReader> {
         ensures round_trip { ReturnsFrames (state self.old).options (input_of (R.lent (state self.old).source) (R.left (state self.old).source)) result
             (R.faults (state self.old).source) (R.faults (state self.new).source) }
 
-        // A source that lends its bytes is not read.
+        // A source that lends its bytes is not read; another one stands where its reads left it, also after a refusal.
         ensures lent { IsSome (R.lent (state self.old).source) → (state self.new).source ≡ (state self.old).source }
+        ensures read_on { IsReadOn (R.left (state self.old).source) (R.left (state self.new).source) }
         ensures later { R.faults (state self.old).source ≤ R.faults (state self.new).source }
         ensures options { (state self.new).options ≡ (state self.old).options };
 }
@@ -125,6 +127,7 @@ impl<R: MmapBytesReader> CsvReader<R> {
             → AnswersUnlessFailed result meaning (R.faults self.old.source) (R.faults self.new.source) }
         ensures round_trip { ReturnsFrames self.old.options (input_of (R.lent self.old.source) (R.left self.old.source)) result (R.faults self.old.source) (R.faults self.new.source) }
         ensures lent { IsSome (R.lent self.old.source) → self.new.source ≡ self.old.source }
+        ensures read_on { IsReadOn (R.left self.old.source) (R.left self.new.source) }
         ensures later { R.faults self.old.source ≤ R.faults self.new.source }
         ensures options { self.new.options ≡ self.old.options }
     {
@@ -165,6 +168,7 @@ impl<R: MmapBytesReader> CsvReader<R> {
             → IsOpening (options_under schema self.old.options) input opening
             → AnswersUnlessFailed result opening (R.faults self.old.source) (R.faults self.new.source) }
         ensures lent { IsSome (R.lent self.old.source) → self.new.source ≡ self.old.source }
+        ensures read_on { IsReadOn (R.left self.old.source) (R.left self.new.source) }
         ensures later { R.faults self.old.source ≤ R.faults self.new.source }
         ensures options { self.new.options ≡ self.old.options }
     {
@@ -189,6 +193,7 @@ impl<R: MmapBytesReader> CsvReader<R> {
             → IsMeaning self.old.options input meaning
             → AnswersUnlessFailed result (tested (P.wants predicate.now) meaning) (R.faults self.old.source) (R.faults self.new.source) }
         ensures lent { IsSome (R.lent self.old.source) → self.new.source ≡ self.old.source }
+        ensures read_on { IsReadOn (R.left self.old.source) (R.left self.new.source) }
         ensures later { R.faults self.old.source ≤ R.faults self.new.source }
         ensures options { self.new.options ≡ self.old.options }
     {
@@ -221,6 +226,7 @@ fn read_source<R: MmapBytesReader, W: Threads + Wait + Sync, G: Gate + Sync>(
         → IsMeaning options.now input meaning
         → AnswersUnlessFailed result meaning (R.faults reader.old) (R.faults reader.new) }
     ensures lent { IsSome (R.lent reader.old) → reader.new ≡ reader.old }
+    ensures read_on { IsReadOn (R.left reader.old) (R.left reader.new) }
     ensures later { R.faults reader.old ≤ R.faults reader.new }
 {
     let read = match read_unlent(alloc, reader) {
@@ -279,6 +285,7 @@ fn read_owned<R: MmapBytesReader>(alloc: Global, reader: &mut R) -> PolarsResult
     ensures input { IfOk result (λ bytes. IsInput (R.lent reader.old) (R.left reader.old) (R.left reader.new) bytes.items) }
     ensures refused { IfErr result (IsUnlentFault (R.lent reader.old) (R.faults reader.old) (R.faults reader.new)) }
     ensures lent { IsSome (R.lent reader.old) → reader.new ≡ reader.old }
+    ensures read_on { IsReadOn (R.left reader.old) (R.left reader.new) }
     ensures later { R.faults reader.old ≤ R.faults reader.new }
 {
     let read = match read_unlent(alloc, reader) {
@@ -302,6 +309,7 @@ pub fn to_batched_owned<R: MmapBytesReader>(
         → IsOpening reader.old.options input opening
         → AnswersUnlessFailed result opening (R.faults reader.old.source) (R.faults reader.new.source) }
     ensures lent { IsSome (R.lent reader.old.source) → reader.new.source ≡ reader.old.source }
+    ensures read_on { IsReadOn (R.left reader.old.source) (R.left reader.new.source) }
     ensures later { R.faults reader.old.source ≤ R.faults reader.new.source }
     ensures options { reader.new.options ≡ reader.old.options }
 {

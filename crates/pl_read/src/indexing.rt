@@ -4,8 +4,8 @@ ghost use Rattle.std.specs.Option.{option_copied};
 ghost use Rattle.pl_frame.specs.Frame.{IsFrame, height_of};
 ghost use Rattle.pl_frame.specs.declared.error.ComputeFault.TheVariants as compute_fault;
 ghost use Rattle.pl_frame.specs.declared.error.PolarsError.TheVariants as error;
-ghost use Rattle.pl_infer.specs.Causes.{when, first_some, IsFault};
-ghost use Rattle.pl_schema.specs.Schemas.{is_categorical};
+ghost use Rattle.pl_options.specs.FirstCause.{when, first_some, IsFault};
+ghost use Rattle.pl_infer.specs.Schemas.{is_categorical};
 ghost use Rattle.pl_frame.specs.RowIndex.{row_numbers};
 ghost use Rattle.pl_read.specs.Batches.{index_behind};
 ghost use Rattle.pl_read.specs.Refusals.{numbers_past, codes_past, index_past};
@@ -15,7 +15,7 @@ use pl_frame::column::Column;
 use pl_frame::data_type::DataType;
 use pl_frame::error::{ComputeFault, PolarsError, PolarsResult};
 use pl_frame::frame::DataFrame;
-use pl_infer::row_index::RowIndex;
+use pl_options::row_index::RowIndex;
 use std::alloc::Global;
 
 // So many numbers are there of 32 bits.

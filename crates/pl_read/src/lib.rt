@@ -12,6 +12,7 @@ pub mod laws;
 pub mod named_columns;
 mod next_frames;
 mod nulls;
+pub mod options;
 pub mod preparing;
 mod projecting;
 pub mod reader_makers;

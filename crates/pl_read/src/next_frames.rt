@@ -19,7 +19,7 @@ use pl_board::gate::OpenGate;
 use pl_frame::error::{ComputeFault, PolarsError, PolarsResult};
 use pl_frame::frame::DataFrame;
 use pl_frame::schema::Schema;
-use pl_infer::read_options::CsvReadOptions;
+use pl_options::read_options::CsvReadOptions;
 use pl_rows::pieces::plan_behind;
 use pl_rows::plan::RangePlan;
 use pl_rows::range::RangeEnd;

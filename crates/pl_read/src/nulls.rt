@@ -3,13 +3,13 @@ ghost use Rattle.std.specs.Prelude.{◌≡◌, IfOk, OnOk, IfErr, None};
 ghost use Rattle.std.specs.Option.{option_map};
 ghost use Rattle.pl_frame.specs.declared.error.PolarsError.TheVariants as error;
 ghost use Rattle.pl_cells.specs.NullValues.{compiled_for};
-ghost use Rattle.pl_infer.specs.Causes.{IsFault};
+ghost use Rattle.pl_options.specs.FirstCause.{IsFault};
 ghost use Rattle.pl_read.specs.Steps.{unknown_null};
 
 use pl_cells::null_values::NullValuesCompiled;
 use pl_frame::error::{PolarsError, PolarsResult};
 use pl_frame::schema::Schema;
-use pl_infer::read_options::CsvReadOptions;
+use pl_options::read_options::CsvReadOptions;
 use std::alloc::Global;
 
 /// The null values of the columns, where there are such. Refuses the first name that the schema doesn't have

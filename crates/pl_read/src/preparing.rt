@@ -1,8 +1,8 @@
 //! What a read needs before it comes to the rows: the settled schema, null values, the columns that are read and the starting point.
 ghost use Rattle.std.specs.Prelude.{◌≡◌, ◌≤◌, ◌==◌, ◌&&◌, nat_lt, length, drop, IfOk, OnOk, IfErr, IfSome, IfNone, None, Some};
 ghost use Rattle.std.specs.Option.{option_copied};
-ghost use Rattle.pl_infer.specs.Causes.{IsFault};
-ghost use Rattle.pl_schema.specs.Schemas.{first_unreadable};
+ghost use Rattle.pl_infer.specs.Schemas.{first_unreadable_column};
+ghost use Rattle.pl_options.specs.FirstCause.{IsFault};
 ghost use Rattle.pl_read.specs.Options.{keeps_ends, data_of, settled_schema};
 ghost use Rattle.pl_read.specs.Preparing.{IsPrepared};
 ghost use Rattle.pl_read.specs.Projection.{asked, projected, taken_name};
@@ -16,7 +16,7 @@ use pl_cells::null_values::NullValuesCompiled;
 use pl_frame::compression::is_compressed;
 use pl_frame::error::{ComputeFault, NoDataFault, PolarsError, PolarsResult};
 use pl_frame::schema::Schema;
-use pl_infer::read_options::CsvReadOptions;
+use pl_options::read_options::CsvReadOptions;
 use pl_scan::start::data_of;
 use std::alloc::Global;
 
@@ -109,7 +109,7 @@ fn prepare_settled(
     options: &CsvReadOptions,
     schema: Schema,
 ) -> PolarsResult<Prepared>
-    requires { first_unreadable schema ≡ None }
+    requires { first_unreadable_column schema ≡ None }
     ensures prepared { IfOk result (IsPrepared options.now schema input.now) }
     ensures sound { OnOk result (settled_cause options.now schema input.now ≡ None) }
     ensures refused { IfErr result (IsFault (settled_cause options.now schema input.now)) }

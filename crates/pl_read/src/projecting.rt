@@ -4,16 +4,16 @@ ghost use Rattle.std.specs.List.{filter_map, list_any, range_with_len};
 ghost use Rattle.std.specs.Option.{option_map};
 ghost use Rattle.std.specs.Str.{bytes_eq};
 ghost use Rattle.pl_frame.specs.declared.error.PolarsError.TheVariants as error;
-ghost use Rattle.pl_frame.specs.Schema.{place_of};
+ghost use Rattle.pl_frame.specs.Schema.{place_of, lacks};
 ghost use Rattle.pl_cells.specs.InitBuffers.{entry_at};
-ghost use Rattle.pl_read.specs.Projection.{lacks, greater, asked, projected, unknown_column, greatest, taken_name};
-ghost use Rattle.pl_infer.specs.Causes.{IsFault};
+ghost use Rattle.pl_read.specs.Projection.{greater, asked, projected, unknown_column, greatest, taken_name};
+ghost use Rattle.pl_options.specs.FirstCause.{IsFault};
 ghost use Rattle.pl_read.specs.Steps.{once_more, is_asked, is_more, all_times, projection_cause};
 
 use pl_frame::error::{NamePlace, PolarsError, PolarsResult};
 use pl_frame::name::PlSmallStr;
 use pl_frame::schema::Schema;
-use pl_infer::read_options::CsvReadOptions;
+use pl_options::read_options::CsvReadOptions;
 use pl_rows::columns::all_places;
 use std::alloc::Global;
 

@@ -4,7 +4,7 @@ ghost use Rattle.std.specs.Option.{option_copied};
 ghost use Rattle.pl_frame.specs.Causes.{Rose};
 ghost use Rattle.pl_frame.specs.Opening.{IsOpened};
 ghost use Rattle.pl_frame.specs.declared.error.PolarsError.TheVariants as error;
-ghost use Rattle.pl_infer.specs.declared.read_options.CsvReadOptions.{CsvReadOptions};
+ghost use Rattle.pl_options.specs.declared.read_options.CsvReadOptions.{CsvReadOptions};
 ghost use Rattle.pl_read.specs.ReaderMakers.{IsOneGiven, given_path};
 
 use crate::bytes_reader::MmapBytesReader;
@@ -12,7 +12,7 @@ use crate::csv_reader::CsvReader;
 use pl_frame::error::{PolarsError, PolarsResult};
 use pl_frame::name::PlSmallStr;
 use pl_frame::opener::Opener;
-use pl_infer::read_options::CsvReadOptions;
+use pl_options::read_options::CsvReadOptions;
 use std::alloc::Global;
 
 /// What makes readers of frames.

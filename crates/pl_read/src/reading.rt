@@ -3,7 +3,7 @@ ghost use Rattle.std.specs.Prelude.{◌≡◌, drop, IfOk, OnOk, IfErr, MatchRes
 ghost use Rattle.std.specs.Option.{option_copied, option_map};
 ghost use Rattle.pl_frame.specs.Schema.{HaveDistinctNames};
 ghost use Rattle.pl_cells.specs.NullValues.{compiled_for};
-ghost use Rattle.pl_infer.specs.Causes.{IsFault};
+ghost use Rattle.pl_options.specs.FirstCause.{IsFault};
 ghost use Rattle.pl_read.specs.Options.{settled_schema};
 ghost use Rattle.pl_read.specs.Preparing.{IsPrepared};
 ghost use Rattle.pl_read.specs.Projection.{projected};
@@ -19,7 +19,7 @@ use pl_board::gate::Gate;
 use pl_frame::error::{ComputeFault, PolarsError, PolarsResult};
 use pl_frame::frame::DataFrame;
 use pl_frame::schema::Schema;
-use pl_infer::read_options::CsvReadOptions;
+use pl_options::read_options::CsvReadOptions;
 use pl_rows::plan::{Projection, RangePlan, RowOptions};
 use pl_rows::range::RangeEnd;
 use std::alloc::Global;

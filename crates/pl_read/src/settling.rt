@@ -3,20 +3,20 @@
 ghost use Rattle.std.specs.Prelude.{◌≡◌, IfOk, OnOk, IfErr, IsOkUnless, None, unwrap_or, []};
 ghost use Rattle.pl_frame.specs.declared.error.PolarsError.TheVariants as error;
 ghost use Rattle.pl_frame.specs.Dialect.{AreDistinct};
-ghost use Rattle.pl_infer.specs.Causes.{first_some, IsFault};
-ghost use Rattle.pl_infer.specs.Text.{marks_of};
-ghost use Rattle.pl_schema.specs.Inference.{inference_of, inferred, inference_causes};
+ghost use Rattle.pl_options.specs.FirstCause.{first_some, IsFault};
+ghost use Rattle.pl_options.specs.Text.{marks_of};
+ghost use Rattle.pl_infer.specs.Inference.{inference_of, inferred, inference_causes};
 ghost use Rattle.pl_read.specs.Options.{schema_of, with_types, settled, settled_schema};
 ghost use Rattle.pl_read.specs.Steps.{MayRead, schema_cause, types_cause, settling_cause};
 
 use pl_frame::data_type::DataType;
 use pl_frame::error::{ComputeFault, OpFault, PolarsError, PolarsResult};
 use pl_frame::schema::Schema;
-use pl_infer::column_lists::DataTypes;
-use pl_infer::read_options::CsvReadOptions;
-use pl_schema::inference::infer_schema;
-use pl_schema::inference_options::InferenceOptions;
-use pl_schema::schemas::find_unreadable;
+use pl_infer::inference::infer_schema;
+use pl_infer::inference_options::InferenceOptions;
+use pl_infer::schemas::find_unreadable;
+use pl_options::column_lists::DataTypes;
+use pl_options::read_options::CsvReadOptions;
 use std::alloc::Global;
 
 // The schema of an input for which none is given. Refuses an input without a record, where that is asked (`Empty`), then the

@@ -1,5 +1,5 @@
 //! Workers that read the pieces of a range side by side, and the columns that come of it.
-ghost use Rattle.std.specs.Prelude.{◌≡◌, ◌<◌, ℕ, List, true, false, None, All, IfOk, OnOk, length, map, vec_len, slice_get, slice_index_or};
+ghost use Rattle.std.specs.Prelude.{◌≡◌, ◌<◌, ◌+◌, ◌-◌, ◌*◌, ◌/◌, ◌^◌, min, ℕ, List, true, false, None, All, IfOk, OnOk, length, map, vec_len, slice_get, slice_index_or};
 ghost use Rattle.std.specs.List.{AllByRecursion};
 ghost use Rattle.pl_frame.specs.Dialect.{IsDialect};
 ghost use Rattle.pl_scan.specs.Dialect.{marks_of, comment_of};
@@ -293,13 +293,14 @@ fn read_on_board<
     collect(rt, alloc, workers, &board, schema, range, plan)
 }
 
-// Where so many columns are read, or more, pieces are longer.
+// From this number of columns on pieces are longer.
 const COLUMNS: usize = 128;
 
-/// How long pieces are where so many columns are read, in bytes: the more there are, the longer, since each piece has a buffer of its
-/// own for each.
+/// How long pieces are, in bytes, where this number of columns is read: once `piece_size` for each 128 columns begun, since each piece
+/// has a buffer of its own for each column; no longer than a number of 64 bits.
 pub fn piece_size_for(piece_size: usize, columns: usize) -> usize
     requires { 0 < piece_size }
+    ensures size { result ≡ min (piece_size * (columns / COLUMNS + 1)) (2 ^ 64 - 1) }
     ensures some { 0 < result }
     ensures few { columns < 128 → result ≡ piece_size }
 {

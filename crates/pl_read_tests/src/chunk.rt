@@ -1,25 +1,24 @@
 //! Tests of `pl_read::chunk`: a range of an input on its own.
 ghost use Rattle.std.specs.Prelude.{◌≡◌, ◌<◌, ◌≤◌, length};
 
-use crate::given::add;
+use crate::given::{add, name};
 use pl_board::piece::{Done, Posted};
 use pl_board::state::BoardState;
 use pl_cells::init_buffers::first_unreadable;
+use pl_cells::null_values::NullValuesCompiled;
 use pl_frame::column::Value;
 use pl_frame::data_type::DataType;
-use pl_frame::error::FaultKind;
 use pl_frame::frame::DataFrame;
 use pl_frame::schema::Schema;
-use pl_infer::parse_options::CsvParseOptions;
+use pl_options::parse_options::CsvParseOptions;
 use pl_read::chunk::{ChunkDone, ChunkEnd, read_chunk};
 use std::alloc::Global;
 use std::process::Abort;
 
-// What is read of a range of an input of one column.
+// What is read of a range of an input of one column of strings, in which `NA` is null.
 fn read_between(
     rt: &impl Abort,
     alloc: Global,
-    dtype: DataType,
     bytes: &[u8],
     begin: usize,
     stop: usize,
@@ -29,8 +28,9 @@ fn read_between(
     requires stop { stop ≤ length bytes.now }
 {
     let mut schema = Schema::new(alloc);
-    add(rt, alloc, &mut schema, "a", dtype);
+    add(rt, alloc, &mut schema, "a", DataType::String);
     let options = CsvParseOptions::new();
+    let null_values = NullValuesCompiled::AllColumnsSingle(name(rt, alloc, "NA"));
     assert!(rt; options.has_dialect() && schema.len() == 1);
     assert!(rt; first_unreadable(&[0], &schema).is_none());
     let done = read_chunk(
@@ -41,55 +41,23 @@ fn read_between(
         false,
         &[0],
         begin,
-        None,
+        Some(&null_values),
         stop,
         last,
     );
     done.expect(rt, "a chunk")
 }
 
-// What is read of the first bytes of an input of one column.
-fn read(
-    rt: &impl Abort,
-    alloc: Global,
-    dtype: DataType,
-    bytes: &[u8],
-    stop: usize,
-    last: bool,
-) -> ChunkDone
-    requires { stop ≤ length bytes.now }
-{
-    read_between(rt, alloc, dtype, bytes, 0, stop, last)
-}
-
-// Whether the frame has one column of so many rows, the last of which has this value.
-fn ends_with(frame: &DataFrame, rows: usize, value: Value<'_>) -> bool {
-    match frame.columns() {
-        [column] => column.len() == rows && rows > 0 && column.get(rows - 1) == value,
-        _ => false,
-    }
-}
-
 #[test]
 fn a_record_that_may_go_on_is_left(rt: HostRuntime) {
-    let alloc = rt.alloc();
-    let bytes = b"x\"y\n\"c\nd\"\n";
-    let front = read(&rt, alloc, DataType::String, bytes, 7, false);
-    assert!(rt; front.end == ChunkEnd::Open && ends_with(&front.frame, 1, Value::Text("x\"y")));
-    let whole = read(&rt, alloc, DataType::String, bytes, 10, true);
-    assert!(rt; whole.end == ChunkEnd::Closed && ends_with(&whole.frame, 2, Value::Text("c\nd")));
-}
-
-#[test]
-fn a_fault_comes_before_an_open_record(rt: HostRuntime) {
-    let alloc = rt.alloc();
-    let done = read(&rt, alloc, DataType::Int64, b"1\nx\n\"", 5, false);
-    let fault = ChunkEnd::Fault {
-        row: 1,
-        column: 0,
-        kind: FaultKind::Value,
-    };
-    assert!(rt; done.end == fault && ends_with(&done.frame, 1, Value::Whole(1)));
+    let done = read_between(&rt, rt.alloc(), b"x\nNA\n\"c\n", 0, 8, false);
+    assert!(rt; done.end == ChunkEnd::Open);
+    match done.frame.columns() {
+        [column] => {
+            assert!(rt; column.len() == 2 && column.get(1) == Value::Null);
+        }
+        _ => panic!(rt; "one column is read"),
+    }
 }
 
 // Two records, the second of which has a line end that a count of quotes takes for its end.
@@ -166,7 +134,7 @@ fn read_in_chunks(rt: &impl Abort, alloc: Global, piece_size: usize) -> Tally
         };
         let (from, to) = (piece.from(), piece.to());
         assert!(rt; from == end && from <= to && to <= MISLEADING.len());
-        let chunk = read_between(rt, alloc, DataType::String, MISLEADING, from, to, false);
+        let chunk = read_between(rt, alloc, MISLEADING, from, to, false);
         let closed = chunk.end == ChunkEnd::Closed;
         let rows = chunk.frame.height();
         assert!(rt; board.post(Posted::new(piece, Told { rows, closed })));
@@ -178,15 +146,7 @@ fn read_in_chunks(rt: &impl Abort, alloc: Global, piece_size: usize) -> Tally
         end = to;
     }
     assert!(rt; end <= MISLEADING.len());
-    let rest = read_between(
-        rt,
-        alloc,
-        DataType::String,
-        MISLEADING,
-        end,
-        MISLEADING.len(),
-        true,
-    );
+    let rest = read_between(rt, alloc, MISLEADING, end, MISLEADING.len(), true);
     assert!(rt; rest.end == ChunkEnd::Closed);
     tally.count(rt, &rest.frame, MISLEADING.len() - end);
     tally

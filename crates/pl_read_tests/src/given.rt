@@ -6,7 +6,7 @@ use pl_frame::data_type::DataType;
 use pl_frame::frame::DataFrame;
 use pl_frame::name::PlSmallStr;
 use pl_frame::schema::Schema;
-use pl_infer::read_options::CsvReadOptions;
+use pl_options::read_options::CsvReadOptions;
 use std::alloc::Global;
 use std::process::Abort;
 

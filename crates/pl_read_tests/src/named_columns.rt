@@ -26,47 +26,13 @@ fn names_of(rt: &impl Abort, alloc: Global, texts: &[&str]) -> Vec<PlSmallStr> {
     names
 }
 
-// Whether these are the places that are told of names in a schema.
-fn are_told(
-    rt: &impl Abort,
-    alloc: Global,
-    names: &[PlSmallStr],
-    schema: &Schema,
-    has_row_index: bool,
-    places: &[usize],
-) -> bool {
-    let known = have_places(names, schema, None, has_row_index);
-    assert!(rt; known);
-    let told = materialize_projection(alloc, Some(names), schema, None, has_row_index);
-    let told = told.expect(rt, "places");
-    told.is_some_and(|told| told.as_slice() == places)
-}
-
-// The same of texts.
-fn tells(
-    rt: &impl Abort,
-    alloc: Global,
-    names: &[&str],
-    schema: &[&str],
-    has_row_index: bool,
-    places: &[usize],
-) -> bool {
-    let names = names_of(rt, alloc, names);
-    let schema = schema_of(rt, alloc, schema);
-    are_told(rt, alloc, &names, &schema, has_row_index, places)
-}
-
 #[test]
 fn names_have_places_in_the_file(rt: HostRuntime) {
     let alloc = rt.alloc();
-    assert!(rt; tells(&rt, alloc, &["c", "a"], &["a", "b", "c"], false, &[2, 0]));
-    assert!(rt; tells(&rt, alloc, &["b"], &["n", "a", "b"], true, &[1]));
-    assert!(rt; tells(&rt, alloc, &[], &["a"], false, &[]));
-}
-
-#[test]
-fn no_names_have_no_places(rt: HostRuntime) {
-    let alloc = rt.alloc();
-    let told = materialize_projection(alloc, None, &Schema::new(alloc), None, false);
-    assert!(rt; matches!(told, Ok(None)));
+    let names = names_of(&rt, alloc, &["c", "a"]);
+    let schema = schema_of(&rt, alloc, &["n", "a", "b", "c"]);
+    assert!(rt; have_places(&names, &schema, None, true));
+    let told = materialize_projection(alloc, Some(&names), &schema, None, true);
+    let told = told.expect(&rt, "places");
+    assert!(rt; told.is_some_and(|told| told.as_slice() == [2, 0].as_slice()));
 }

@@ -2,10 +2,10 @@
 ghost use Rattle.std.specs.Prelude.{◌≡◌, None, IfOk};
 
 use crate::given::{name, one, one_column};
-use pl_frame::error::{PolarsError, PolarsResult};
+use pl_frame::error::PolarsResult;
 use pl_frame::opener::{MemOpener, Opener};
-use pl_frame::source::{MemSource, PipeSource};
-use pl_infer::read_options::CsvReadOptions;
+use pl_frame::source::PipeSource;
+use pl_options::read_options::CsvReadOptions;
 use pl_read::bytes_reader::MmapBytesReader;
 use pl_read::csv_reader::{CsvReader, SerReader};
 use pl_read::reader_makers::ReaderMakers;
@@ -53,15 +53,6 @@ fn a_path_is_read(rt: HostRuntime) {
     }
 }
 
-#[test]
-fn a_path_that_is_missing_is_a_fault(rt: HostRuntime) {
-    let alloc = rt.alloc();
-    let entries: [(&str, &[u8]); 1] = [("f", b"a\n1\n")];
-    let mut opener = MemOpener::new(&entries);
-    let missing = open(&rt, alloc, &mut opener, one_column(&rt, alloc), "g");
-    assert!(rt; matches!(missing, Err(PolarsError::IO)));
-}
-
 // Through the bound: whether the column `a` of 1 is read of a handle.
 fn has_one<W: Abort + Threads + Wait + Sync, R: MmapBytesReader + Drop>(
     rt: &W,
@@ -73,8 +64,6 @@ fn has_one<W: Abort + Threads + Wait + Sync, R: MmapBytesReader + Drop>(
 }
 
 #[test]
-fn a_handle_and_memory_are_read(rt: HostRuntime) {
-    let alloc = rt.alloc();
-    assert!(rt; has_one(&rt, alloc, PipeSource::new(b"a\n1\n", 1, &[])));
-    assert!(rt; has_one(&rt, alloc, MemSource::new(b"a\n1\n")));
+fn a_handle_is_read(rt: HostRuntime) {
+    assert!(rt; has_one(&rt, rt.alloc(), PipeSource::new(b"a\n1\n", 1, &[])));
 }

@@ -10,10 +10,10 @@ use Rattle.std.proofs.Math.Seq.{drop-append-add}
 use Rattle.std.proofs.lemmas.List.{map-append, length-map, get_or-map, get_or-take, take_more, take_all, drop-append-le, length_push}
 use Rattle.std.proofs.lemmas.List.Folds.{concat-append}
 use Rattle.pl_frame.specs.Schema.{Entry}
-use Rattle.pl_frame.specs.Text.{WriteOptions}
+use Rattle.pl_text.specs.FrameText.{WriteOptions}
 use Rattle.pl_frame.proofs.Known.{Consumes-append}
 use Rattle.pl_rows.specs.declared.plan.RangePlan.{RangePlan}
-use Rattle.pl_verbatim.specs.Printing.{IsFrontPrinted}
+use Rattle.pl_verbatim.specs.PrintedTexts.{IsFrontPrinted}
 use Rattle.pl_regions.specs.Arriving.{AreSetIn, HasArrived}
 use Rattle.pl_regions.specs.Intake.{HasGiven, HasGainedAll}
 use Rattle.pl_regions.proofs.IntakeLaws.{HasGiven-nothing}

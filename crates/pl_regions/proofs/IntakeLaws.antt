@@ -7,7 +7,7 @@ use Rattle.std.proofs.lemmas.List.{drop-drop, take-append-le, take-append-drop, 
 use Rattle.std.proofs.lemmas.Slice.{between_is, between_to_end, take-put_mid_below}
 use Rattle.pl_frame.proofs.Known.{Consumes-nil, Consumes-append}
 use Rattle.pl_verbatim.proofs.PrintingLaws.{front-slice}
-use Rattle.pl_regions.specs.Intake.{HasGiven, HasGainedAll, IsTooLong, HasStopped}
+use Rattle.pl_regions.specs.Intake.{HasGiven, HasGainedAll, HasStopped, IsPastLimit}
 use Rattle.pl_regions.specs.declared.intake.Intake.{Intake}
 use borrow.Rule.Slice.PartMut.{put_mid, post_of}
 
@@ -104,7 +104,7 @@ HasGainedAll-kept before now limit intake next given ended = record {
 
 -- too many bytes came behind others
 pub IsTooLong-behind : (before between now : Option (List ℕ)) (limit : ℕ) (intake next : Intake) (text : List ℕ) → HasGiven before between limit intake next text
-    → IsTooLong between now limit next.size → IsTooLong before now limit intake.size
+    → IsPastLimit between now limit next.size → IsPastLimit before now limit intake.size
 IsTooLong-behind before between now limit intake next text given long =
     (given.bytes ++ long.0, Consumes-append before between now given.bytes long.0 given.gained.came long.1, omega (arith, long.2, given.gained.size_is, length-append given.bytes long.0))
 

@@ -12,7 +12,7 @@ use Rattle.std.proofs.lemmas.List.Folds.{concat-append}
 use Rattle.pl_frame.specs.Dialect.{IsDialect}
 use Rattle.pl_frame.specs.Frame.{HaveHeight, height_of}
 use Rattle.pl_frame.specs.Schema.{Entry}
-use Rattle.pl_frame.specs.Text.{WriteOptions}
+use Rattle.pl_text.specs.FrameText.{WriteOptions}
 use Rattle.pl_scan.specs.Dialect.{marks_of, comment_of}
 use Rattle.pl_rows.specs.declared.plan.RangePlan.{RangePlan}
 use Rattle.pl_rows.specs.declared.whole_pieces.PieceFrame.{PieceFrame}
@@ -21,7 +21,7 @@ use Rattle.pl_cells.proofs.CastWorkerLaws.{taken_front}
 use Rattle.pl_rows.proofs.RangeLaws.{few_rows}
 use Rattle.pl_write.specs.Batches.{all_lines}
 use Rattle.pl_verbatim.specs.declared.verbatim.Verbatim.{Verbatim}
-use Rattle.pl_verbatim.specs.Printing.{CanPrint, IsTextPrinted, IsFrontPrinted}
+use Rattle.pl_verbatim.specs.PrintedTexts.{CanPrint, IsTextPrinted, IsFrontPrinted}
 use Rattle.pl_verbatim.specs.Verbatim.{IsVerbatimOf, AreRowsCopied}
 use Rattle.pl_verbatim.proofs.PrintingLaws.{level-text, IsTextPrinted-nil, IsTextPrinted-append, front-slice, IsFrontPrinted-none, IsFrontPrinted-more}
 use Rattle.pl_regions.specs.Regions.{IsOpenPrinted, IsRegionPrinted, IsRegionOf, ArePlaced}

@@ -6,9 +6,9 @@ use Rattle.std.specs.Global.{Global}
 use Rattle.std.specs.Io.KnownBytes.{Consumes, IsAtEnd}
 use Rattle.std.specs.List.{concat}
 use Rattle.pl_frame.specs.Schema.{Entry}
-use Rattle.pl_frame.specs.Text.{WriteOptions}
+use Rattle.pl_text.specs.FrameText.{WriteOptions}
 use Rattle.pl_rows.specs.declared.plan.RangePlan.{RangePlan}
-use Rattle.pl_verbatim.specs.Printing.{IsFrontPrinted}
+use Rattle.pl_verbatim.specs.PrintedTexts.{IsFrontPrinted}
 use Rattle.pl_regions.specs.Regions.{IsRegionPrinted}
 use Rattle.pl_regions.specs.declared.arriving.Arrived.{Arrived}
 use Rattle.pl_regions.specs.declared.intake.Intake.{Intake}

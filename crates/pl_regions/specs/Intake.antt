@@ -30,8 +30,8 @@ pub record HasGainedAll (before now : Option (List ℕ)) (limit : ℕ) (intake n
 -- ---- what did not come
 
 -- more bytes came than the limit allows, where so many came before
-abbrev pub IsTooLong : Option (List ℕ) → Option (List ℕ) → ℕ → ℕ → Type 0
-IsTooLong before now limit size = Came before now (λ bytes. limit < size + length bytes)
+abbrev pub IsPastLimit : Option (List ℕ) → Option (List ℕ) → ℕ → ℕ → Type 0
+IsPastLimit before now limit size = Came before now (λ bytes. limit < size + length bytes)
 
 -- some bytes came that the limit allows
 abbrev pub HasStopped : Option (List ℕ) → Option (List ℕ) → ℕ → ℕ → Type 0

@@ -2,9 +2,9 @@
 use Rattle.std.specs.Prelude.{◌≡◌, ◌⊎◌, ℕ, ◌<◌, List, [], length, get_or, Option, Some, IfSome, Contains, slice_index_or}
 use Rattle.std.specs.Cow.{cow_slice_items}
 use Rattle.pl_frame.specs.Schema.{Entry}
-use Rattle.pl_frame.specs.Text.{WriteOptions}
+use Rattle.pl_text.specs.FrameText.{WriteOptions}
 use Rattle.pl_rows.specs.declared.plan.RangePlan.{RangePlan}
-use Rattle.pl_verbatim.specs.Printing.{IsFrontPrinted}
+use Rattle.pl_verbatim.specs.PrintedTexts.{IsFrontPrinted}
 use Rattle.pl_regions.specs.declared.region.OpenRegion.{OpenRegion}
 use Rattle.pl_regions.specs.declared.region.Region.{Region}
 

@@ -6,11 +6,11 @@ ghost use Rattle.std.specs.List.{concat};
 ghost use Rattle.std.specs.Thread.{IsSync};
 ghost use Rattle.pl_frame.specs.Causes.{Rose};
 ghost use Rattle.pl_write.specs.Options.{cell_options};
-ghost use Rattle.pl_verbatim.specs.Printing.{CanPrint, IsFrontPrinted};
+ghost use Rattle.pl_verbatim.specs.PrintedTexts.{CanPrint, IsFrontPrinted};
 ghost use Rattle.std.specs.Cow.{cow_slice_items};
 ghost use Rattle.pl_verbatim.specs.Verbatim.{IsVerbatimOf};
 ghost use Rattle.pl_regions.specs.Arriving.{AreSetIn, IsTaken, HasArrived};
-ghost use Rattle.pl_regions.specs.Intake.{HasGiven, IsTooLong, HasStopped};
+ghost use Rattle.pl_regions.specs.Intake.{HasGiven, HasStopped, IsPastLimit};
 ghost use Rattle.pl_regions.specs.Regions.{ArePlaced, IsRegionOf};
 
 use crate::front::{Front, front_of, make_room};
@@ -170,7 +170,7 @@ fn read_and_take<'a, W: Wait, So: Source>(
     ensures given { (before : Option (List ℕ)) (first : Intake) → HasGiven before (So.left source.old) limit first intake.old (concat (map (λ token. token.value.items) reading.old.tokens.items))
         → OnOk result (HasGiven before (So.left source.new) limit first intake.new (concat (map (λ token. token.value.items) reading.new.tokens.items))) }
     ensures taken { OnOk result (All (IsTaken plan.now schema.now (cell_options options.now) reading.old.cells.now) reading.new.taken.items) }
-    ensures too_long { IsErrOf result ReadAllFault.TooLong → IsTooLong (So.left source.old) (So.left source.new) limit intake.old.size }
+    ensures too_long { IsErrOf result ReadAllFault.TooLong → IsPastLimit (So.left source.old) (So.left source.new) limit intake.old.size }
     ensures failed { IsErrOf result ReadAllFault.Source → HasStopped (So.left source.old) (So.left source.new) limit intake.old.size }
     ensures cause { IsErrOf result ReadAllFault.Source → Rose (So.faults source.old) (So.faults source.new) }
     ensures later { So.faults source.old ≤ So.faults source.new }
@@ -222,7 +222,7 @@ fn read_beside<'a, W: Threads + Wait + Sync, So: Source>(
     ensures given { (before : Option (List ℕ)) (first : Intake) → HasGiven before (So.left source.old) limit first intake.old (concat (map (λ token. token.value.items) tokens.old.items))
         → OnOk result (HasGiven before (So.left source.new) limit first intake.new (concat (map (λ token. token.value.items) tokens.new.items))) }
     ensures taken { IfOk result (λ all. All (λ taken. All (IsTaken plan.now schema.now (cell_options options.now) cells.now) taken.items) all.items) }
-    ensures too_long { IsErrOf result ReadAllFault.TooLong → IsTooLong (So.left source.old) (So.left source.new) limit intake.old.size }
+    ensures too_long { IsErrOf result ReadAllFault.TooLong → IsPastLimit (So.left source.old) (So.left source.new) limit intake.old.size }
     ensures failed { IsErrOf result ReadAllFault.Source → HasStopped (So.left source.old) (So.left source.new) limit intake.old.size }
     ensures cause { IsErrOf result ReadAllFault.Source → Rose (So.faults source.old) (So.faults source.new) }
     ensures later { So.faults source.old ≤ So.faults source.new }
@@ -309,7 +309,7 @@ fn read_and_print<'a, W: Threads + Wait + Sync, So: Source>(
     ensures set { IfOk result (λ read. AreSetIn cells.now read.0.items) }
     ensures given { IfOk result (λ read. HasGiven (So.left source.old) (So.left source.new) limit intake.old intake.new (concat (map (λ token. token.value.items) read.0.items))) }
     ensures taken { IfOk result (λ read. All (λ taken. All (IsTaken plan.now schema.now (cell_options options.now) cells.now) taken.items) read.1.items) }
-    ensures too_long { IsErrOf result ReadAllFault.TooLong → IsTooLong (So.left source.old) (So.left source.new) limit intake.old.size }
+    ensures too_long { IsErrOf result ReadAllFault.TooLong → IsPastLimit (So.left source.old) (So.left source.new) limit intake.old.size }
     ensures failed { IsErrOf result ReadAllFault.Source → HasStopped (So.left source.old) (So.left source.new) limit intake.old.size }
     ensures cause { IsErrOf result ReadAllFault.Source → Rose (So.faults source.old) (So.faults source.new) }
     ensures later { So.faults source.old ≤ So.faults source.new }
@@ -385,7 +385,7 @@ pub fn print_arriving<'a, W: Threads + Wait + Sync, So: Source>(
     requires within { intake.old.size ≤ limit }
     requires ended { intake.old.is_ended ≡ true → IsAtEnd (So.left source.old) }
     ensures arrived { IfOk result (HasArrived plan.now schema.now (cell_options options.now) (So.left source.old) (So.left source.new) limit intake.old) }
-    ensures too_long { IsErrOf result ReadAllFault.TooLong → IsTooLong (So.left source.old) (So.left source.new) limit intake.old.size }
+    ensures too_long { IsErrOf result ReadAllFault.TooLong → IsPastLimit (So.left source.old) (So.left source.new) limit intake.old.size }
     ensures failed { IsErrOf result ReadAllFault.Source → HasStopped (So.left source.old) (So.left source.new) limit intake.old.size }
     ensures cause { IsErrOf result ReadAllFault.Source → Rose (So.faults source.old) (So.faults source.new) }
     ensures later { So.faults source.old ≤ So.faults source.new }

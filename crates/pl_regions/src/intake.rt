@@ -2,7 +2,7 @@
 ghost use Rattle.std.specs.Prelude.{◌≡◌, ◌++◌, ◌-◌, ◌+◌, ◌<◌, ◌≤◌, [], false, true, drop, length, slice_range, take, IfOk, OnOk, IfSome, IsErrOf};
 ghost use Rattle.std.specs.Io.KnownBytes.{Consumes, IsAtEnd};
 ghost use Rattle.pl_frame.specs.Causes.{Rose};
-ghost use Rattle.pl_regions.specs.Intake.{HasGiven, HasGainedAll, IsTooLong, HasStopped};
+ghost use Rattle.pl_regions.specs.Intake.{HasGiven, HasGainedAll, HasStopped, IsPastLimit};
 
 use crate::cutting::find_row;
 use memchr::memrchr;
@@ -91,7 +91,7 @@ fn fill<So: Source>(
     ensures bytes { IfOk result (λ filled. Consumes (So.left source.old) (So.left source.new) (slice_range text.new from filled.to)) }
     ensures within { IfOk result (λ filled. size + (filled.to - from) ≤ limit) }
     ensures ended { IfOk result (λ filled. filled.is_ended ≡ true → IsAtEnd (So.left source.new)) }
-    ensures too_long { IsErrOf result ReadAllFault.TooLong → IsTooLong (So.left source.old) (So.left source.new) limit size }
+    ensures too_long { IsErrOf result ReadAllFault.TooLong → IsPastLimit (So.left source.old) (So.left source.new) limit size }
     ensures failed { IsErrOf result ReadAllFault.Source → HasStopped (So.left source.old) (So.left source.new) limit size }
     ensures cause { IsErrOf result ReadAllFault.Source → Rose (So.faults source.old) (So.faults source.new) }
     ensures later { So.faults source.old ≤ So.faults source.new }
@@ -187,7 +187,7 @@ impl Intake {
     ) -> Result<Vec<u8>, ReadAllFault>
         requires within { self.old.size ≤ limit }
         ensures given { IfOk result (λ text. HasGiven (So.left source.old) (So.left source.new) limit self.old self.new text.items) }
-        ensures too_long { IsErrOf result ReadAllFault.TooLong → IsTooLong (So.left source.old) (So.left source.new) limit self.old.size }
+        ensures too_long { IsErrOf result ReadAllFault.TooLong → IsPastLimit (So.left source.old) (So.left source.new) limit self.old.size }
         ensures failed { IsErrOf result ReadAllFault.Source → HasStopped (So.left source.old) (So.left source.new) limit self.old.size }
         ensures cause { IsErrOf result ReadAllFault.Source → Rose (So.faults source.old) (So.faults source.new) }
         ensures later { So.faults source.old ≤ So.faults source.new }
@@ -228,7 +228,7 @@ impl Intake {
         requires within { self.old.size ≤ limit }
         requires ended { self.old.is_ended ≡ true → IsAtEnd (So.left source.old) }
         ensures all { OnOk result (HasGainedAll (So.left source.old) (So.left source.new) limit self.old self.new) }
-        ensures too_long { IsErrOf result ReadAllFault.TooLong → IsTooLong (So.left source.old) (So.left source.new) limit self.old.size }
+        ensures too_long { IsErrOf result ReadAllFault.TooLong → IsPastLimit (So.left source.old) (So.left source.new) limit self.old.size }
         ensures failed { IsErrOf result ReadAllFault.Source → HasStopped (So.left source.old) (So.left source.new) limit self.old.size }
         ensures cause { IsErrOf result ReadAllFault.Source → Rose (So.faults source.old) (So.faults source.new) }
         ensures later { So.faults source.old ≤ So.faults source.new }
@@ -251,7 +251,7 @@ impl Intake {
         requires block { 0 < length block.old }
         ensures given { OnOk result (HasGiven (So.left source.old) (So.left source.new) limit self.old self.new []) }
         ensures nearer { OnOk result (self.new.is_ended ≡ false → self.old.size < self.new.size) }
-        ensures too_long { IsErrOf result ReadAllFault.TooLong → IsTooLong (So.left source.old) (So.left source.new) limit self.old.size }
+        ensures too_long { IsErrOf result ReadAllFault.TooLong → IsPastLimit (So.left source.old) (So.left source.new) limit self.old.size }
         ensures failed { IsErrOf result ReadAllFault.Source → HasStopped (So.left source.old) (So.left source.new) limit self.old.size }
         ensures cause { IsErrOf result ReadAllFault.Source → Rose (So.faults source.old) (So.faults source.new) }
         ensures later { So.faults source.old ≤ So.faults source.new }

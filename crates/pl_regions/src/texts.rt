@@ -5,10 +5,10 @@ ghost use Rattle.std.specs.Io.KnownBytes.{IsAtEnd};
 ghost use Rattle.std.specs.List.{concat};
 ghost use Rattle.pl_frame.specs.Causes.{Rose};
 ghost use Rattle.pl_write.specs.Options.{cell_options};
-ghost use Rattle.pl_verbatim.specs.Printing.{CanPrint};
+ghost use Rattle.pl_verbatim.specs.PrintedTexts.{CanPrint};
 ghost use Rattle.pl_verbatim.specs.Verbatim.{IsVerbatimOf};
 ghost use Rattle.pl_regions.specs.Arriving.{AreSetIn, IsTaken};
-ghost use Rattle.pl_regions.specs.Intake.{HasGiven, IsTooLong, HasStopped};
+ghost use Rattle.pl_regions.specs.Intake.{HasGiven, HasStopped, IsPastLimit};
 
 use crate::intake::Intake;
 use crate::region::Region;
@@ -98,7 +98,7 @@ pub(crate) fn read_texts<'a, W: Wait, So: Source>(
     ensures set { OnOk result (AreSetIn cells.now tokens.new.items) }
     ensures given { (before : Option (List ℕ)) (first : Intake) → HasGiven before (So.left source.old) limit first intake.old (concat (map (λ token. token.value.items) tokens.old.items))
         → OnOk result (HasGiven before (So.left source.new) limit first intake.new (concat (map (λ token. token.value.items) tokens.new.items))) }
-    ensures too_long { IsErrOf result ReadAllFault.TooLong → IsTooLong (So.left source.old) (So.left source.new) limit intake.old.size }
+    ensures too_long { IsErrOf result ReadAllFault.TooLong → IsPastLimit (So.left source.old) (So.left source.new) limit intake.old.size }
     ensures failed { IsErrOf result ReadAllFault.Source → HasStopped (So.left source.old) (So.left source.new) limit intake.old.size }
     ensures cause { IsErrOf result ReadAllFault.Source → Rose (So.faults source.old) (So.faults source.new) }
     ensures later { So.faults source.old ≤ So.faults source.new }

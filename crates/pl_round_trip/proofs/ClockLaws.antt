@@ -6,7 +6,7 @@ use Rattle.jiff_core.proofs.SignedLemmas.{signed_arith}
 use Rattle.pl_frame.specs.declared.data_type.DataType.TheVariants as dtype
 use Rattle.pl_frame.specs.Columns.{is_value_of}
 use Rattle.pl_frame.specs.Frame.{Number}
-use Rattle.pl_frame.specs.Printed.{padded, clock_text}
+use Rattle.pl_text.specs.ValueText.{padded, clock_text}
 use Rattle.pl_cells.specs.Integers.{is_digits, number_of, digits_value}
 use Rattle.pl_cells.specs.Times.{second_of_day, clock_value, filled, fraction_value, in_nanoseconds, time_value}
 use Rattle.pl_cells.proofs.IntegerLaws.{number_of-filled, is_digits-cons}

@@ -4,7 +4,7 @@ use Rattle.std.specs.Prelude.{take_while}
 use Rattle.std.specs.List.{AllByRecursion, join_with_byte, list_all, prefix_len}
 use Rattle.std.proofs.lemmas.Bool.Decides.{nat_tests}
 use Rattle.pl_frame.specs.Dialect.{Marks, AreDistinct}
-use Rattle.pl_frame.specs.Text.{doubled, quoted}
+use Rattle.pl_text.specs.FrameText.{doubled, quoted}
 use Rattle.pl_scan.specs.Fields.{is_plain, is_stop, begins_quoted, cut_field, behind, fields}
 use Rattle.pl_scan.proofs.Walk.{mark, is_even, onto, walk}
 use Rattle.pl_scan.proofs.FieldLaws.{cut_field-is, cut_field-plain, begins_quoted-stop, fields_last, fields_more, both_left, both_right}

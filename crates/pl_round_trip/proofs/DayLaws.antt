@@ -6,7 +6,8 @@ use Rattle.jiff_core.specs.Calendar.{IsCivilDate, days_from_civil}
 use Rattle.pl_frame.specs.declared.data_type.DataType.TheVariants as dtype
 use Rattle.pl_frame.specs.Columns.{is_value_of}
 use Rattle.pl_frame.specs.Frame.{Number}
-use Rattle.pl_frame.specs.Printed.{padded, civil, civil_text, date_of, date_text}
+use Rattle.pl_frame.specs.Days.{civil}
+use Rattle.pl_text.specs.ValueText.{padded, civil_text, date_of, date_text}
 use Rattle.pl_frame.specs.Types.{is_within, day_range}
 use Rattle.pl_cells.specs.Integers.{digits_value}
 use Rattle.pl_cells.specs.Dates.{number_of_day, date_value}
@@ -15,7 +16,7 @@ use Rattle.pl_round_trip.specs.RoundTrip.{Returns}
 use Rattle.pl_round_trip.proofs.NumeralLaws.{padded-writes, padded-length, digits-value}
 use Rattle.pl_round_trip.proofs.ClockLaws.{two-length, two-value}
 use Rattle.pl_round_trip.proofs.CalendarLaws.{HasDate, has_date}
-use Rattle.pl_write.proofs.DateLaws.{date_of-is}
+use Rattle.pl_text.proofs.DateLaws.{date_of-is}
 
 -- a number of four digits, two of two, and the hyphens between them
 date_parts : (a b c : List ℕ) → length a ≡ 4 → length b ≡ 2 → length c ≡ 2

@@ -7,8 +7,8 @@ use Rattle.std.proofs.lemmas.Bool.Decides.{nat_tests}
 use Rattle.pl_frame.specs.declared.data_type.DataType.{DataType}
 use Rattle.pl_frame.specs.declared.data_type.DataType.TheVariants as dtype
 use Rattle.pl_frame.specs.Frame.{Scalar, Truth, Number, Letters}
-use Rattle.pl_frame.specs.Printed.{printed}
-use Rattle.pl_frame.specs.Text.{WriteOptions, is_special, is_bare, doubled, quoted, needs_quotes, written_text, written_value, written_cell}
+use Rattle.pl_text.specs.ValueText.{printed}
+use Rattle.pl_text.specs.FrameText.{WriteOptions, is_special, is_bare, doubled, quoted, needs_quotes, written_text, written_value, written_cell}
 use Rattle.pl_frame.specs.Types.{is_numeric, is_text}
 use Rattle.pl_scan.specs.Fields.{begins_quoted}
 use Rattle.pl_cells.specs.Cells.{Reading, Cell, text_cell, plain_cell, quoted_cell, softened, stripped_cell, cell}
@@ -16,7 +16,7 @@ use Rattle.pl_cells.specs.Faults as fault
 use Rattle.pl_cells.specs.NullTest.{NullTest}
 use Rattle.pl_cells.specs.Quoting.{strip, quote_of, is_well_quoted, inside, undouble}
 use Rattle.pl_cells.proofs.IntegerLaws.{and_true}
-use Rattle.pl_round_trip.specs.RoundTrip.{IsReadable, IsWritable, is_plain, are_plain}
+use Rattle.pl_round_trip.specs.RoundTrip.{IsReadable, IsWritable, are_plain, is_printed_byte}
 use Rattle.pl_round_trip.proofs.PartLaws.{drop-front}
 use Rattle.pl_round_trip.proofs.PlainLaws.{printed-plain}
 use Rattle.pl_round_trip.proofs.UndoubleLaws.{undouble-doubled, inside-quotes, well-quoted, quoted-length, doubled-other}
@@ -45,15 +45,15 @@ unfolding lacks
 lacks-none c = refl
 
 -- a byte that is not plain is none of a plain text
-pub lacks-plain : (c : ℕ) (xs : List ℕ) → is_plain c ≡ false → are_plain xs ≡ true → lacks c xs ≡ true
+pub lacks-plain : (c : ℕ) (xs : List ℕ) → is_printed_byte c ≡ false → are_plain xs ≡ true → lacks c xs ≡ true
 lacks-plain c [] e h = lacks-none c
 lacks-plain c (x ∷ xs) e h =
-    let parts = and_true (is_plain x) (are_plain xs) h in
+    let parts = and_true (is_printed_byte x) (are_plain xs) h in
     lacks-both c x xs (by (x == c) refl parts.0) (lacks-plain c xs e parts.1)
   where
-    by : (t : Bool) → (x == c) ≡ t → is_plain x ≡ true → (x == c) ≡ false
+    by : (t : Bool) → (x == c) ≡ t → is_printed_byte x ≡ true → (x == c) ≡ false
     by false k p = k
-    by true k p = let is : x ≡ c = grind (arith, nat_tests, k) in let same = ap is_plain is in absurd (cc)
+    by true k p = let is : x ≡ c = grind (arith, nat_tests, k) in let same = ap is_printed_byte is in absurd (cc)
 
 pub neither : (a b : Bool) → (a || b) ≡ false → (a ≡ false) × (b ≡ false)
 neither true b h = cc
@@ -103,7 +103,7 @@ softened-ok true value = refl
 softened-ok false value = refl
 
 -- a field between quotes
-inside-cell : (reading : Reading) (q : ℕ) (type : DataType) (value : Scalar) → IsReadable type value → is_plain q ≡ false
+inside-cell : (reading : Reading) (q : ℕ) (type : DataType) (value : Scalar) → IsReadable type value → is_printed_byte q ≡ false
     → quoted_cell reading q type (doubled q (printed type value)) ≡ Ok (Some value)
 inside-cell reading q type value h mark = by (is_text type) (λ e. doubled-lacks q (printed type value) (lacks-plain q (printed type value) mark (printed-plain type value e h).1))
   where
@@ -138,7 +138,7 @@ tested-quoted reading is_null q type body value meant h =
 pub same_byte : (q : ℕ) → (q == q) ≡ true
 same_byte q = grind (arith, nat_tests)
 
-quoted-field : (reading : Reading) (is_null : NullTest) (q : ℕ) (type : DataType) (value : Scalar) → IsReadable type value → is_plain q ≡ false → q ≢ 13
+quoted-field : (reading : Reading) (is_null : NullTest) (q : ℕ) (type : DataType) (value : Scalar) → IsReadable type value → is_printed_byte q ≡ false → q ≢ 13
     → is_null (doubled q (printed type value)) ≡ false → cell reading is_null (Some q) type (quoted q (printed type value)) ≡ Ok (Some value)
 quoted-field reading is_null q type value h mark other meant =
     let body = doubled q (printed type value) in

@@ -4,8 +4,8 @@ use Rattle.std.proofs.lemmas.Bool.Decides.{nat_tests}
 use Rattle.pl_frame.specs.declared.data_type.DataType.{DataType}
 use Rattle.pl_frame.specs.declared.data_type.DataType.TheVariants as dtype
 use Rattle.pl_frame.specs.Frame.{Scalar}
-use Rattle.pl_frame.specs.Printed.{printed}
-use Rattle.pl_frame.specs.Text.{WriteOptions, doubled, quoted_null, written_cell}
+use Rattle.pl_text.specs.ValueText.{printed}
+use Rattle.pl_text.specs.FrameText.{WriteOptions, doubled, quoted_null, written_cell}
 use Rattle.pl_frame.specs.Types.{is_text, is_readable}
 use Rattle.pl_cells.specs.Cells.{Reading, Cell, missing_value, text_cell, quoted_cell, softened, stripped_cell, cell}
 use Rattle.pl_cells.specs.Faults as fault

@@ -4,7 +4,7 @@ use Rattle.std.specs.Prelude.{unwrap_or, slice_get}
 use Rattle.std.specs.List.{AllByRecursion, range_with_len}
 use Rattle.pl_frame.specs.declared.data_type.DataType.{DataType}
 use Rattle.pl_frame.specs.Frame.{Scalar, ColumnValue, HaveHeight, IsFrame, cell_at, height_of}
-use Rattle.pl_frame.specs.Text.{WriteOptions, row_lines}
+use Rattle.pl_text.specs.FrameText.{WriteOptions, row_lines}
 use Rattle.pl_frame.specs.Types.{is_readable}
 use Rattle.pl_table.specs.Rows.{rows, ended_row}
 use Rattle.pl_cells.specs.NullValues.{means_null}

@@ -3,7 +3,7 @@ use Rattle.std.proofs.Common.{◌≡◌, ℕ, zero, suc, ◌+◌, ◌<◌, ◌�
 use Rattle.std.specs.List.{AllByRecursion, flat_map, join_with_byte, range_with_len}
 use Rattle.pl_frame.specs.declared.data_type.DataType.{DataType}
 use Rattle.pl_frame.specs.Frame.{Scalar, ColumnValue, cell_at}
-use Rattle.pl_frame.specs.Text.{WriteOptions, written_cell, row_line, row_lines}
+use Rattle.pl_text.specs.FrameText.{WriteOptions, written_cell, row_line, row_lines}
 use Rattle.pl_table.specs.Rows.{rows, ended_row}
 use Rattle.pl_cells.specs.NullTest.{NullTest}
 use Rattle.pl_round_trip.specs.RoundTrip.{AreApart, IsCellWritable, IsFieldText, IsLine, IsLineTail, line_marks, line_of, with_tail, written_texts}

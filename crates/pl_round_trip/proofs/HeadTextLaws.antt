@@ -4,7 +4,8 @@ use Rattle.std.specs.List.{AllByRecursion, join_with_byte, starts_with}
 use Rattle.std.proofs.lemmas.Bool.Decides.{nat_tests}
 use Rattle.pl_frame.specs.Dialect.{Marks, AreDistinct}
 use Rattle.pl_frame.specs.Frame.{ColumnValue, IsFrame, cell_at, height_of, names_of}
-use Rattle.pl_frame.specs.Text.{WriteOptions, byte_order_mark, written_text, written_cell, header_line, row_lines, text_of_frame}
+use Rattle.pl_frame.specs.ByteOrderMark.{byte_order_mark}
+use Rattle.pl_text.specs.FrameText.{WriteOptions, written_text, written_cell, header_line, row_lines, text_of_frame}
 use Rattle.pl_scan.specs.Fields.{extent}
 use Rattle.pl_scan.specs.Start.{skips, cut_mark, cut_ends, cut_head, pass_one, pass_header, data_left}
 use Rattle.pl_scan.proofs.StartLaws.{cut_ends-stop, data_left-some, pass_comments-end}

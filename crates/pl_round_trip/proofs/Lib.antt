@@ -24,4 +24,3 @@ mod MeantLaws
 pub mod FitCellLaws
 pub mod FitRowLaws
 pub mod HeadTextLaws
-mod FitTestLaws

@@ -3,7 +3,7 @@ use Rattle.std.proofs.Common.{◌≡◌, ◌≢◌, ℕ, ◌<◌, Bool, true, fa
 use Rattle.std.specs.Str.{bytes_eq}
 use Rattle.std.proofs.lemmas.Bool.Decides.{nat_tests}
 use Rattle.std.proofs.lemmas.Slice.Eq.{bytes_eq-Decides}
-use Rattle.pl_frame.specs.Text.{doubled}
+use Rattle.pl_text.specs.FrameText.{doubled}
 use Rattle.pl_cells.specs.NullValues.{means_null}
 use Rattle.pl_round_trip.specs.Returning.{nulls_of}
 use Rattle.pl_round_trip.proofs.FieldLaws.{lacks, lacks-none, lacks-first, lacks-both, doubled-lacks}

@@ -8,12 +8,12 @@ use Rattle.pl_frame.specs.declared.data_type.TimeUnit.{TimeUnit}
 use Rattle.pl_frame.specs.declared.data_type.TimeUnit.TheVariants as unit
 use Rattle.pl_frame.specs.Columns.{is_value_of}
 use Rattle.pl_frame.specs.Frame.{Number}
-use Rattle.pl_frame.specs.Printed.{padded, places_of, date_text, clock_text, datetime_text}
+use Rattle.pl_text.specs.ValueText.{padded, places_of, date_text, clock_text, datetime_text}
 use Rattle.pl_frame.specs.Types.{is_within, datetime_range, signed_range, units_in_second}
 use Rattle.pl_cells.specs.Integers.{only_within}
 use Rattle.pl_cells.specs.Dates.{date_value}
 use Rattle.pl_cells.specs.Times.{time_value, count_of_units, datetime_of, datetime_value}
-use Rattle.pl_write.proofs.TimeLaws.{day_of_count}
+use Rattle.pl_text.proofs.TimeLaws.{day_of_count}
 use Rattle.pl_round_trip.specs.RoundTrip.{Returns}
 use Rattle.pl_round_trip.proofs.ClockLaws.{time-returns}
 use Rattle.pl_round_trip.proofs.DayLaws.{date-length, date-returns}

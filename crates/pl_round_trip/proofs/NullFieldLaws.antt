@@ -4,7 +4,7 @@ use Rattle.std.specs.List.{ends_with}
 use Rattle.std.proofs.lemmas.Bool.Decides.{nat_tests}
 use Rattle.pl_frame.specs.declared.data_type.DataType.{DataType}
 use Rattle.pl_frame.specs.Frame.{Scalar}
-use Rattle.pl_frame.specs.Text.{WriteOptions, quoted_null, written_cell}
+use Rattle.pl_text.specs.FrameText.{WriteOptions, quoted_null, written_cell}
 use Rattle.pl_scan.specs.Fields.{begins_quoted}
 use Rattle.pl_cells.specs.Cells.{Reading, Cell, missing_value, plain_cell, quoted_cell, softened, stripped_cell, cell}
 use Rattle.pl_cells.specs.Faults as fault

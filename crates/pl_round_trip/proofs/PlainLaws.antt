@@ -12,13 +12,13 @@ use Rattle.pl_frame.specs.declared.data_type.DataType.TheVariants as dtype
 use Rattle.pl_frame.specs.declared.data_type.TimeUnit.{TimeUnit}
 use Rattle.pl_frame.specs.declared.data_type.TimeUnit.TheVariants as unit
 use Rattle.pl_frame.specs.Frame.{Scalar, Truth, Number, Letters}
-use Rattle.pl_frame.specs.Printed.{padded, date_text, clock_text, time_text, places_of, datetime_text, point_text, decimal_text, printed}
+use Rattle.pl_text.specs.ValueText.{padded, date_text, clock_text, time_text, places_of, datetime_text, point_text, decimal_text, printed}
 use Rattle.pl_frame.specs.Types.{is_text, is_within, day_range, time_range, datetime_range, units_in_second}
 use Rattle.pl_cells.proofs.IntegerLaws.{and_true}
-use Rattle.pl_round_trip.specs.RoundTrip.{IsReadable, is_plain, are_plain}
+use Rattle.pl_round_trip.specs.RoundTrip.{IsReadable, are_plain, is_printed_byte}
 use Rattle.pl_round_trip.proofs.CalendarLaws.{has_date}
 use Rattle.pl_round_trip.proofs.DayLaws.{text_is}
-use Rattle.pl_write.proofs.TimeLaws.{day_of_count}
+use Rattle.pl_text.proofs.TimeLaws.{day_of_count}
 use Rattle.pl_round_trip.proofs.MomentLaws.{rest_small, some_units, second, rest, day, of_day}
 use Rattle.pl_round_trip.proofs.NumeralLaws.{decimal-writes, padded-writes}
 use Rattle.pl_round_trip.proofs.PointLaws.{parted, padded-wide, pointed, no_minus, scaled-small}
@@ -28,10 +28,10 @@ use Rattle.pl_round_trip.proofs.WholeLaws.{whole-small}
 plain-append : (xs ys : List ℕ) → are_plain xs ≡ true → are_plain ys ≡ true → are_plain (xs ++ ys) ≡ true
 plain-append [] ys e h = h
 plain-append (x ∷ xs) ys e h =
-    let parts = and_true (is_plain x) (are_plain xs) e in
+    let parts = and_true (is_printed_byte x) (are_plain xs) e in
     ap (λ t. t && are_plain (xs ++ ys)) parts.0 ∙ plain-append xs ys parts.1 h
 
-digit-plain : (x : ℕ) → is_ascii_digit x ≡ true → is_plain x ≡ true
+digit-plain : (x : ℕ) → is_ascii_digit x ≡ true → is_printed_byte x ≡ true
 digit-plain x h = grind (arith, nat_tests, h)
 
 plain-digits : (xs : List ℕ) → all_ascii_digits xs ≡ true → are_plain xs ≡ true

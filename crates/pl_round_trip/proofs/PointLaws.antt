@@ -11,7 +11,7 @@ use Rattle.jiff_core.proofs.SignedLemmas.{signed_arith}
 use Rattle.pl_frame.specs.declared.data_type.DataType.TheVariants as dtype
 use Rattle.pl_frame.specs.Columns.{is_value_of}
 use Rattle.pl_frame.specs.Frame.{Number}
-use Rattle.pl_frame.specs.Printed.{padded, point_text, decimal_text}
+use Rattle.pl_text.specs.ValueText.{padded, point_text, decimal_text}
 use Rattle.pl_frame.specs.Types.{is_readable, is_within, from_to, decimal_range}
 use Rattle.pl_cells.specs.Integers as text
 use Rattle.pl_cells.specs.Integers.{is_digits, number_of, without_sign, signed, only_within}

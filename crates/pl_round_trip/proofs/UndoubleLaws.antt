@@ -3,7 +3,7 @@ use Rattle.std.proofs.Common.{◌≡◌, ℕ, Bool, true, false, ◌==◌, List,
 use Rattle.std.proofs.lemmas.Bool.Decides.{nat_tests}
 use Rattle.std.specs.Cmp.Lexicographic.{pointwise}
 use Rattle.std.specs.List.{ends_with}
-use Rattle.pl_frame.specs.Text.{doubled, quoted}
+use Rattle.pl_text.specs.FrameText.{doubled, quoted}
 use Rattle.pl_cells.specs.Quoting.{is_well_quoted, inside, undouble}
 use Rattle.pl_cells.proofs.QuotingLaws.{undouble-other}
 use Rattle.pl_round_trip.proofs.PartLaws.{take-front, drop-front}

@@ -7,7 +7,7 @@ use Rattle.pl_frame.specs.declared.data_type.DataType.{DataType}
 use Rattle.pl_frame.specs.declared.data_type.DataType.TheVariants as dtype
 use Rattle.pl_frame.specs.Columns.{is_text_of}
 use Rattle.pl_frame.specs.Frame.{Scalar, Truth, Number, Letters}
-use Rattle.pl_frame.specs.Printed.{printed}
+use Rattle.pl_text.specs.ValueText.{printed}
 use Rattle.pl_frame.specs.Types.{is_text, is_whole_number}
 use Rattle.pl_cells.specs.declared.utf8.CsvEncoding.{CsvEncoding}
 use Rattle.pl_cells.specs.declared.utf8.CsvEncoding.TheVariants as encoding

@@ -5,8 +5,8 @@ use Rattle.std.specs.List.{list_any, ends_with}
 use Rattle.std.proofs.lemmas.Bool.Decides.{nat_tests}
 use Rattle.pl_frame.specs.declared.data_type.DataType.{DataType}
 use Rattle.pl_frame.specs.Frame.{Scalar, Truth, Number, Letters}
-use Rattle.pl_frame.specs.Printed.{printed}
-use Rattle.pl_frame.specs.Text.{WriteOptions, is_special, is_bare, doubled, quoted, quoted_null, needs_quotes, written_text, written_value, written_cell}
+use Rattle.pl_text.specs.ValueText.{printed}
+use Rattle.pl_text.specs.FrameText.{WriteOptions, is_special, is_bare, doubled, quoted, quoted_null, needs_quotes, written_text, written_value, written_cell}
 use Rattle.pl_frame.specs.Types.{is_numeric, is_text, is_readable}
 use Rattle.pl_round_trip.specs.RoundTrip.{IsReadable, AreApart, IsFieldText, IsLineTail, line_marks, are_plain}
 use Rattle.pl_round_trip.specs.Fits.{has_special, FitsOptions, FitsValue, FitsCell}

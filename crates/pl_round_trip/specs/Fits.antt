@@ -7,10 +7,11 @@ use Rattle.pl_frame.specs.Columns.{is_value_of, dictionary}
 use Rattle.pl_frame.specs.Compression.{is_compressed}
 use Rattle.pl_frame.specs.Dialect.{IsDialect}
 use Rattle.pl_frame.specs.Frame.{Scalar, ColumnValue, names_of}
-use Rattle.pl_frame.specs.Printed.{printed}
-use Rattle.pl_frame.specs.Text.{WriteOptions, is_special, needs_quotes, byte_order_mark, text_of_frame}
+use Rattle.pl_text.specs.ValueText.{printed}
+use Rattle.pl_frame.specs.ByteOrderMark.{byte_order_mark}
+use Rattle.pl_text.specs.FrameText.{WriteOptions, is_special, needs_quotes, text_of_frame}
 use Rattle.pl_frame.specs.Types.{is_readable, is_text}
-use Rattle.pl_round_trip.specs.RoundTrip.{fits_count, is_plain, line_marks}
+use Rattle.pl_round_trip.specs.RoundTrip.{fits_count, line_marks, is_printed_byte}
 
 -- a byte of the text is the separator, a line feed, a carriage return or the quote
 abbrev pub has_special : WriteOptions → List ℕ → Bool
@@ -25,8 +26,8 @@ IsLineEnding terminator = (terminator ≡ 10 ∷ []) ⊎ (terminator ≡ 13 ∷ 
 pub record FitsOptions (o : WriteOptions) : Type 0 where
   pub terminator : IsLineEnding o.terminator
   pub dialect : IsDialect (line_marks o) None
-  pub separator : is_plain o.separator ≡ false
-  pub quote : is_plain o.quote ≡ false
+  pub separator : is_printed_byte o.separator ≡ false
+  pub quote : is_printed_byte o.quote ≡ false
   pub null : has_special o o.null ≡ false
 
 -- A value that comes back: it is one of its type, a datetime's count fits 64 bits, its printed text is not the null text, where that

@@ -3,7 +3,7 @@ use Rattle.std.specs.Prelude.{◌≡◌, ℕ, ◌++◌, true, nat_le, List, [], 
 use Rattle.std.specs.List.{range_with_len}
 use Rattle.pl_frame.specs.declared.data_type.DataType.{DataType}
 use Rattle.pl_frame.specs.Frame.{Scalar, ColumnValue, IsFrame, height_of}
-use Rattle.pl_frame.specs.Text.{WriteOptions, written_cell, row_lines, text_of_frame}
+use Rattle.pl_text.specs.FrameText.{WriteOptions, written_cell, row_lines, text_of_frame}
 use Rattle.pl_frame.specs.Types.{is_readable}
 use Rattle.pl_scan.specs.Start.{skips, data_left}
 use Rattle.pl_table.specs.Rows.{rows, ended_row}

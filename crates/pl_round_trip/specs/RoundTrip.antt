@@ -8,8 +8,8 @@ use Rattle.pl_frame.specs.declared.data_type.TimeUnit.{TimeUnit}
 use Rattle.pl_frame.specs.Dialect.{Marks, AreDistinct}
 use Rattle.pl_frame.specs.Columns.{is_value_of}
 use Rattle.pl_frame.specs.Frame.{Scalar, Truth, Number, Letters, ColumnValue, cell_at}
-use Rattle.pl_frame.specs.Printed.{printed}
-use Rattle.pl_frame.specs.Text.{WriteOptions, doubled, quoted, needs_quotes, written_cell, row_lines}
+use Rattle.pl_text.specs.ValueText.{printed}
+use Rattle.pl_text.specs.FrameText.{WriteOptions, doubled, quoted, needs_quotes, written_cell, row_lines}
 use Rattle.pl_frame.specs.Types.{is_readable, is_whole_number, is_text, is_within, signed_range}
 use Rattle.pl_scan.specs.Fields.{is_plain as is_plain_byte, begins_quoted, fields}
 use Rattle.pl_table.specs.Rows.{rows, ended_row}
@@ -83,12 +83,12 @@ abbrev pub TextCellsReturn : Type 0
 TextCellsReturn = (reading : Reading) (type : DataType) (value : Scalar) → IsReadable type value → text_cell reading type (printed type value) ≡ Ok (Some value)
 
 -- a letter, a digit, `-`, `.` or `:`
-abbrev pub is_plain : ℕ → Bool
-is_plain x = is_ascii_alphanumeric x || (x == 45 || (x == 46 || x == 58))
+abbrev pub is_printed_byte : ℕ → Bool
+is_printed_byte x = is_ascii_alphanumeric x || (x == 45 || (x == 46 || x == 58))
 
 abbrev pub are_plain : List ℕ → Bool
 are_plain [] = true
-are_plain (x ∷ xs) = is_plain x && are_plain xs
+are_plain (x ∷ xs) = is_printed_byte x && are_plain xs
 
 -- what is no text is printed in such bytes, one or more
 abbrev pub PrintedArePlain : Type 0
@@ -101,7 +101,7 @@ PrintedArePlain =
 -- return, under Never a text needs no quotes, and neither the printed text nor it with its quotes doubled means null.
 pub record IsWritable (o : WriteOptions) (is_null : NullTest) (type : DataType) (value : Scalar) : Type 0 where
   pub readable : IsReadable type value
-  pub mark : is_plain o.quote ≡ false
+  pub mark : is_printed_byte o.quote ≡ false
   pub no_return : o.quote ≢ 13
   pub bare : o.style ≡ 3 → is_text type ≡ true → needs_quotes o.separator o.quote (printed type value) ≡ false
   pub meant : is_null (printed type value) ≡ false
@@ -171,7 +171,7 @@ pub record AreApart (o : WriteOptions) : Type 0 where
   pub distinct : AreDistinct (line_marks o)
   pub no_return : o.quote ≢ 13
   pub separator_no_return : o.separator ≢ 13
-  pub separator_no_number : is_plain o.separator ≡ false
+  pub separator_no_number : is_printed_byte o.separator ≡ false
 
 -- what is written of a value is the text of a field, also at the end of a line
 abbrev pub ValuesAreFields : Type 0

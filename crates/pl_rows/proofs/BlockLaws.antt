@@ -13,9 +13,9 @@ use Rattle.pl_scan.specs.declared.dialect.Dialect.{Dialect}
 use Rattle.pl_scan.specs.Closing.{have_open_end}
 use Rattle.pl_scan.specs.Comment.{prefix_of}
 use Rattle.pl_scan.specs.Dialect.{marks_of, comment_of}
-use Rattle.pl_cells.specs.BufferValue.{BufferValue, with_values, reading_of, reading_with}
+use Rattle.pl_cells.specs.BufferValue.{BufferValue, reading_of, reading_with, with_more}
 use Rattle.pl_cells.specs.Cells.{Cell, value_of}
-use Rattle.pl_cells.specs.Columns.{AreSound}
+use Rattle.pl_cells.specs.Columns.{AreSound, field_in}
 use Rattle.pl_cells.specs.Columns as cells
 use Rattle.pl_cells.specs.declared.utf8.CsvEncoding.{CsvEncoding}
 use Rattle.pl_cells.specs.declared.null_values.NullValuesCompiled.{NullValuesCompiled}
@@ -28,7 +28,7 @@ use Rattle.pl_rows.specs.Cells.{RowRules, cell}
 use Rattle.pl_rows.specs.Columns.{column_cells, with_columns}
 use Rattle.pl_rows.specs.Plan.{Columns, CanRead, FollowsRules, rules_of, plan_columns, state_types}
 use Rattle.pl_rows.specs.Ranges.{is_judged, sound_rows}
-use Rattle.pl_rows.specs.Rows.{field_at, column_fault, first_fault, first_faulty, first_or, excess_fault, passes_excess}
+use Rattle.pl_rows.specs.Rows.{column_fault, first_fault, first_faulty, first_or, excess_fault, passes_excess}
 use Rattle.pl_table.specs.Rows.{Row, rows, ended_row, table_rows}
 use Rattle.pl_rows.specs.Steps.{without_last, cut_back, passes_more}
 use Rattle.pl_rows.proofs.ColumnLaws.{with_columns-more, with_columns-append, without_last-with_columns}
@@ -145,9 +145,6 @@ HaveReadColumns-back plan given n i before now many few count read =
     ∙ take-append-drop i before
 
 -- ---- more fields than columns
-
-passed_over : (n : ℕ) (row : Row) → excess_fault true n row ≡ None
-passed_over n row = refl
 
 not_more : (passed : Bool) (n : ℕ) (row : Row) → length row.fields ≤ n → excess_fault passed n row ≡ None
 not_more true n row few = refl
@@ -346,7 +343,7 @@ module _ (rules : RowRules) (column : ℕ) (type : DataType) where
   values-are : (records : List (List (List ℕ)))
       → map value_of (cells.column_cells rules.reading (means_null rules.nulls column) rules.quote_char type column records) ≡ column_cells rules (map ended_row records) (column, type)
   values-are [] = refl
-  values-are (fields ∷ records) = ap (λ l. value_of (cell rules column type (field_at fields column)) ∷ l) (values-are records)
+  values-are (fields ∷ records) = ap (λ l. value_of (cell rules column type (field_in fields column)) ∷ l) (values-are records)
 
   sound-are : (records : List (List (List ℕ))) → AreSound (cells.column_cells rules.reading (means_null rules.nulls column) rules.quote_char type column records)
       → AllByRecursion (λ row. column_fault rules row.fields (column, type) ≡ None) (map ended_row records)
@@ -358,7 +355,7 @@ module _ (rules : RowRules) (column : ℕ) (type : DataType) where
 
 -- the cells of a column were added, by the rules of a plan
 pub HasAddedColumn-cells : (plan : RangePlan) (column n : ℕ) (text : List ℕ) (table : List (List Cut)) (old new : BufferValue) → FollowsRules (rules_of plan) old
-    → new ≡ with_values old (map value_of (cells.column_cells (reading_of old plan.options.missing_is_null plan.options.ignore_errors) (means_null (option_copied plan.options.null_values) column) plan.dialect.quote_char old.dtype column (take n (fields_of text table))))
+    → new ≡ with_more old (map value_of (cells.column_cells (reading_of old plan.options.missing_is_null plan.options.ignore_errors) (means_null (option_copied plan.options.null_values) column) plan.dialect.quote_char old.dtype column (take n (fields_of text table))))
     → AreSound (cells.column_cells (reading_of old plan.options.missing_is_null plan.options.ignore_errors) (means_null (option_copied plan.options.null_values) column) plan.dialect.quote_char old.dtype column (take n (fields_of text table)))
     → HasAddedColumn plan column (take n (table_rows text table)) old new
 HasAddedColumn-cells plan column n text table old new follow added sound =
@@ -368,8 +365,8 @@ HasAddedColumn-cells plan column n text table old new follow added sound =
     let given : CsvEncoding → List Cell = λ e. cells.column_cells (reading_with e plan.options.missing_is_null plan.options.ignore_errors) (means_null rules.nulls column) rules.quote_char old.dtype column records in
     record {
       added =
-          added ∙ ap (λ e. with_values old (map value_of (given e))) follow.1 ∙ ap (with_values old) (values-are rules column old.dtype records)
-          ∙ ap (λ rs. with_values old (column_cells rules rs (column, old.dtype))) (sym rows_are);
+          added ∙ ap (λ e. with_more old (map value_of (given e))) follow.1 ∙ ap (with_more old) (values-are rules column old.dtype records)
+          ∙ ap (λ rs. with_more old (column_cells rules rs (column, old.dtype))) (sym rows_are);
       sound = subst (AllByRecursion (λ row. column_fault rules row.fields (column, old.dtype) ≡ None)) (sym rows_are)
           (sound-are rules column old.dtype records (subst (λ e. AreSound (given e)) follow.1 sound));
     }

@@ -4,12 +4,12 @@ use Rattle.std.specs.Prelude.{Option}
 use Rattle.std.proofs.lemmas.List.{length-map, map-append, take_at}
 use Rattle.pl_frame.specs.declared.data_type.DataType.{DataType}
 use Rattle.pl_frame.specs.Frame.{Scalar}
-use Rattle.pl_cells.specs.BufferValue.{BufferValue, holding, with_values}
+use Rattle.pl_cells.specs.BufferValue.{BufferValue, holding, with_more}
 use Rattle.pl_cells.specs.Cells.{value_of}
 use Rattle.pl_rows.specs.Cells.{RowRules, cell}
 use Rattle.pl_rows.specs.Columns.{column_cells, with_columns}
 use Rattle.pl_rows.specs.Plan.{state_types}
-use Rattle.pl_rows.specs.Rows.{field_at}
+use Rattle.pl_cells.specs.Columns.{field_in}
 use Rattle.pl_table.specs.Rows.{Row}
 use Rattle.pl_rows.specs.Steps.{without_last, cut_back}
 
@@ -30,17 +30,17 @@ with_columns-append rules first then (place ∷ places) (buffer ∷ others) =
     let column : ℕ × DataType = (place, buffer.dtype) in
     ap (λ v. holding buffer v ∷ with_columns rules then places (with_columns rules first places others))
     (append_assoc buffer.values (column_cells rules first column) (column_cells rules then column)
-    ∙ ap (λ l. buffer.values ++ l) (sym (map-append (λ (row : Row). value_of (cell rules place buffer.dtype (field_at row.fields place))) first then)))
-    ∙ ap (λ l. with_values buffer (column_cells rules (first ++ then) column) ∷ l) (with_columns-append rules first then places others)
+    ∙ ap (λ l. buffer.values ++ l) (sym (map-append (λ (row : Row). value_of (cell rules place buffer.dtype (field_in row.fields place))) first then)))
+    ∙ ap (λ l. with_more buffer (column_cells rules (first ++ then) column) ∷ l) (with_columns-append rules first then places others)
 
 -- one column more
 pub with_columns-more : (rules : RowRules) (given : List Row) (places : List ℕ) (buffers : List BufferValue) (place : ℕ) (buffer : BufferValue) → length places ≡ length buffers
-    → with_columns rules given (places ++ place ∷ []) (buffers ++ buffer ∷ []) ≡ with_columns rules given places buffers ++ with_values buffer (column_cells rules given (place, buffer.dtype)) ∷ []
+    → with_columns rules given (places ++ place ∷ []) (buffers ++ buffer ∷ []) ≡ with_columns rules given places buffers ++ with_more buffer (column_cells rules given (place, buffer.dtype)) ∷ []
 with_columns-more rules given [] [] place buffer e = refl
 with_columns-more rules given [] (first ∷ others) place buffer e = absurd (omega arith)
 with_columns-more rules given (first ∷ places) [] place buffer e = absurd (omega arith)
 with_columns-more rules given (p ∷ places) (first ∷ others) place buffer e =
-    ap (λ l. with_values first (column_cells rules given (p, first.dtype)) ∷ l) (with_columns-more rules given places others place buffer (omega arith))
+    ap (λ l. with_more first (column_cells rules given (p, first.dtype)) ∷ l) (with_columns-more rules given places others place buffer (omega arith))
 
 pub length-with_columns : (rules : RowRules) (given : List Row) (places : List ℕ) (buffers : List BufferValue) → length places ≡ length buffers
     → length (with_columns rules given places buffers) ≡ length buffers
@@ -58,7 +58,7 @@ state_types-with_columns rules given (place ∷ places) [] e = refl
 state_types-with_columns rules given (place ∷ places) (buffer ∷ others) e = ap (λ l. buffer.dtype ∷ l) (state_types-with_columns rules given places others (omega arith))
 
 -- cells that were put at the end are taken back
-without_last-cells : (n : ℕ) (buffer : BufferValue) (cells : List (Option Scalar)) → length cells ≡ n → without_last n (with_values buffer cells) ≡ buffer
+without_last-cells : (n : ℕ) (buffer : BufferValue) (cells : List (Option Scalar)) → length cells ≡ n → without_last n (with_more buffer cells) ≡ buffer
 without_last-cells n buffer cells e =
     let many : length (buffer.values ++ cells) - n ≡ length buffer.values = omega (arith, length-append buffer.values cells) in
     ap (λ k. holding buffer (take k (buffer.values ++ cells))) many
@@ -71,7 +71,7 @@ without_last-with_columns rules given n [] (buffer ∷ others) e f = absurd (ome
 without_last-with_columns rules given n (place ∷ places) [] e f = absurd (omega arith)
 without_last-with_columns rules given n (place ∷ places) (buffer ∷ others) e f =
     ap (λ b. b ∷ map (without_last n) (with_columns rules given places others))
-    (without_last-cells n buffer (column_cells rules given (place, buffer.dtype)) (length-map given (λ (row : Row). value_of (cell rules place buffer.dtype (field_at row.fields place))) ∙ e))
+    (without_last-cells n buffer (column_cells rules given (place, buffer.dtype)) (length-map given (λ (row : Row). value_of (cell rules place buffer.dtype (field_in row.fields place))) ∙ e))
     ∙ ap (λ l. buffer ∷ l) (without_last-with_columns rules given n places others e (omega arith))
 
 -- one buffer more loses its last cells

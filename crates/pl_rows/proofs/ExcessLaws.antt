@@ -18,7 +18,8 @@ use Rattle.pl_cells.specs.Faults as cell
 use Rattle.pl_rows.specs.declared.row_rest.RowRest.{RowRest}
 use Rattle.pl_rows.specs.declared.row_rest.RowRest.TheVariants as rest
 use Rattle.pl_rows.specs.RowRest.{fields_left, behind_row, IsDone, HasMore}
-use Rattle.pl_rows.specs.Rows.{field_at, is_forgiven, excess_fault}
+use Rattle.pl_cells.specs.Columns.{field_in}
+use Rattle.pl_rows.specs.Rows.{is_forgiven, excess_fault}
 use Rattle.pl_table.specs.Rows.{Row, row_at}
 use Rattle.pl_rows.specs.Steps.{IsRowFault, row_fault_of}
 use Rattle.pl_rows.proofs.RestLaws.{field_at-drop}
@@ -58,14 +59,14 @@ excess_fault-none n row e =
 pub excess_fault-forgiven : (n : ℕ) (row : Row) → drop n row.fields ≡ [] ∷ [] → row.is_end ≡ true → excess_fault false n row ≡ None
 excess_fault-forgiven n row e end =
     let count : length row.fields ≡ n + 1 = omega (arith, length-drop n row.fields, ap length e) in
-    let empty : length (field_at row.fields n) ≡ 0 = ap length (sym (field_at-drop row.fields n) ∙ ap (λ fs. field_at fs 0) e) in
+    let empty : length (field_in row.fields n) ≡ 0 = ap length (sym (field_at-drop row.fields n) ∙ ap (λ fs. field_in fs 0) e) in
     let one_more : (length row.fields == n + 1) ≡ true = grind (arith, nat_tests) in
-    let no_bytes : (length (field_at row.fields n) == 0) ≡ true = grind (arith, nat_tests) in
+    let no_bytes : (length (field_in row.fields n) == 0) ≡ true = grind (arith, nat_tests) in
     forgiven (ltb n (length row.fields)) (is_forgiven n row) (Some (n, fault.Fields)) None (both row.is_end _ _ end one_more no_bytes)
 
 -- more than that
 pub excess_fault-some : (n : ℕ) (row : Row) → 0 < length (drop n row.fields)
-    → (row.is_end ≡ true → length (drop n row.fields) ≡ 1 → length (field_at (drop n row.fields) 0) ≡ 0 → ⊥) → excess_fault false n row ≡ Some (n, fault.Fields)
+    → (row.is_end ≡ true → length (drop n row.fields) ≡ 1 → length (field_in (drop n row.fields) 0) ≡ 0 → ⊥) → excess_fault false n row ≡ Some (n, fault.Fields)
 excess_fault-some n row some more =
     let many : n < length row.fields = omega (arith, length-drop n row.fields) in
     let test : ltb n (length row.fields) ≡ true = grind (arith, nat_tests) in
@@ -89,12 +90,12 @@ length-nil [] e = refl
 length-nil (x ∷ l) e = absurd (omega arith)
 
 -- one field without bytes and nothing behind it is no text
-one_empty : (m : Marks) (bytes : List ℕ) → length (fields m bytes) ≡ 1 → length (field_at (fields m bytes) 0) ≡ 0 → drop (extent m bytes) bytes ≡ [] → bytes ≡ []
+one_empty : (m : Marks) (bytes : List ℕ) → length (fields m bytes) ≡ 1 → length (field_in (fields m bytes) 0) ≡ 0 → drop (extent m bytes) bytes ≡ [] → bytes ≡ []
 one_empty m bytes one empty gone = by_rest (behind m.separator (cut_field m bytes).1) refl
   where
     by_rest : (o : Option (List ℕ)) → behind m.separator (cut_field m bytes).1 ≡ o → bytes ≡ []
     by_rest None e =
-        let size : extent m bytes ≡ 0 = extent_last m bytes e ∙ ap (λ fs. length (field_at fs 0)) (sym (fields_last m bytes e)) ∙ empty in
+        let size : extent m bytes ≡ 0 = extent_last m bytes e ∙ ap (λ fs. length (field_in fs 0)) (sym (fields_last m bytes e)) ∙ empty in
         ap (λ k. drop k bytes) (sym size) ∙ gone
     by_rest (Some r) e =
         let more = ap length (fields_more m bytes r e) in
@@ -109,7 +110,7 @@ excess_fault-more m b n (rest.Fields bytes) left_is behind_is more =
     let some : 0 < length (drop n (fields m b)) = omega (arith, ap length left_is, ap length first.2) in
     excess_fault-some n (row_at m b) some (λ end one empty.
     let gone : drop (extent m b) b ≡ [] = length-nil _ (eqb-true _ _ end) in
-    more (one_empty m bytes.now (ap length left_is ∙ one) (ap (λ fs. length (field_at fs 0)) left_is ∙ empty) (behind_is ∙ gone)))
+    more (one_empty m bytes.now (ap length left_is ∙ one) (ap (λ fs. length (field_in fs 0)) left_is ∙ empty) (behind_is ∙ gone)))
 excess_fault-more m b n (rest.End bytes) left_is behind_is more = absurd more
 
 -- the fault of a column's cell is the row's

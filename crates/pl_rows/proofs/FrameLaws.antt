@@ -17,7 +17,7 @@ use Rattle.pl_cells.specs.NullValues.{HaveTexts}
 use Rattle.pl_rows.specs.declared.plan.RangePlan.{RangePlan}
 use Rattle.pl_rows.specs.Plan.{state_types, Columns, AreRising, CanRead, FollowsRules, rules_of, plan_columns}
 use Rattle.pl_rows.specs.Ranges.{judged_rows, sound_rows, with_range, range_frame}
-use Rattle.pl_rows.specs.Rows.{field_at}
+use Rattle.pl_cells.specs.Columns.{field_in}
 use Rattle.pl_table.specs.Rows.{Row}
 use Rattle.pl_rows.proofs.RuleLaws.{FollowRules-empty}
 
@@ -50,7 +50,7 @@ length-empty_buffers rules schema (place ∷ places) = omega (arith, length-empt
 pub have_height : (rules : RowRules) (given : List Row) (columns : List (ℕ × Entry)) → HaveHeight (length given) (frame_of_rows rules columns given)
 have_height rules given [] = tt
 have_height rules given (column ∷ others) =
-    (length-map given (λ (row : Row). value_of (cell rules column.0 column.1.1 (field_at row.fields column.0))), have_height rules given others)
+    (length-map given (λ (row : Row). value_of (cell rules column.0 column.1.1 (field_in row.fields column.0))), have_height rules given others)
 
 same_height : (rules : RowRules) (given : List Row) (columns : List (ℕ × Entry)) (n : ℕ) → n ≡ length given → HaveHeight n (frame_of_rows rules columns given)
 same_height rules given columns n e = subst (λ k. HaveHeight k (frame_of_rows rules columns given)) (sym e) (have_height rules given columns)
@@ -63,7 +63,7 @@ names_of-rows rules given (column ∷ others) = ap (λ l. column.1.0 ∷ l) (nam
 pub IsFrame-rows : (rules : RowRules) (given : List Row) (columns : List (ℕ × Entry)) → HaveDistinctNames (map (λ column. column.1) columns) → IsFrame (frame_of_rows rules columns given)
 IsFrame-rows rules given [] distinct = record { one_height = tt; distinct = distinct }
 IsFrame-rows rules given (column ∷ others) distinct = record {
-  one_height = same_height rules given (column ∷ others) _ (length-map given (λ (row : Row). value_of (cell rules column.0 column.1.1 (field_at row.fields column.0))));
+  one_height = same_height rules given (column ∷ others) _ (length-map given (λ (row : Row). value_of (cell rules column.0 column.1.1 (field_in row.fields column.0))));
   distinct = subst (AllPairs (λ a b. a ≢ b)) (sym (names_of-rows rules given (column ∷ others))) distinct;
 }
 

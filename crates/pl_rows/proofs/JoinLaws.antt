@@ -9,7 +9,7 @@ use Rattle.std.proofs.lemmas.Bool.Decides.{nat_tests}
 use Rattle.pl_frame.specs.declared.data_type.DataType.{DataType}
 use Rattle.pl_frame.specs.Dialect.{IsDialect}
 use Rattle.pl_scan.specs.Dialect.{marks_of, comment_of}
-use Rattle.pl_cells.specs.BufferValue.{BufferValue, with_values}
+use Rattle.pl_cells.specs.BufferValue.{BufferValue, with_more}
 use Rattle.pl_rows.specs.declared.plan.RangePlan.{RangePlan}
 use Rattle.pl_rows.specs.Apart.{AreEmpty, joined, all_joined, values_at, column_joined, ReadsApart}
 use Rattle.pl_rows.specs.Blocks.{HasReadRows}
@@ -46,10 +46,10 @@ joined-rows rules given (place ∷ places) (buffer ∷ rest) (first ∷ others) 
     let type : first.dtype ≡ buffer.dtype = cc in
     let types : state_types others ≡ state_types rest = cc in
     let cells = column_cells rules given (place, buffer.dtype) in
-    let value : with_values first (buffer.values ++ cells) ≡ with_values first (column_cells rules given (place, first.dtype)) =
-    ap (λ v. with_values first (v ++ cells)) none.0 ∙ ap (λ t. with_values first (column_cells rules given (place, t))) (sym type) in
+    let value : with_more first (buffer.values ++ cells) ≡ with_more first (column_cells rules given (place, first.dtype)) =
+    ap (λ v. with_more first (v ++ cells)) none.0 ∙ ap (λ t. with_more first (column_cells rules given (place, t))) (sym type) in
     ap (λ b. b ∷ joined others (with_columns rules given places rest)) value
-    ∙ ap (λ l. with_values first (column_cells rules given (place, first.dtype)) ∷ l) (joined-rows rules given places rest others none.1 types)
+    ∙ ap (λ l. with_more first (column_cells rules given (place, first.dtype)) ∷ l) (joined-rows rules given places rest others none.1 types)
 
 -- ---- a piece read apart
 
@@ -140,10 +140,10 @@ types-joined (b ∷ bs) (p ∷ ps) same = let rest : state_types ps ≡ state_ty
 
 -- a place of joined buffers
 at-joined : (buffers part : List BufferValue) (place : ℕ) (b : BufferValue) → state_types part ≡ state_types buffers → slice_get buffers place ≡ Some b
-    → slice_get (joined buffers part) place ≡ Some (with_values b (values_at place part))
+    → slice_get (joined buffers part) place ≡ Some (with_more b (values_at place part))
 at-joined [] part place b same at = absurd (cc)
 at-joined (first ∷ others) [] place b same at = absurd (cc)
-at-joined (first ∷ others) (p ∷ ps) zero b same at = let is : first ≡ b = cc in ap (λ f. Some (with_values f p.values)) is
+at-joined (first ∷ others) (p ∷ ps) zero b same at = let is : first ≡ b = cc in ap (λ f. Some (with_more f p.values)) is
 at-joined (first ∷ others) (p ∷ ps) (suc place) b same at = let rest : state_types ps ≡ state_types others = cc in at-joined others ps place b rest at
 
 types-kept : (buffers part : List BufferValue) (parts : List (List BufferValue)) → state_types part ≡ state_types buffers → AllByRecursion (λ p. state_types p ≡ state_types buffers) parts
@@ -156,7 +156,7 @@ pub at-all_joined : (buffers : List BufferValue) (parts : List (List BufferValue
     → slice_get buffers place ≡ Some b → slice_get (all_joined buffers parts) place ≡ Some (column_joined place b parts)
 at-all_joined buffers [] place b same at = at
 at-all_joined buffers (part ∷ parts) place b same at =
-    at-all_joined (joined buffers part) parts place (with_values b (values_at place part)) (types-kept buffers part parts same.0 same.1) (at-joined buffers part place b same.0 at)
+    at-all_joined (joined buffers part) parts place (with_more b (values_at place part)) (types-kept buffers part parts same.0 same.1) (at-joined buffers part place b same.0 at)
 
 length-all_joined : (buffers : List BufferValue) (parts : List (List BufferValue)) → AllByRecursion (λ part. state_types part ≡ state_types buffers) parts → length (all_joined buffers parts) ≡ length buffers
 length-all_joined buffers [] same = refl
@@ -182,14 +182,14 @@ all_joined-places (b ∷ bs) new parts same len each =
 
 -- several, and one more
 pub column_joined-more : (place : ℕ) (b : BufferValue) (parts : List (List BufferValue)) (part : List BufferValue)
-    → column_joined place b (parts ++ part ∷ []) ≡ with_values (column_joined place b parts) (values_at place part)
+    → column_joined place b (parts ++ part ∷ []) ≡ with_more (column_joined place b parts) (values_at place part)
 column_joined-more place b [] part = refl
-column_joined-more place b (first ∷ others) part = column_joined-more place (with_values b (values_at place first)) others part
+column_joined-more place b (first ∷ others) part = column_joined-more place (with_more b (values_at place first)) others part
 
 -- the type stays
 pub column_joined-type : (place : ℕ) (b : BufferValue) (parts : List (List BufferValue)) → (column_joined place b parts).dtype ≡ b.dtype
 column_joined-type place b [] = refl
-column_joined-type place b (part ∷ parts) = column_joined-type place (with_values b (values_at place part)) parts
+column_joined-type place b (part ∷ parts) = column_joined-type place (with_more b (values_at place part)) parts
 
 -- one of a list for each of which something holds
 pub all-at : {X : Type 0} (P : X → Type 0) (xs : List X) (k : ℕ) (x : X) → AllByRecursion P xs → slice_get xs k ≡ Some x → P x

@@ -212,10 +212,9 @@ pub CanRead-behind : (plan : RangePlan) (n : ℕ) (last : Bool) (buffers : List 
 CanRead-behind plan n last buffers can = record { apart = can.apart; rising = can.rising; count = can.count; rules = can.rules; texts = can.texts }
 
 -- how far a range was read, where a board handed out all pieces up to there
-pub record IsFrontRead (plan : RangePlan) (range : List ℕ) (before now : List BufferValue) (setup : Setup) (log : List Event) (rows end bytes : ℕ) : Type 0 where
+pub record IsFrontRead (plan : RangePlan) (range : List ℕ) (before now : List BufferValue) (setup : Setup) (log : List Event) (rows end : ℕ) : Type 0 where
   pub read : HasReadRows plan range before now (drop end range) rows
-  pub end_within : end ≤ bytes
-  pub bytes_within : bytes ≤ length range
+  pub end_within : end ≤ length range
   pub bytes_are : setup.bytes ≡ range
   pub reached_is : reached log ≡ end
 

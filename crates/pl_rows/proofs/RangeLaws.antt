@@ -90,13 +90,6 @@ left_below-more (Some limit) n x xs below =
     let more : limit - n ≡ suc (limit - (n + 1)) = omega arith in
     ap (λ k. take k (x ∷ xs)) more
 
-left_below-past : {X : Type 0} (limit : Option ℕ) (n : ℕ) (xs : List X) → is_below limit n ≡ false → left_below limit n xs ≡ []
-left_below-past None n xs past = cc
-left_below-past (Some limit) n xs past =
-    let less : limit ≤ n = grind (arith, nat_tests) in
-    let none : limit - n ≡ 0 = omega arith in
-    ap (λ k. take k xs) none
-
 -- ---- judged and sound rows, one after another
 
 pub filter-kept : {X : Type 0} (p : X → Bool) (x : X) (xs : List X) → p x ≡ true → filter p (x ∷ xs) ≡ x ∷ filter p xs
@@ -232,9 +225,6 @@ pub rows_left-none : (plan : RangePlan) (n : ℕ) (left : List ℕ) → left ≡
 rows_left-none plan n left empty =
     let m = marks_of plan.dialect in
     ap (λ l. rows_left plan n l) empty ∙ ap (left_below plan.limit n) (rows-nil m (comment_of plan.dialect)) ∙ left_below-nil plan.limit n
-
-pub rows_left-past : (plan : RangePlan) (n : ℕ) (left : List ℕ) → is_below plan.limit n ≡ false → rows_left plan n left ≡ []
-rows_left-past plan n left past = left_below-past plan.limit n (rows (marks_of plan.dialect) (comment_of plan.dialect) left) past
 
 -- the row at the front has a fault
 pub HasReadRange-fault : (plan : RangePlan) (range : List ℕ) (before now after : List BufferValue) (left : List ℕ) (n column : ℕ) (kind : FaultKind) → CanRead plan before → IsAtRow plan left n

@@ -9,18 +9,18 @@ use Rattle.pl_scan.proofs.ItemLaws.{extent_last, extent_more}
 use Rattle.pl_rows.specs.declared.row_rest.RowRest.{RowRest}
 use Rattle.pl_rows.specs.declared.row_rest.RowRest.TheVariants as rest
 use Rattle.pl_rows.specs.RowRest.{fields_left, behind_row, IsBehind}
-use Rattle.pl_rows.specs.Rows.{field_at}
+use Rattle.pl_cells.specs.Columns.{field_in}
 
 -- the field of a column is the first of those that are left there
-pub field_at-drop : (fs : List (List ℕ)) (k : ℕ) → field_at (drop k fs) 0 ≡ field_at fs k
+pub field_at-drop : (fs : List (List ℕ)) (k : ℕ) → field_in (drop k fs) 0 ≡ field_in fs k
 field_at-drop [] zero = refl
 field_at-drop [] (suc k) = refl
 field_at-drop (f ∷ fs) zero = refl
 field_at-drop (f ∷ fs) (suc k) = field_at-drop fs k
 
 -- the first field of a text whose first field has n bytes
-pub field_at-first : (m : Marks) (b : List ℕ) (n : ℕ) → cut_field m b ≡ cut_at n b → take n b ≡ field_at (fields m b) 0
-field_at-first m b n cut = sym (ap (λ fs. field_at fs 0) (fields-step m b) ∙ ap (λ (parts : List ℕ × List ℕ). parts.0) cut)
+pub field_at-first : (m : Marks) (b : List ℕ) (n : ℕ) → cut_field m b ≡ cut_at n b → take n b ≡ field_in (fields m b) 0
+field_at-first m b n cut = sym (ap (λ fs. field_in fs 0) (fields-step m b) ∙ ap (λ (parts : List ℕ × List ℕ). parts.0) cut)
 
 pub fields_left-next : (m : Marks) (b : List ℕ) (n : ℕ) (r : RowRest) → cut_field m b ≡ cut_at n b → IsBehind m.separator (drop n b) r → fields_left m r ≡ drop 1 (fields m b)
 fields_left-next m b n (rest.Fields next) cut is =

@@ -12,7 +12,7 @@ use Rattle.pl_frame.specs.Frame.{Scalar}
 use Rattle.pl_scan.specs.Dialect.{marks_of}
 use Rattle.pl_scan.specs.Fields.{fields, extent}
 use Rattle.pl_cells.specs.declared.cell_fault.CellFault.{CellFault}
-use Rattle.pl_cells.specs.BufferValue.{BufferValue, with_value, with_values, IsCellFault}
+use Rattle.pl_cells.specs.BufferValue.{BufferValue, with_value, IsCellFault, with_more}
 use Rattle.pl_cells.specs.Cells.{value_of, fault_of}
 use Rattle.pl_cells.specs.Faults.{Fault, kind_of}
 use Rattle.pl_rows.specs.declared.plan.RangePlan.{RangePlan}
@@ -22,7 +22,8 @@ use Rattle.pl_rows.specs.Cells.{RowRules, cell}
 use Rattle.pl_rows.specs.Columns.{with_columns}
 use Rattle.pl_rows.specs.Plan.{AreRising, rules_of, plan_columns, state_types}
 use Rattle.pl_rows.specs.RowRest.{fields_left, behind_row}
-use Rattle.pl_rows.specs.Rows.{field_at, column_fault, first_or, excess_fault, passes_excess, first_fault}
+use Rattle.pl_cells.specs.Columns.{field_in}
+use Rattle.pl_rows.specs.Rows.{column_fault, first_or, excess_fault, passes_excess, first_fault}
 use Rattle.pl_table.specs.Rows.{Row, row_at}
 use Rattle.pl_rows.specs.Steps.{without_last, cut_back, HaveCells, HasAddedCells, IsCellsFault, IsRowFault, IsRowEnd, passes_more, row_fault_of}
 use Rattle.pl_rows.proofs.ColumnLaws.{with_columns-more, without_last-with_columns}
@@ -82,21 +83,21 @@ next_place plan b before now left i next place old read at =
 pub next_field_is : (plan : RangePlan) (b : List ℕ) (before now : List BufferValue) (left begin : RowRest) (i next place : ℕ) (old : BufferValue)
     → HasReadColumns plan b before now left i next → IsAt plan before now i place old
     → fields_left (marks_of plan.dialect) begin ≡ drop (place - next) (fields_left (marks_of plan.dialect) left)
-    → (fields_left (marks_of plan.dialect) begin ≡ drop place (fields (marks_of plan.dialect) b)) × (field_at (fields_left (marks_of plan.dialect) begin) 0 ≡ field_at (fields (marks_of plan.dialect) b) place)
+    → (fields_left (marks_of plan.dialect) begin ≡ drop place (fields (marks_of plan.dialect) b)) × (field_in (fields_left (marks_of plan.dialect) begin) 0 ≡ field_in (fields (marks_of plan.dialect) b) place)
 next_field_is plan b before now left begin i next place old read at begin_is =
     let fs = fields (marks_of plan.dialect) b in
     let low = (next_place plan b before now left i next place old read at).0 in
     let k : next + (place - next) ≡ place = omega arith in
     let there : fields_left (marks_of plan.dialect) begin ≡ drop place fs =
     begin_is ∙ ap (drop (place - next)) read.left_is ∙ drop-drop (place - next) next fs ∙ ap (λ j. drop j fs) k in
-    (there, ap (λ l. field_at l 0) there ∙ field_at-drop fs place)
+    (there, ap (λ l. field_in l 0) there ∙ field_at-drop fs place)
 
 -- a column more was read without a fault
 pub HasReadColumns-more : (plan : RangePlan) (b : List ℕ) (before now : List BufferValue) (left begin behind : RowRest) (i next place : ℕ) (old : BufferValue) (value : Option Scalar)
     → HasReadColumns plan b before now left i next → IsAt plan before now i place old
     → fields_left (marks_of plan.dialect) begin ≡ drop (place - next) (fields_left (marks_of plan.dialect) left) → behind_row (marks_of plan.dialect) begin ≡ behind_row (marks_of plan.dialect) left
     → fields_left (marks_of plan.dialect) behind ≡ drop 1 (fields_left (marks_of plan.dialect) begin) → behind_row (marks_of plan.dialect) behind ≡ behind_row (marks_of plan.dialect) begin
-    → cell (rules_of plan) place old.dtype (field_at (fields_left (marks_of plan.dialect) begin) 0) ≡ Ok value
+    → cell (rules_of plan) place old.dtype (field_in (fields_left (marks_of plan.dialect) begin) 0) ≡ Ok value
     → HasReadColumns plan b before (set now i (with_value old value)) behind (i + 1) (place + 1)
 HasReadColumns-more plan b before now left begin behind i next place old value read at begin_is begin_behind left_next behind_next ok =
     let rules = rules_of plan in
@@ -106,7 +107,7 @@ HasReadColumns-more plan b before now left begin behind i next place old value r
     let new = with_value old value in
     let low = next_place plan b before now left i next place old read at in
     let field = next_field_is plan b before now left begin i next place old read at begin_is in
-    let fine : cell rules place old.dtype (field_at fs place) ≡ Ok value = sym (ap (cell rules place old.dtype) field.1) ∙ ok in
+    let fine : cell rules place old.dtype (field_in fs place) ≡ Ok value = sym (ap (cell rules place old.dtype) field.1) ∙ ok in
     let there = here_before plan before now i place old at read.cells.rest in
     let within : i < length before = omega (arith, at.inside, at.same) in
     let within_places : i < length places = omega (arith, at.count) in
@@ -118,7 +119,7 @@ HasReadColumns-more plan b before now left begin behind i next place old value r
         front =
             take_more_set now i new at.inside
             ∙ ap (λ l. l ++ new ∷ []) read.cells.front
-            ∙ ap (λ c. with_columns rules (row ∷ []) (take i places) (take i before) ++ with_values old (value_of c ∷ []) ∷ []) (sym fine)
+            ∙ ap (λ c. with_columns rules (row ∷ []) (take i places) (take i before) ++ with_more old (value_of c ∷ []) ∷ []) (sym fine)
             ∙ sym (with_columns-more rules (row ∷ []) (take i places) (take i before) place old (length-take-le i places (omega arith) ∙ sym (length-take-le i before (omega arith))))
             ∙ ap (λ p. with_columns rules (row ∷ []) (take i places ++ p ∷ []) (take i before ++ old ∷ [])) at.place_is
             ∙ ap (λ ps. with_columns rules (row ∷ []) ps (take i before ++ old ∷ [])) (sym (take_more places i 0 within_places))
@@ -143,7 +144,7 @@ HasReadColumns-more plan b before now left begin behind i next place old value r
 pub first_fault-here : (plan : RangePlan) (b : List ℕ) (before now : List BufferValue) (left begin : RowRest) (i next place : ℕ) (old : BufferValue) (given : Fault)
     → HasReadColumns plan b before now left i next → IsAt plan before now i place old
     → fields_left (marks_of plan.dialect) begin ≡ drop (place - next) (fields_left (marks_of plan.dialect) left)
-    → cell (rules_of plan) place old.dtype (field_at (fields_left (marks_of plan.dialect) begin) 0) ≡ Err given
+    → cell (rules_of plan) place old.dtype (field_in (fields_left (marks_of plan.dialect) begin) 0) ≡ Err given
     → first_fault (rules_of plan) (plan_columns plan before) (row_at (marks_of plan.dialect) b) ≡ Some (place, kind_of given)
 first_fault-here plan b before now left begin i next place old given read at begin_is wrong =
     let rules = rules_of plan in
@@ -153,7 +154,7 @@ first_fault-here plan b before now left begin i next place old given read at beg
     let columns = plan_columns plan before in
     let other = excess_fault (passes_excess rules columns) columns.width row in
     let field = next_field_is plan b before now left begin i next place old read at begin_is in
-    let fails : cell rules place old.dtype (field_at fs place) ≡ Err given = sym (ap (cell rules place old.dtype) field.1) ∙ wrong in
+    let fails : cell rules place old.dtype (field_in fs place) ≡ Err given = sym (ap (cell rules place old.dtype) field.1) ∙ wrong in
     let there = here_before plan before now i place old at read.cells.rest in
     ap (first_or other) (read.sound
     ∙ ap (λ ps. cell_faults rules fs ps (state_types (drop i before))) (here_places plan before now i place old at)
@@ -168,41 +169,17 @@ first_fault-here plan b before now left begin i next place old given read at beg
 pub cells_fault : (plan : RangePlan) (b : List ℕ) (before now after : List BufferValue) (left begin : RowRest) (i next place : ℕ) (old : BufferValue) (wrong : CellFault)
     → HasReadColumns plan b before now left i next → IsAt plan before now i place old
     → fields_left (marks_of plan.dialect) begin ≡ drop (place - next) (fields_left (marks_of plan.dialect) left)
-    → IsCellFault wrong (cell (rules_of plan) place old.dtype (field_at (fields_left (marks_of plan.dialect) begin) 0)) → after ≡ now
+    → IsCellFault wrong (cell (rules_of plan) place old.dtype (field_in (fields_left (marks_of plan.dialect) begin) 0)) → after ≡ now
     → IsCellsFault plan b before after i (row_fault_of place wrong)
 cells_fault plan b before now after left begin i next place old wrong read at begin_is fault kept =
     let rules = rules_of plan in
     record {
       few = omega (arith, at.inside, at.same);
       added = record { front = ap (take i) kept ∙ read.cells.front; rest = ap (drop i) kept ∙ read.cells.rest };
-      first = row_fault-is wrong (cell rules place old.dtype (field_at (fields_left (marks_of plan.dialect) begin) 0)) place
+      first = row_fault-is wrong (cell rules place old.dtype (field_in (fields_left (marks_of plan.dialect) begin) 0)) place
           (first_fault rules (plan_columns plan before) (row_at (marks_of plan.dialect) b)) fault
           (λ given is. first_fault-here plan b before now left begin i next place old given read at begin_is is);
     }
-
--- all columns were read
-pub HasReadColumns-all : (plan : RangePlan) (b : List ℕ) (before now : List BufferValue) (left : RowRest) (i next : ℕ)
-    → HasReadColumns plan b before now left i next → length now ≤ i → length before ≤ i → length plan.projection.places.now ≡ length before → i ≤ length before
-    → HasAddedCells plan b before now left
-HasReadColumns-all plan b before now left i next read all all_before count past =
-    let rules = rules_of plan in
-    let fs = fields (marks_of plan.dialect) b in
-    let row = row_at (marks_of plan.dialect) b in
-    let places = plan.projection.places.now in
-    let all_places : length places ≤ i = omega arith in
-    let none : drop i places ≡ [] = drop_all i places all_places in
-    record {
-      added =
-          sym (take_all i now all) ∙ read.cells.front
-          ∙ ap (λ ps. with_columns rules (row ∷ []) ps (take i before)) (take_all i places all_places)
-          ∙ ap (with_columns rules (row ∷ []) places) (take_all i before all_before);
-      sound = read.sound ∙ ap (λ ps. cell_faults rules fs ps (state_types (drop i before))) none;
-      left_is = λ whole. read.left_is ∙ ap (λ k. drop k fs) (end whole);
-      behind_is = read.behind_is;
-    }
-  where
-    end : length plan.projection.places.now ≡ plan.projection.width → next ≡ plan.projection.width
-    end whole = omega (arith, read.few, read.inside)
 
 -- the cells of a row are taken back
 pub cells-back : (plan : RangePlan) (row : Row) (n : ℕ) (before now : List BufferValue) → n ≤ length before → length plan.projection.places.now ≡ length before → HaveCells plan row n before now

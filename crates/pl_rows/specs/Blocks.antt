@@ -2,7 +2,7 @@
 use Rattle.std.specs.Prelude.{◌≡◌, ℕ, ◌+◌, ◌-◌, ◌≤◌, true, not, nat_lt, if◌then◌else◌, List, [], ◌++◌, length, take, drop, Option, None, Some, filter}
 use Rattle.std.specs.List.{filter_map, list_any, AllByRecursion}
 use Rattle.pl_scan.specs.Dialect.{marks_of, comment_of}
-use Rattle.pl_cells.specs.BufferValue.{BufferValue, with_values}
+use Rattle.pl_cells.specs.BufferValue.{BufferValue, with_more}
 use Rattle.pl_rows.specs.declared.plan.RangePlan.{RangePlan}
 use Rattle.pl_rows.specs.declared.blocks.BlockRead.{BlockRead}
 use Rattle.pl_rows.specs.declared.blocks.BlockRead.TheVariants as block_read
@@ -47,7 +47,7 @@ pub record HasReadRange (plan : RangePlan) (range : List ℕ) (before now : List
 
 -- the buffer has the cells of a column of rows at its end, none of which has a fault
 pub record HasAddedColumn (plan : RangePlan) (column : ℕ) (given : List Row) (old new : BufferValue) : Type 0 where
-  pub added : new ≡ with_values old (column_cells (rules_of plan) given (column, old.dtype))
+  pub added : new ≡ with_more old (column_cells (rules_of plan) given (column, old.dtype))
   pub sound : AllByRecursion (λ row. column_fault (rules_of plan) row.fields (column, old.dtype) ≡ None) given
 
 -- each buffer has the cells of rows at its end, none of which has a fault

@@ -3,22 +3,22 @@ use Rattle.std.specs.Prelude.{ℕ, List, [], ◌∷◌, length, map, Option}
 use Rattle.pl_frame.specs.declared.data_type.DataType.{DataType}
 use Rattle.pl_frame.specs.Frame.{Scalar, ColumnValue}
 use Rattle.pl_frame.specs.Schema.{Entry}
-use Rattle.pl_cells.specs.BufferValue.{BufferValue, with_values, column_of}
+use Rattle.pl_cells.specs.BufferValue.{BufferValue, column_of, with_more}
 use Rattle.pl_cells.specs.InitBuffers.{entry_at}
 use Rattle.pl_cells.specs.Cells.{value_of}
 use Rattle.pl_rows.specs.Cells.{RowRules, cell}
 use Rattle.pl_rows.specs.Plan.{Columns}
-use Rattle.pl_rows.specs.Rows.{field_at}
+use Rattle.pl_cells.specs.Columns.{field_in}
 use Rattle.pl_table.specs.Rows.{Row}
 
 -- the cells of a column over rows
 abbrev pub column_cells : RowRules → List Row → ℕ × DataType → List (Option Scalar)
-column_cells rules given (column, type) = map (λ row. value_of (cell rules column type (field_at row.fields column))) given
+column_cells rules given (column, type) = map (λ row. value_of (cell rules column type (field_in row.fields column))) given
 
 -- each buffer with the cells of its column over rows at its end, given the columns' places
 abbrev pub with_columns : RowRules → List Row → List ℕ → List BufferValue → List BufferValue
 with_columns rules given (place ∷ places) (buffer ∷ others) =
-    with_values buffer (column_cells rules given (place, buffer.dtype)) ∷ with_columns rules given places others
+    with_more buffer (column_cells rules given (place, buffer.dtype)) ∷ with_columns rules given places others
 with_columns rules given places others = []
 
 -- a column of a frame, given its place in the schema, its name and its type

@@ -9,13 +9,14 @@ use Rattle.pl_rows.specs.declared.range.RangeEnd.TheVariants as end
 use Rattle.pl_rows.specs.Cells.{RowRules, cell}
 use Rattle.pl_rows.specs.Plan.{Columns, rules_of}
 use Rattle.pl_rows.specs.Ranges.{judged_rows, range_end}
-use Rattle.pl_rows.specs.Rows.{field_at, first_faulty}
+use Rattle.pl_cells.specs.Columns.{field_in}
+use Rattle.pl_rows.specs.Rows.{first_faulty}
 
 -- a record with one empty field more at its end means the same cells, whatever the types and the texts that mean null: a
 -- missing field is the empty field
 abbrev pub MissingIsEmpty : Type 0
 MissingIsEmpty = (rules : RowRules) (type : DataType) (fs : List (List ℕ)) (column : ℕ)
-    → cell rules column type (field_at (fs ++ [] ∷ []) column) ≡ cell rules column type (field_at fs column)
+    → cell rules column type (field_in (fs ++ [] ∷ []) column) ≡ cell rules column type (field_in fs column)
 
 -- without a limit a range is open exactly where it is not the last one, it ends within a quoted field, and none of its
 -- judged rows has a fault

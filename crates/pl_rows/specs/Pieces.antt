@@ -28,10 +28,17 @@ pub record EndsItem (dialect : Dialect) (text : List ℕ) : Type 0 where
   pub ended : IsEnded dialect.eol_char text
   pub closed : ends_open (marks_of dialect) (comment_of dialect) text ≡ false
 
+-- whether a range was read behind all of its rows
 abbrev pub is_closed : RangeEnd → Bool
 is_closed end.Closed = true
 is_closed end.Open = false
 is_closed (end.Fault row column kind) = false
+
+-- whether a range ended before a row that has a fault
+abbrev pub is_fault : RangeEnd → Bool
+is_fault end.Closed = false
+is_fault end.Open = false
+is_fault (end.Fault row column kind) = true
 
 -- a limit of rows, less so many
 abbrev pub left_limit : Option ℕ → ℕ → Option ℕ
@@ -65,10 +72,11 @@ pub record HasReadPiece (plan : RangePlan) (piece : List ℕ) (before now : List
   pub read : HaveAllRows plan (rows_of plan piece) before now
   pub count : n ≡ length (rows_of plan piece)
 
--- what was read of a piece: it is closed exactly where it was read to its end and ends where an item does; where it is not, the
--- buffers are as they were
+-- what was read of a piece: it is closed exactly where it was read to its end and ends where an item does, and it stops exactly where a
+-- row of it has a fault; where it is not closed, the buffers are as they were
 pub record IsPieceRead (plan : RangePlan) (piece : List ℕ) (before now : List BufferValue) (done : PieceDone) : Type 0 where
   pub told : done.closed ≡ (is_closed (range_end plan (plan_columns plan before) piece) && ends_item plan.dialect piece)
+  pub stops : done.stops ≡ is_fault (range_end plan (plan_columns plan before) piece)
   pub ends : done.closed ≡ true → EndsItem done.dialect piece
   pub read : done.closed ≡ true → HasReadPiece plan piece before now done.rows
   pub kept : done.closed ≡ false → now ≡ before

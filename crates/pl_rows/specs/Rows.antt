@@ -6,20 +6,17 @@ use Rattle.pl_frame.specs.declared.error.FaultKind.{FaultKind}
 use Rattle.pl_frame.specs.declared.error.FaultKind.TheVariants as fault
 use Rattle.pl_table.specs.Rows.{Row}
 use Rattle.pl_cells.specs.Cells.{fault_of}
+use Rattle.pl_cells.specs.Columns.{field_in}
 use Rattle.pl_rows.specs.Cells.{RowRules, cell}
 use Rattle.pl_rows.specs.Plan.{Columns}
 
--- the field of a column, where a missing one counts as the empty one
-abbrev pub field_at : List (List ℕ) → ℕ → List ℕ
-field_at fs column = unwrap_or (slice_get fs column) []
-
 -- the fault of a column's cell, if it has one
 abbrev pub column_fault : RowRules → List (List ℕ) → ℕ × DataType → Option (ℕ × FaultKind)
-column_fault rules fs (column, type) = elim (fault_of (cell rules column type (field_at fs column))) [ None ↦ None | Some kind ↦ Some (column, kind) ]
+column_fault rules fs (column, type) = elim (fault_of (cell rules column type (field_in fs column))) [ None ↦ None | Some kind ↦ Some (column, kind) ]
 
 -- one field too many, empty, whose separator is the last byte of the text
 abbrev pub is_forgiven : ℕ → Row → Bool
-is_forgiven width row = row.is_end && (length row.fields == width + 1 && length (field_at row.fields width) == 0)
+is_forgiven width row = row.is_end && (length row.fields == width + 1 && length (field_in row.fields width) == 0)
 
 -- more fields than columns, where they are not passed over
 abbrev pub excess_fault : Bool → ℕ → Row → Option (ℕ × FaultKind)

@@ -5,7 +5,7 @@ ghost use Rattle.pl_scan.specs.Dialect.{marks_of};
 ghost use Rattle.pl_cells.specs.BufferValue.{BufferValue};
 ghost use Rattle.pl_cells.specs.InitBuffers.{empty_buffers, first_unreadable};
 ghost use Rattle.pl_cells.specs.NullValues.{HaveTexts};
-ghost use Rattle.pl_rows.specs.Apart.{ReadsApart, IsReadApart};
+ghost use Rattle.pl_rows.specs.Apart.{ReadsApart, IsReadApart, IsToldApart};
 ghost use Rattle.pl_rows.specs.Plan.{states, AreRising};
 
 use crate::columns::empty_buffers;
@@ -38,8 +38,8 @@ impl Reading for Brand {
     ghost reads = { λ _ _ _. Unit {0} };
 }
 
-/// What was read of a piece, into columns of its own: from which place on and up to which, so many rows. Where it is not
-/// closed the columns are empty.
+/// What was read of a piece, into columns of its own: the place where it begins and the place where it ends, and the number of its
+/// rows. Where it is not closed the columns are empty.
 #[derive(Drop)]
 pub struct PieceColumns<K: Reading> {
     pub buffers: Vec<Buffer>,
@@ -118,7 +118,8 @@ pub(crate) fn roomy_buffers(
     Ok(buffers)
 }
 
-/// Reads a piece into columns of its own, as a range that is not the last one. Refuses only want of memory.
+/// Reads a piece into columns of its own, as a range that is not the last one. What it says of itself is exact: whether it closed, and
+/// whether a row of it has a fault. Refuses only want of memory.
 pub fn read_apart<K: Reading>(
     alloc: Global,
     schema: &Schema,
@@ -134,7 +135,9 @@ pub fn read_apart<K: Reading>(
     requires meant { (now : List BufferValue) (rows : ℕ)
         → ReadsApart plan.now (empty_buffers plan.now.dialect.quote_char plan.now.options.encoding schema.now plan.now.projection.places.now) piece.now.text now rows
         → K.reads piece.now.text now rows }
-    ensures { IfOk result (λ done. IsReadApart K.range K.reads piece.now.text done.from done.to done.closed (states done.buffers.items) done.rows) }
+    ensures read { IfOk result (λ done. IsReadApart K.range K.reads piece.now.text done.from done.to done.closed (states done.buffers.items) done.rows) }
+    ensures told { IfOk result (λ done. IsToldApart plan.now (empty_buffers plan.now.dialect.quote_char plan.now.options.encoding schema.now plan.now.projection.places.now) piece.now.text
+        done.closed done.stops (states done.buffers.items)) }
 {
     let mut buffers = roomy_buffers(alloc, schema, piece.bytes(), plan)?;
     let plan = plan_behind(plan, 0, false);

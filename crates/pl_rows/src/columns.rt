@@ -125,10 +125,7 @@ pub fn read_columns_in_pieces<G: Gate>(
     let places = plan.projection.places;
     let quote_char = plan.dialect.quote_char;
     let mut buffers = empty_buffers(alloc, schema, places, quote_char, plan.options.encoding)?;
-    let read = read_pieces(alloc, &mut buffers, range, plan, piece_size, gate)?;
+    let end = read_pieces(alloc, &mut buffers, range, plan, piece_size, gate)?;
     let columns = into_columns(alloc, buffers)?;
-    Ok(RangeColumns {
-        columns,
-        end: read.end,
-    })
+    Ok(RangeColumns { columns, end })
 }

@@ -3,7 +3,7 @@ ghost use Rattle.std.specs.Prelude.{◌≡◌, ◌≤◌, ℕ, List, None, Some,
 ghost use Rattle.std.specs.List.{AllByRecursion};
 ghost use Rattle.pl_frame.specs.Dialect.{AreDistinct, IsDialect};
 ghost use Rattle.pl_scan.specs.Dialect.{marks_of, comment_of};
-ghost use Rattle.pl_cells.specs.BufferValue.{BufferValue, with_values};
+ghost use Rattle.pl_cells.specs.BufferValue.{BufferValue, with_more};
 ghost use Rattle.pl_cells.specs.InitBuffers.{empty_buffers, state_of};
 ghost use Rattle.pl_cells.specs.NullValues.{HaveTexts};
 ghost use Rattle.pl_rows.specs.Apart.{AreEmpty, ReadsApart, all_joined, column_joined, values_at};
@@ -75,7 +75,7 @@ pub fn front_of<'b, K: Reading>(
 // Puts the cells that a piece has of a column behind those of a buffer. Refuses only want of memory.
 fn append_column(buffer: &mut Buffer, part: &[Buffer], column: usize) -> Result<(), AllocError>
     requires { slice_get (state_types (states part.now)) column ≡ Some (state_of buffer.old).dtype }
-    ensures { OnOk result (state_of buffer.new ≡ with_values (state_of buffer.old) (values_at column (states part.now))) }
+    ensures { OnOk result (state_of buffer.new ≡ with_more (state_of buffer.old) (values_at column (states part.now))) }
 {
     match part.get(column) {
         Some(other) => buffer.append(other),

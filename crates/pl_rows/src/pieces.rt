@@ -1,10 +1,10 @@
 //! A range read piece by piece: pieces of guessed size, as far as each ends where an item does, and the rest as one range.
-ghost use Rattle.std.specs.Prelude.{◌≡◌, ◌*◌, ◌<◌, ◌≤◌, ◌&&◌, true, false, Some, None, IfOk, OnOk, OnErr, length, drop};
+ghost use Rattle.std.specs.Prelude.{◌≡◌, ◌<◌, ◌≤◌, ◌&&◌, true, false, Some, None, IfOk, OnOk, OnErr, length, drop};
 ghost use Rattle.pl_frame.specs.Dialect.{IsDialect, AreDistinct};
 ghost use Rattle.pl_scan.specs.Dialect.{marks_of, comment_of};
 ghost use Rattle.pl_rows.specs.declared.range.RangeEnd.TheVariants as end;
 ghost use Rattle.pl_rows.specs.Blocks.{HasReadRows};
-ghost use Rattle.pl_rows.specs.Pieces.{is_ended, ends_item, is_closed, IsWhole, IsRowFit, plan_behind, end_behind, IsPieceRead};
+ghost use Rattle.pl_rows.specs.Pieces.{is_ended, ends_item, is_closed, is_fault, IsWhole, IsRowFit, plan_behind, end_behind, IsPieceRead};
 ghost use Rattle.pl_rows.specs.Plan.{states, plan_columns, CanRead};
 ghost use Rattle.pl_rows.specs.Ranges.{range_end, with_range};
 
@@ -60,6 +60,16 @@ fn ends_with(bytes: &[u8], byte: u8) -> bool
     }
 }
 
+// Whether a range ended before a row that has a fault.
+fn is_fault(end: RangeEnd) -> bool
+    ensures { result ≡ is_fault end }
+{
+    match end {
+        RangeEnd::Closed | RangeEnd::Open => false,
+        RangeEnd::Fault { .. } => true,
+    }
+}
+
 // Whether a piece ends where an item does, given what was read of it: behind a line end, and not within a quoted field. Only
 // where the limit was reached in the piece is the latter not known from what was read.
 fn ends_item(piece: &[u8], read: RangeRead, plan: &RangePlan<'_>) -> bool
@@ -110,7 +120,7 @@ pub(crate) fn read_piece<'a>(
         dialect: plan.dialect,
         rows: read.rows,
         closed,
-        stops: matches!(read.end, RangeEnd::Fault { .. }),
+        stops: is_fault(read.end),
     })
 }
 
@@ -131,12 +141,11 @@ pub fn plan_behind<'a>(plan: &RangePlan<'a>, rows: usize, last: bool) -> RangePl
     }
 }
 
-// How far a range was read in pieces: so many rows, up to a place; and of how many bytes pieces were read for it.
+// How far a range was read in pieces: the number of rows, and the place up to which they stand.
 #[derive(Clone, Copy)]
 struct Front {
     rows: usize,
     end: usize,
-    bytes: usize,
 }
 
 // Reads a range into the buffers in pieces that a board hands out, as long as each ends where an item does. A last piece
@@ -153,8 +162,7 @@ fn read_front<G: Gate>(
     requires dialect { IsDialect (marks_of plan.now.dialect) (comment_of plan.now.dialect) }
     requires size { 0 < piece_size }
     ensures read { HasReadRows plan.now range.now (states buffers.old) (states buffers.new) (drop result.end range.now) result.rows }
-    ensures end { result.end ≤ result.bytes }
-    ensures bytes { result.bytes ≤ length range.now }
+    ensures end { result.end ≤ length range.now }
 {
     let dialect = plan.dialect;
     let mut board = BoardState::new(
@@ -165,11 +173,7 @@ fn read_front<G: Gate>(
         dialect.eol_char,
         plan.limit,
     );
-    let mut front = Front {
-        rows: 0,
-        end: 0,
-        bytes: 0,
-    };
+    let mut front = Front { rows: 0, end: 0 };
     for _ in 0..usize::MAX {
         let Ok(Some(piece)) = board.take() else {
             break;
@@ -180,7 +184,6 @@ fn read_front<G: Gate>(
         }
         let number = piece.number();
         gate.before(number);
-        front.bytes = end;
         let plan = plan_behind(plan, front.rows, false);
         let Ok(done) = read_piece(alloc, buffers, piece.bytes(), &plan) else {
             break;
@@ -196,13 +199,6 @@ fn read_front<G: Gate>(
         front.end = end;
     }
     front
-}
-
-/// Where the reading of a range in pieces ended, and how many bytes were read for it: pieces and, behind them, one range.
-#[derive(Clone, Copy, Debug, PartialEq, Eq)]
-pub struct PiecesRead {
-    pub end: RangeEnd,
-    pub bytes: usize,
 }
 
 /// Where a range ended whose rows stand behind so many others. Takes no memory.
@@ -221,9 +217,9 @@ pub fn end_behind(rows: usize, end: RangeEnd) -> RangeEnd
     }
 }
 
-/// Reads the records of a range into the buffers, as `read_range` does, but piece by piece: each piece is of about so many bytes
-/// and ends by a guess, and where a guess was wrong, all from that piece's start on is read as one range. So no byte is read
-/// more than twice, whatever the size (docs/pieces.md). Refuses only want of memory; the buffers are then as they were.
+/// Reads the records of a range into the buffers, as `read_range` does, but piece by piece: each piece has about `piece_size` bytes
+/// and ends by a guess, and where a guess was wrong, all from that piece's start on is read as one range (docs/pieces.md). The
+/// answer is where the reading ended. Refuses only want of memory; the buffers are then as they were.
 pub fn read_pieces<G: Gate>(
     alloc: Global,
     buffers: &mut [Buffer],
@@ -231,24 +227,18 @@ pub fn read_pieces<G: Gate>(
     plan: &RangePlan<'_>,
     piece_size: usize,
     gate: &G,
-) -> Result<PiecesRead, AllocError>
+) -> Result<RangeEnd, AllocError>
     requires can { CanRead plan.now (states buffers.old) }
     requires dialect { IsDialect (marks_of plan.now.dialect) (comment_of plan.now.dialect) }
     requires size { 0 < piece_size }
-    ensures end { IfOk result (λ read. read.end ≡ range_end plan.now (plan_columns plan.now (states buffers.old)) range.now) }
+    ensures end { IfOk result (λ end. end ≡ range_end plan.now (plan_columns plan.now (states buffers.old)) range.now) }
     ensures added { OnOk result (states buffers.new ≡ with_range plan.now range.now (states buffers.old)) }
-    ensures once { IfOk result (λ read. length range.now ≤ read.bytes) }
-    ensures twice { IfOk result (λ read. read.bytes ≤ 2 * length range.now) }
     ensures kept { OnErr result (states buffers.new ≡ states buffers.old) }
 {
     let front = read_front(alloc, buffers, range, plan, piece_size, gate);
-    let rest = &range[front.end..];
     let last = plan_behind(plan, front.rows, plan.last);
-    match read_range(alloc, buffers, rest, &last) {
-        Ok(end) => Ok(PiecesRead {
-            end: end_behind(front.rows, end),
-            bytes: front.bytes.saturating_add(rest.len()),
-        }),
+    match read_range(alloc, buffers, &range[front.end..], &last) {
+        Ok(end) => Ok(end_behind(front.rows, end)),
         Err(fault) => {
             cut_back(buffers, buffers.len(), front.rows);
             Err(fault)

@@ -1,7 +1,7 @@
 //! The fields of a row, from the left.
 ghost use Rattle.std.specs.Prelude.{◌≡◌, None, length, drop, MatchResult};
 ghost use Rattle.pl_scan.specs.Dialect.{marks_of};
-ghost use Rattle.pl_rows.specs.Rows.{field_at};
+ghost use Rattle.pl_cells.specs.Columns.{field_in};
 ghost use Rattle.pl_rows.specs.RowRest.{fields_left, behind_row, IsBehind, IsDone, HasMore};
 
 use crate::row::RowFault;
@@ -33,7 +33,7 @@ fn behind_field(others: &[u8], separator: u8) -> RowRest<'_>
 /// The next field, or the empty one where there is none, and what is left of the row behind it.
 #[inline(always)]
 pub fn next_field<'a>(rest: RowRest<'a>, dialect: &Dialect<'_>) -> (&'a [u8], RowRest<'a>)
-    ensures field { result.0.now ≡ field_at (fields_left (marks_of dialect.now) rest.entry) 0 }
+    ensures field { result.0.now ≡ field_in (fields_left (marks_of dialect.now) rest.entry) 0 }
     ensures left { fields_left (marks_of dialect.now) result.1 ≡ drop 1 (fields_left (marks_of dialect.now) rest.entry) }
     ensures behind { behind_row (marks_of dialect.now) result.1 ≡ behind_row (marks_of dialect.now) rest.entry }
 {

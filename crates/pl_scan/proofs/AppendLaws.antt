@@ -20,11 +20,6 @@ use Rattle.pl_scan.proofs.RecordLaws.{cut_field-before, fields-text}
 
 -- ---- texts whose last byte is a line end
 
--- a list with a last byte, whatever is taken for that of the empty list
-pub IsEnded-last : (e : ℕ) (b : List ℕ) → last_or None b ≡ Some e → IsEnded e b
-IsEnded-last e [] last = refl
-IsEnded-last e (x ∷ xs) last = last
-
 ended-tail : (e x : ℕ) (xs : List ℕ) → IsEnded e (x ∷ xs) → IsEnded e xs
 ended-tail e x [] ended = refl
 ended-tail e x (y ∷ ys) ended = ended

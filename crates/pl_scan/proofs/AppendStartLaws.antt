@@ -5,7 +5,7 @@ use Rattle.std.specs.List.{prefix_len, starts_with, list_all}
 use Rattle.std.proofs.lemmas.Bool.Decides.{nat_tests}
 use Rattle.std.proofs.lemmas.List.{drop-append-le}
 use Rattle.pl_frame.specs.Dialect.{Marks, IsCommentPrefix, IsDialect}
-use Rattle.pl_frame.specs.Text.{byte_order_mark}
+use Rattle.pl_frame.specs.ByteOrderMark.{byte_order_mark}
 use Rattle.pl_scan.specs.Comment.{is_comment}
 use Rattle.pl_scan.specs.Items.{ItemText, text_of, item}
 use Rattle.pl_scan.specs.Laws.{IsEnded}

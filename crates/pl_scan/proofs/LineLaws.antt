@@ -80,11 +80,6 @@ shortest-is quote e even (x ∷ xs) =
 pub line-len : (quote : Option ℕ) (e : ℕ) (b : List ℕ) → (unwrap_or (find (is_even_cut quote e) (splits b)) (b, [])).0 ≡ take (len_from quote e true b) b
 line-len quote e b = shortest-is quote e true b
 
--- one turn of a loop
-pub len_from-more : (quote : Option ℕ) (e : ℕ) (even : Bool) (b : List ℕ) (i : ℕ) → i < length b → (even && begins_end quote e (get_or b i 0 ∷ [])) ≡ false
-    → len_from quote e even (drop i b) ≡ 1 + len_from quote e (cond (is_quote quote (get_or b i 0)) (not even) even) (drop (i + 1) b)
-len_from-more quote e even b i inside on = rw (drop_more b i 0 inside, on) refl
-
 pub len_from-stop : (quote : Option ℕ) (e : ℕ) (even : Bool) (b : List ℕ) (i : ℕ) → i < length b → (even && begins_end quote e (get_or b i 0 ∷ [])) ≡ true
     → len_from quote e even (drop i b) ≡ 0
 len_from-stop quote e even b i inside stop = rw (drop_more b i 0 inside, stop) refl

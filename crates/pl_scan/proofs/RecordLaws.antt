@@ -82,10 +82,6 @@ fields-text m b distinct = text_within m distinct (length b + 1) b (omega arith)
 even-odd : (n : ℕ) → is_even n ≡ true → (n % 2 == 1) ≡ false
 even-odd n h = grind (arith, nat_tests)
 
-and_no : (t : Bool) → (t && false) ≡ false
-and_no true = refl
-and_no false = refl
-
 -- a field before a byte is closed
 pub closed_field : (m : Marks) (b : List ℕ) (x : ℕ) (t : List ℕ) → AreDistinct m → (cut_field m b).1 ≡ x ∷ t → is_open m (field m b) ≡ false
 closed_field m b x t distinct is =

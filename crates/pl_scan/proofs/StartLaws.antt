@@ -6,7 +6,7 @@ use Rattle.std.specs.Option.{option_map, option_and_then}
 use Rattle.std.proofs.lemmas.Bool.{cases_lt}
 use Rattle.std.proofs.lemmas.List.{drop_all}
 use Rattle.pl_frame.specs.Dialect.{Marks}
-use Rattle.pl_frame.specs.Text.{byte_order_mark}
+use Rattle.pl_frame.specs.ByteOrderMark.{byte_order_mark}
 use Rattle.pl_scan.specs.Comment.{is_comment}
 use Rattle.pl_scan.specs.Items.{ItemText, text_of, item, items}
 use Rattle.pl_scan.specs.Start.{unless_empty, skip_line, skip_lines, cut_ends, behind_item, pass_items, pass_comments, pass_comments_within, pass_header, cut_mark, cut_head, Skips, data_left, start}
@@ -33,9 +33,6 @@ skip_lines-turn e n i b h = let more : n - i ≡ suc (n - (i + 1)) = omega arith
 pub pass_items-turn : (m : Marks) (comment : Option (List ℕ)) (n i : ℕ) (b : List ℕ) → i < n → 0 < length b → pass_items m comment (n - i) b ≡ pass_items m comment (n - (i + 1)) (behind_item m comment b)
 pass_items-turn m comment n i [] h some = absurd (omega arith)
 pass_items-turn m comment n i (x ∷ xs) h some = let more : n - i ≡ suc (n - (i + 1)) = omega arith in ap (λ k. pass_items m comment k (x ∷ xs)) more
-
-pub pass_items-end : (m : Marks) (comment : Option (List ℕ)) (n i : ℕ) (b : List ℕ) → i < n → b ≡ [] → pass_items m comment (n - i) b ≡ None
-pass_items-end m comment n i b h empty = let more : n - i ≡ suc (n - (i + 1)) = omega arith in ap (λ k. pass_items m comment k b) more ∙ ap (pass_items m comment (suc (n - (i + 1)))) empty
 
 -- ---- comments
 
@@ -66,16 +63,10 @@ pass_comments-turn m comment (x ∷ xs) some is =
     chosen : is_comment comment (x ∷ xs) ≡ true → pass_comments m comment (x ∷ xs) ≡ pass_comments_within m comment (length xs) (behind_item m comment (x ∷ xs))
     chosen is = ap (λ (t : Bool). elim t as (λ _. List ℕ) [ true ↦ pass_comments_within m comment (length xs) (behind_item m comment (x ∷ xs)) | false ↦ x ∷ xs ]) is
 
-pub pass_comments-nil : (m : Marks) (comment : Option (List ℕ)) (b : List ℕ) → b ≡ [] → pass_comments m comment b ≡ b
-pass_comments-nil m comment b empty = ap (pass_comments m comment) empty ∙ sym empty
-
 pub pass_comments-end : (m : Marks) (comment : Option (List ℕ)) (b : List ℕ) → is_comment comment b ≡ false → pass_comments m comment b ≡ b
 pass_comments-end m comment [] _ = refl
 pass_comments-end m comment (x ∷ xs) is =
     ap (λ (t : Bool). elim t as (λ _. List ℕ) [ true ↦ pass_comments_within m comment (length xs) (behind_item m comment (x ∷ xs)) | false ↦ x ∷ xs ]) is
-
-pub cut_ends-more : (e x : ℕ) (b : List ℕ) → (x == e || x == 13) ≡ true → cut_ends e (x ∷ b) ≡ cut_ends e b
-cut_ends-more e x b is = rw (is, one-add) refl
 
 pub cut_ends-stop : (e x : ℕ) (b : List ℕ) → (x == e || x == 13) ≡ false → cut_ends e (x ∷ b) ≡ x ∷ b
 cut_ends-stop e x b is = rw is refl
@@ -87,20 +78,6 @@ behind_item-is m comment b first n rest is len left = left ∙ ap (λ k. drop (k
 
 some-same : (b r : List ℕ) → ◌≡◌ {A = Option (List ℕ)} (Some b) (Some r) → b ≡ r
 some-same b r is = cc
-
--- the items behind n of them
-pub items-pass_items : (m : Marks) (comment : Option (List ℕ)) (n : ℕ) (b r : List ℕ) → pass_items m comment n b ≡ Some r → items m comment r ≡ drop n (items m comment b)
-items-pass_items m comment zero b r is = ap (items m comment) (sym (some-same b r is))
-items-pass_items m comment (suc n) [] r is = cc
-items-pass_items m comment (suc n) (x ∷ xs) r is =
-    items-pass_items m comment n (behind_item m comment (x ∷ xs)) r is ∙ ap (drop (suc n)) (sym (items-step m comment (x ∷ xs) (omega arith)))
-
--- there are fewer than n
-pub items-too_few : (m : Marks) (comment : Option (List ℕ)) (n : ℕ) (b : List ℕ) → pass_items m comment n b ≡ None → length (items m comment b) < n
-items-too_few m comment zero b is = cc
-items-too_few m comment (suc n) [] is = rw (items-nil m comment) (omega arith)
-items-too_few m comment (suc n) (x ∷ xs) is =
-    let fewer = items-too_few m comment n (behind_item m comment (x ∷ xs)) is in rw (items-step m comment (x ∷ xs) (omega arith)) (omega arith)
 
 -- ---- what is left, behind the skipped rows
 
@@ -203,16 +180,3 @@ IsEndOf-place b r is =
             ap (λ n. drop n b) all ∙ drop_all (length b) b (omega arith) ∙ sym (drop_all is.0 b past) ∙ is.1
       ],
     )
-
--- what is left stands behind the starting point
-pub data_left-start : (o : Skips) (keep : Bool) (m : Marks) (comment : Option (List ℕ)) (b : List ℕ) (n : ℕ) → start o keep m comment b ≡ Some n
-    → (n ≤ length b) × (data_left o keep m comment b ≡ Some (drop n b))
-data_left-start o keep m comment b n is = by_rest (data_left o keep m comment b) refl is
-  where
-    by_rest : (some : Option (List ℕ)) → data_left o keep m comment b ≡ some → option_map (λ rest. length b - length rest) some ≡ Some n
-        → (n ≤ length b) × (data_left o keep m comment b ≡ Some (drop n b))
-    by_rest None _ is = cc
-    by_rest (Some r) e is =
-        let place = IsEndOf-place b r (IsEndOf-data_left o keep m comment b r e) in
-        let same : length b - length r ≡ n = cc in
-        (omega arith, e ∙ ap (λ (l : List ℕ). Some l) (sym place.1 ∙ ap (λ k. drop k b) same))

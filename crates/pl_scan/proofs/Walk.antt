@@ -163,18 +163,3 @@ HasRead-more m b i even even' read inside on next = rw (take_more b i 0 inside) 
   runs = Runs-push m 0 (take i b) (get_or b i 0) read.runs (rw (zero-add, ← read.parity) on);
   parity = rw (quotes-push, is_even-mark, ← read.parity) next;
 }
-
--- bytes that no loop stops at and that are no quotes leave the parity as it is
-pub HasRead-pass : (m : Marks) (b : List ℕ) (even : Bool) (n i : ℕ) → HasRead m (take i b) even → i + n ≤ length b
-    → ((k : ℕ) → k < n → (is_quote m.quote (get_or b (i + k) 0) ≡ false) × ((even && not (is_plain m (get_or b (i + k) 0))) ≡ false))
-    → HasRead m (take (i + n) b) even
-HasRead-pass m b even zero i read _ _ = rw add-zero read
-HasRead-pass m b even (suc n) i read fits pass =
-    let here = pass 0 (omega arith) in
-    let same : even ≡ cond (is_quote m.quote (get_or b i 0)) (not even) even = rw (rw add-zero at here.0) refl in
-    let next = HasRead-more m b i even even read (omega arith) (rw add-zero at here.1) same in
-    let more = HasRead-pass m b even n (i + 1) next (omega arith) (λ k h. rw (one_more i k) (pass (suc k) (omega arith))) in
-    subst (λ j. HasRead m (take j b) even) (one_more i n) more
-  where
-    one_more : (i n : ℕ) → (i + 1) + n ≡ i + suc n
-    one_more i n = omega arith

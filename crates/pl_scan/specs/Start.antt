@@ -3,7 +3,7 @@ use Rattle.std.specs.Prelude.{ℕ, zero, suc, ◌+◌, ◌-◌, ◌<◌, Bool, t
 use Rattle.std.specs.List.{prefix_len, starts_with}
 use Rattle.std.specs.Option.{option_map, option_and_then}
 use Rattle.pl_frame.specs.Dialect.{Marks, IsDialect}
-use Rattle.pl_frame.specs.Text.{byte_order_mark}
+use Rattle.pl_frame.specs.ByteOrderMark.{byte_order_mark}
 use Rattle.pl_scan.specs.Comment.{is_comment}
 use Rattle.pl_scan.specs.Items.{text_of, item}
 

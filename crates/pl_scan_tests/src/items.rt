@@ -1,5 +1,6 @@
-//! Tests of `pl_scan::items`.
+//! Tests of `pl_scan::items`, and of the measures of a text that rest on its items.
 
+use pl_scan::closes::closes;
 use pl_scan::comment::CommentPrefix;
 use pl_scan::items::{Item, Items, record_len};
 
@@ -7,24 +8,16 @@ use pl_scan::items::{Item, Items, record_len};
 fn gives_comments_records_and_blank_lines(rt: HostRuntime) {
     let prefix = CommentPrefix::new_single(b'#');
     let mut items = Items::new(b"#a\n1,2\n\n", b',', Some(b'"'), b'\n', Some(&prefix));
-    assert_eq!(rt; items.next(), Some(Item::Comment(b"#a")));
-    assert_eq!(rt; items.next(), Some(Item::Record(b"1,2")));
-    assert_eq!(rt; items.next(), Some(Item::Record(b"")));
-    assert_eq!(rt; items.next(), None);
+    assert!(rt; items.next() == Some(Item::Comment(b"#a")));
+    assert!(rt; items.next() == Some(Item::Record(b"1,2")));
+    assert!(rt; items.next() == Some(Item::Record(b"")));
+    assert!(rt; items.next() == None);
 }
 
 #[test]
-fn measures_records(rt: HostRuntime) {
-    for (text, want) in [
-        (b"x\"y\n\"c".as_slice(), 3),
-        (b"\"c\nd\",e\n", 7),
-        (b"", 0),
-        (b"\"c\n", 3),
-    ] {
-        assert_eq!(rt;
-            record_len(text, b',', Some(b'"'), b'\n'),
-            want,
-            "at {text:?}"
-        );
-    }
+fn a_quote_within_a_field_joins_no_lines(rt: HostRuntime) {
+    assert!(rt; record_len(b"x\"y\n\"c\nd\"", b',', Some(b'"'), b'\n') == 3);
+    assert!(rt; record_len(b"\"c\nd\",e\n", b',', Some(b'"'), b'\n') == 7);
+    assert!(rt; closes(b"x\"y\n", b',', Some(b'"'), b'\n', None));
+    assert!(rt; !closes(b"\"c\n", b',', Some(b'"'), b'\n', None));
 }

@@ -2,11 +2,7 @@
 #![tactic(auto)]
 
 #[cfg(test)]
-mod closes;
-#[cfg(test)]
 mod comment;
-#[cfg(test)]
-mod dialect;
 #[cfg(test)]
 mod fields;
 #[cfg(test)]

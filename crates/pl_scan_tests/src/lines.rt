@@ -4,18 +4,8 @@ use pl_scan::lines::SplitLines;
 
 #[test]
 fn keeps_line_ends_between_quotes(rt: HostRuntime) {
-    for (quote, text, first, second) in [
-        (
-            b'"',
-            b"1,\"foo\n\"\n2,\"foo\n\"\n".as_slice(),
-            b"1,\"foo\n\"".as_slice(),
-            b"2,\"foo\n\"".as_slice(),
-        ),
-        (b'\'', b"1,'foo\n'\n2,'foo\n'\n", b"1,'foo\n'", b"2,'foo\n'"),
-    ] {
-        let mut lines = SplitLines::new(text, Some(quote), b'\n', None);
-        assert_eq!(rt; lines.next(), Some(first));
-        assert_eq!(rt; lines.next(), Some(second));
-        assert_eq!(rt; lines.next(), None);
-    }
+    let mut lines = SplitLines::new(b"1,'foo\n'\n2", Some(b'\''), b'\n', None);
+    assert!(rt; lines.next() == Some(b"1,'foo\n'".as_slice()));
+    assert!(rt; lines.next() == Some(b"2".as_slice()));
+    assert!(rt; lines.next() == None);
 }

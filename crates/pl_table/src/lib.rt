@@ -3,4 +3,5 @@
 
 mod block;
 mod index;
+pub mod laws;
 pub mod table;

@@ -4,9 +4,9 @@ use Rattle.std.specs.Fmt.{signed_decimal}
 use Rattle.pl_frame.specs.declared.data_type.DataType.{DataType}
 use Rattle.pl_frame.specs.declared.data_type.DataType.TheVariants as dtype
 use Rattle.pl_frame.specs.Frame.{Truth, Number, Letters, Scalar}
-use Rattle.pl_frame.specs.Printed.{number_text, printed, decimal_text}
+use Rattle.pl_text.specs.ValueText.{number_text, printed, decimal_text}
 use Rattle.pl_frame.specs.Columns.{is_value_of}
-use Rattle.pl_frame.specs.Text.{WriteOptions, written_text, written_value}
+use Rattle.pl_text.specs.FrameText.{WriteOptions, written_text, written_value}
 use Rattle.pl_frame.specs.Types.{is_numeric, is_whole_number}
 use Rattle.pl_round_trip.specs.RoundTrip.{fits_count}
 use Rattle.pl_round_trip.specs.Fits.{FitsValue}

@@ -6,8 +6,8 @@ use Rattle.std.specs.Int.{is_negative}
 use Rattle.std.proofs.lemmas.List.{length-replicate}
 use Rattle.pl_frame.specs.declared.data_type.DataType.TheVariants as dtype
 use Rattle.pl_frame.specs.Frame.{Truth, Number}
-use Rattle.pl_frame.specs.Printed.{padded, point_text, decimal_text, date_text, printed}
-use Rattle.pl_frame.specs.Text.{needs_quotes, quoted}
+use Rattle.pl_text.specs.ValueText.{padded, point_text, decimal_text, date_text, printed}
+use Rattle.pl_text.specs.FrameText.{needs_quotes, quoted}
 use Rattle.pl_frame.specs.Types.{is_within, day_range}
 use Rattle.pl_round_trip.proofs.PlainLaws.{printed-plain}
 use Rattle.pl_verbatim.specs.CellTexts.{IsWholeText, IsDecimalText, IsDateText, IsWrittenText, written}

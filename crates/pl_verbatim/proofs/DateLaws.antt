@@ -10,10 +10,11 @@ use Rattle.std.proofs.lemmas.Fmt.{decimal_digit, decimal_step}
 use Rattle.std.proofs.lemmas.List.{drop-drop, drop-take, length-drop, length-take-le, take_all}
 use lib.Lanes.{chunk}
 use Rattle.jiff_core.specs.Calendar.{IsCivilDate, days_from_civil}
-use Rattle.pl_frame.specs.Printed.{padded, civil, civil_text}
-use Rattle.pl_cells.specs.Lanes.{IsDateText as HasDateDigits}
+use Rattle.pl_frame.specs.Days.{civil}
+use Rattle.pl_text.specs.ValueText.{padded, civil_text}
+use Rattle.pl_cells.specs.Lanes.{HasDateDigits}
 use Rattle.pl_cells.proofs.DateLaws.{day-within}
-use Rattle.pl_write.proofs.DateLaws.{date_text-is}
+use Rattle.pl_text.proofs.DateLaws.{date_text-is}
 use Rattle.pl_verbatim.specs.CellTexts.{IsDateText}
 
 -- ---- numbers in a fixed number of digits

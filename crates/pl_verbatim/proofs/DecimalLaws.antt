@@ -8,7 +8,7 @@ use Rattle.std.proofs.lemmas.Bool.{cases_eq, cases_lt, ne_eqb}
 use Rattle.std.proofs.lemmas.Fmt.{decimal_digit, length-decimal-le_wide}
 use Rattle.std.proofs.lemmas.List.{take_at, drop_at}
 use mathlib.Core.Logic.{inl, inr}
-use Rattle.pl_frame.specs.Printed.{padded, point_text}
+use Rattle.pl_text.specs.ValueText.{padded, point_text}
 use Rattle.pl_cells.specs.Integers.{number_after, number_of}
 use Rattle.pl_cells.proofs.IntegerLaws.{all_ascii_digits-append, and_true, number_after-append, number_after-ge}
 use Rattle.pl_round_trip.proofs.PointLaws.{no_minus}

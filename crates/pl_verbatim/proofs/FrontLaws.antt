@@ -4,7 +4,7 @@ use Rattle.std.specs.Prelude.{Some, slice_range}
 use Rattle.pl_round_trip.specs.RoundTrip.{RowsReturn}
 use Rattle.pl_verbatim.specs.declared.kinds.Kind.{Kind}
 use Rattle.pl_verbatim.specs.declared.verbatim.Verbatim.{Verbatim}
-use Rattle.pl_verbatim.specs.Printing.{IsTextPrinted}
+use Rattle.pl_verbatim.specs.PrintedTexts.{IsTextPrinted}
 use Rattle.pl_verbatim.specs.Kinds.{AreKindsOf}
 use Rattle.pl_verbatim.specs.Verbatim.{IsRowCopied, AreRowsCopied}
 use Rattle.pl_verbatim.proofs.LineLaws.{are-readable, copy-printed}

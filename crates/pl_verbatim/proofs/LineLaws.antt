@@ -11,7 +11,7 @@ use Rattle.pl_frame.specs.declared.error.FaultKind.TheVariants as fault
 use Rattle.pl_frame.specs.Dialect.{AreDistinct}
 use Rattle.pl_frame.specs.Frame.{ColumnValue, cell_at, height_of}
 use Rattle.pl_frame.specs.Schema.{Entry}
-use Rattle.pl_frame.specs.Text.{WriteOptions, written_cell, row_line}
+use Rattle.pl_text.specs.FrameText.{WriteOptions, written_cell, row_line}
 use Rattle.pl_frame.specs.Types.{is_readable}
 use Rattle.pl_scan.specs.Closing.{ends_open, have_open_end}
 use Rattle.pl_scan.specs.Comment.{prefix_of}
@@ -29,7 +29,8 @@ use Rattle.pl_rows.specs.Cells.{cell}
 use Rattle.pl_rows.specs.Columns.{read_column, frame_of_rows, entries_in, columns_in}
 use Rattle.pl_rows.specs.Pieces.{EndsItem}
 use Rattle.pl_rows.specs.Plan.{rules_of}
-use Rattle.pl_rows.specs.Rows.{field_at, column_fault, is_forgiven, passes_excess, first_fault}
+use Rattle.pl_cells.specs.Columns.{field_in}
+use Rattle.pl_rows.specs.Rows.{column_fault, is_forgiven, passes_excess, first_fault}
 use Rattle.pl_rows.specs.WholePieces.{IsSoundText, text_frame}
 use Rattle.pl_rows.proofs.OpenLaws.{is_open_row, open_rows}
 use Rattle.pl_rows.proofs.RangeLaws.{rows-step}
@@ -38,7 +39,7 @@ use Rattle.pl_round_trip.specs.Fits.{FitsOptions}
 use Rattle.pl_round_trip.specs.RoundTrip.{IsFieldText, RowsReturn, line_marks, line_of}
 use Rattle.pl_verbatim.specs.CellTexts.{IsCopyOf}
 use Rattle.pl_verbatim.specs.Kinds.{AreReadable}
-use Rattle.pl_verbatim.specs.Printing.{CanPrint, IsTextPrinted}
+use Rattle.pl_verbatim.specs.PrintedTexts.{CanPrint, IsTextPrinted}
 use Rattle.pl_verbatim.proofs.CopyLaws.{cell-copy}
 use Rattle.pl_verbatim.specs.Verbatim.{AreCellsOf, AreCopiesOf, IsLineOf, IsLineCopyOf, IsWrittenAsRead}
 
@@ -159,29 +160,29 @@ module _ (plan : RangePlan) (schema : List Entry) (o : WriteOptions) (can : CanP
       ∙ here.cell_is reading column given.missing
 
   -- cells without a fault, from a column on
-  no-faults : (all : List (List ℕ)) (a : ℕ) (rest : List Entry) (texts written : List (List ℕ)) → AreCopiesOf o rest texts written → ((k : ℕ) → field_at all (a + k) ≡ field_at texts k)
+  no-faults : (all : List (List ℕ)) (a : ℕ) (rest : List Entry) (texts written : List (List ℕ)) → AreCopiesOf o rest texts written → ((k : ℕ) → field_in all (a + k) ≡ field_in texts k)
       → filter_map (column_fault (rules_of plan) all) (spread (λ k entry. (k, entry.1)) a rest) ≡ []
   no-faults all a [] texts written are same = refl
   no-faults all a (entry ∷ rest) [] written are same = absurd are
   no-faults all a (entry ∷ rest) (text ∷ texts) [] are same = absurd are
   no-faults all a (entry ∷ rest) (text ∷ texts) (one ∷ others) are same =
-      let field : field_at all a ≡ text = ap (field_at all) (let k : a ≡ a + 0 = omega arith in k) ∙ same 0 in
+      let field : field_in all a ≡ text = ap (field_in all) (let k : a ≡ a + 0 = omega arith in k) ∙ same 0 in
       let sound : column_fault (rules_of plan) all (a, entry.1) ≡ None =
       ap (λ c. elim (fault_of c) [ None ↦ None | Some kind ↦ Some (a, kind) ]) (ap (cell (rules_of plan) a entry.1) field ∙ cell-is a entry.1 text one are.0) in
-      let later = no-faults all (a + 1) rest texts others are.1 (λ k. ap (field_at all) (let next : a + 1 + k ≡ a + suc k = omega arith in next) ∙ same (suc k)) in
+      let later = no-faults all (a + 1) rest texts others are.1 (λ k. ap (field_in all) (let next : a + 1 + k ≡ a + suc k = omega arith in next) ∙ same (suc k)) in
       rw sound later
 
   -- their columns
-  columns-are : (all : List (List ℕ)) (a : ℕ) (rest : List Entry) (texts written : List (List ℕ)) (are : AreCopiesOf o rest texts written) → ((k : ℕ) → field_at all (a + k) ≡ field_at texts k)
+  columns-are : (all : List (List ℕ)) (a : ℕ) (rest : List Entry) (texts written : List (List ℕ)) (are : AreCopiesOf o rest texts written) → ((k : ℕ) → field_in all (a + k) ≡ field_in texts k)
       → map (read_column (rules_of plan) (ended_row all ∷ [])) (spread (λ k entry. (k, entry)) a rest) ≡ cell_columns o rest texts written are
   columns-are all a [] texts written are same = refl
   columns-are all a (entry ∷ rest) [] written are same = absurd are
   columns-are all a (entry ∷ rest) (text ∷ texts) [] are same = absurd are
   columns-are all a (entry ∷ rest) (text ∷ texts) (one ∷ others) are same =
-      let field : field_at all a ≡ text = ap (field_at all) (let k : a ≡ a + 0 = omega arith in k) ∙ same 0 in
-      let value : value_of (cell (rules_of plan) a entry.1 (field_at all a)) ≡ are.0.value =
+      let field : field_in all a ≡ text = ap (field_in all) (let k : a ≡ a + 0 = omega arith in k) ∙ same 0 in
+      let value : value_of (cell (rules_of plan) a entry.1 (field_in all a)) ≡ are.0.value =
       ap value_of (ap (cell (rules_of plan) a entry.1) field ∙ cell-is a entry.1 text one are.0) in
-      let later = columns-are all (a + 1) rest texts others are.1 (λ k. ap (field_at all) (let next : a + 1 + k ≡ a + suc k = omega arith in next) ∙ same (suc k)) in
+      let later = columns-are all (a + 1) rest texts others are.1 (λ k. ap (field_in all) (let next : a + 1 + k ≡ a + suc k = omega arith in next) ∙ same (suc k)) in
       (λ j. record { name = entry.0; dtype = entry.1; values = value j ∷ [] } ∷ later j)
 
   module _ (line copy : List ℕ) (is : IsLineCopyOf o schema line copy) where
@@ -247,7 +248,7 @@ module _ (plan : RangePlan) (schema : List Entry) (o : WriteOptions) (can : CanP
 
     no-fault : first_fault (rules_of plan) (columns_in schema plan.projection.places.now) (ended_row texts) ≡ None
     no-fault =
-        let none = ap (filter_map (column_fault (rules_of plan) texts)) typed ∙ no-faults texts 0 schema texts is.written is.copies (λ k. ap (field_at texts) (let same : 0 + k ≡ k = omega arith in same)) in
+        let none = ap (filter_map (column_fault (rules_of plan) texts)) typed ∙ no-faults texts 0 schema texts is.written is.copies (λ k. ap (field_in texts) (let same : 0 + k ≡ k = omega arith in same)) in
         rw (none, no-excess) (none-past (passes_excess (rules_of plan) (columns_in schema plan.projection.places.now)) (is_forgiven (length schema) (ended_row texts)) (length schema, fault.Fields))
 
     sound : IsSoundText plan schema line
@@ -260,7 +261,7 @@ module _ (plan : RangePlan) (schema : List Entry) (o : WriteOptions) (can : CanP
     frame =
         ap (frame_of_rows (rules_of plan) (entries_in schema plan.projection.places.now)) its-row
         ∙ ap (map (read_column (rules_of plan) (ended_row texts ∷ []))) (spread-is (λ k entry. (k, entry)) schema plan.projection.places.now given.places)
-        ∙ columns-are texts 0 schema texts is.written is.copies (λ k. ap (field_at texts) (let same : 0 + k ≡ k = omega arith in same))
+        ∙ columns-are texts 0 schema texts is.written is.copies (λ k. ap (field_in texts) (let same : 0 + k ≡ k = omega arith in same))
 
     lines : all_lines o (text_frame plan schema line) ≡ copy
     lines =

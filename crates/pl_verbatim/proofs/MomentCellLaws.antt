@@ -11,8 +11,8 @@ use Rattle.pl_frame.specs.declared.data_type.DataType.TheVariants as dtype
 use Rattle.pl_frame.specs.declared.data_type.TimeUnit.{TimeUnit}
 use Rattle.pl_frame.specs.declared.data_type.TimeUnit.TheVariants as unit
 use Rattle.pl_frame.specs.Frame.{Scalar, Number}
-use Rattle.pl_frame.specs.Printed.{padded, places_of, date_text, clock_text, datetime_text}
-use Rattle.pl_frame.specs.Text.{WriteOptions, is_special, written_value}
+use Rattle.pl_text.specs.ValueText.{padded, places_of, date_text, clock_text, datetime_text}
+use Rattle.pl_text.specs.FrameText.{WriteOptions, is_special, written_value}
 use Rattle.pl_frame.specs.Types.{is_within, day_range, datetime_range, signed_range, is_narrow, units_in_second}
 use Rattle.pl_cells.specs.Cells.{Reading, Cell, value_or_null, text_cell, plain_cell, softened, stripped_cell, cell}
 use Rattle.pl_cells.specs.Dates.{date_value}
@@ -23,7 +23,7 @@ use Rattle.pl_cells.specs.Quoting.{quote_of}
 use Rattle.pl_cells.specs.Times.{clock_value, fraction_value, in_nanoseconds, time_value, count_of_units, datetime_of, datetime_value}
 use Rattle.pl_cells.specs.Values.{value_of_text}
 use Rattle.pl_cells.proofs.IntegerLaws.{and_true}
-use Rattle.pl_round_trip.specs.RoundTrip.{IsFieldText, are_plain, is_plain, line_marks}
+use Rattle.pl_round_trip.specs.RoundTrip.{IsFieldText, are_plain, line_marks, is_printed_byte}
 use Rattle.pl_round_trip.specs.Fits.{FitsOptions, FitsValue, has_special}
 use Rattle.pl_round_trip.proofs.ClockLaws.{clock-length, clock-returns}
 use Rattle.pl_round_trip.proofs.DayLaws.{date-length, date-returns}
@@ -202,7 +202,7 @@ seconds-printed unit d s few =
 front-plain : (xs ys : List ℕ) → are_plain (xs ++ ys) ≡ true → are_plain xs ≡ true
 front-plain [] ys h = refl
 front-plain (x ∷ xs) ys h =
-    let parts = and_true (is_plain x) (are_plain (xs ++ ys)) h in
+    let parts = and_true (is_printed_byte x) (are_plain (xs ++ ys)) h in
     rw (parts.0, front-plain xs ys parts.1) refl
 
 bare-of : (s q : ℕ) (xs : List ℕ) → lacks s xs ≡ true → lacks 10 xs ≡ true → lacks 13 xs ≡ true → lacks q xs ≡ true → list_any (is_special s q) xs ≡ false

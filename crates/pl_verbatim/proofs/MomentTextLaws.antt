@@ -4,9 +4,9 @@ use Rattle.std.specs.List.{slice_range}
 use Rattle.std.proofs.lemmas.Bool.{eqb-true}
 use Rattle.std.proofs.lemmas.List.{drop-drop, drop-take, length-drop, length-take-le, take_all}
 use lib.Lanes.{chunk}
-use Rattle.pl_frame.specs.Printed.{padded, date_text, clock_text}
+use Rattle.pl_text.specs.ValueText.{padded, date_text, clock_text}
 use Rattle.pl_cells.specs.Integers.{number_of}
-use Rattle.pl_cells.specs.Lanes.{IsClockText as HasClockDigits}
+use Rattle.pl_cells.specs.Lanes.{HasClockDigits}
 use Rattle.pl_verbatim.specs.CellTexts.{IsDateText, IsClockText, IsSecondsText, IsMomentText}
 use Rattle.pl_verbatim.proofs.DateLaws.{pair_of, two_digits}
 use Rattle.pl_verbatim.proofs.DecimalLaws.{padded-digits}

@@ -7,7 +7,7 @@ use Rattle.std.proofs.lemmas.List.Folds.{drop_split}
 use Rattle.pl_frame.specs.Dialect.{IsDialect}
 use Rattle.pl_frame.specs.Frame.{ColumnValue, HaveHeight, height_of}
 use Rattle.pl_frame.specs.Schema.{Entry}
-use Rattle.pl_frame.specs.Text.{WriteOptions}
+use Rattle.pl_text.specs.FrameText.{WriteOptions}
 use Rattle.pl_scan.specs.Dialect.{marks_of, comment_of}
 use Rattle.pl_rows.specs.declared.plan.RangePlan.{RangePlan}
 use Rattle.pl_rows.specs.Cells.{RowRules}
@@ -19,7 +19,7 @@ use Rattle.pl_rows.proofs.SoundTextLaws.{IsSoundText-nil, IsSoundText-append, ro
 use Rattle.pl_table.specs.Rows.{rows}
 use Rattle.pl_write.specs.Batches.{all_lines}
 use Rattle.pl_write.proofs.StackLaws.{lines-stacked}
-use Rattle.pl_verbatim.specs.Printing.{IsTextPrinted, IsFrontPrinted}
+use Rattle.pl_verbatim.specs.PrintedTexts.{IsTextPrinted, IsFrontPrinted}
 
 -- ---- texts
 

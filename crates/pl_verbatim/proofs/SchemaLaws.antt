@@ -17,12 +17,6 @@ places-from a (place ∷ places) all =
 pub places-all : (places : List ℕ) (n : ℕ) → length places ≡ n → ((k : ℕ) → k < length places → slice_index places k ≡ k) → places ≡ range_with_len 0 n
 places-all places n long all = places-from 0 places (λ k below. all k below ∙ (let same : k ≡ 0 + k = omega arith in same)) ∙ ap (range_with_len 0) long
 
--- the type of a column can be read
-pub readable-at : (schema : List Entry) (k : ℕ) (entry : Entry) → AreReadable schema → slice_get schema k ≡ Some entry → is_readable entry.1 ≡ true
-readable-at [] k entry can is = absurd (cc)
-readable-at (first ∷ schema) zero entry can is = let same : first ≡ entry = cc in ap (λ (e : Entry). is_readable e.1) (sym same) ∙ can.0
-readable-at (first ∷ schema) (suc k) entry can is = readable-at schema k entry can.1 is
-
 -- the kind of one column more
 pub kinds-more : (schema : List Entry) (k : ℕ) (entry : Entry) (kinds : List Kind) (kind : Kind) → slice_get schema k ≡ Some entry → AreKindsOf (take k schema) kinds → IsKindOf entry.1 kind
     → AreKindsOf (take (k + 1) schema) (kinds ++ kind ∷ [])

@@ -10,7 +10,7 @@ use Rattle.std.proofs.Math.Seq.{take-add}
 use Rattle.std.specs.List.{list_any, prefix_len, slice_range}
 use Rattle.std.specs.Str.{IsUtf8, is_utf8}
 use Rattle.memchr.specs.Find.{Nowhere, NoneBefore, Passes, is_byte}
-use Rattle.pl_frame.specs.Text.{is_special, needs_quotes, doubled, quoted}
+use Rattle.pl_text.specs.FrameText.{is_special, needs_quotes, doubled, quoted}
 use Rattle.pl_verbatim.specs.CellTexts.{IsWrittenText}
 
 -- bytes are a text with each quote doubled, and where the text is known to need quotes, it does

@@ -11,7 +11,7 @@ use Rattle.std.specs.List.{list_any, prefix_len, slice_range}
 use Rattle.std.specs.Str.{IsAscii, is_utf8}
 use lib.Count.{count_trailing_zeros}
 use lib.Lanes.{mask_l, zip2, top}
-use Rattle.pl_frame.specs.Text.{is_special, needs_quotes, quoted}
+use Rattle.pl_text.specs.FrameText.{is_special, needs_quotes, quoted}
 use Rattle.pl_verbatim.specs.CellTexts.{IsWrittenText, IsBareText}
 
 -- ---- the mask of a vector

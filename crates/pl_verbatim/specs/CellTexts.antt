@@ -6,8 +6,8 @@ use Rattle.std.specs.Str.{is_utf8}
 use Rattle.pl_frame.specs.declared.data_type.DataType.{DataType}
 use Rattle.pl_frame.specs.declared.data_type.DataType.TheVariants as dtype
 use Rattle.pl_frame.specs.Frame.{Scalar, Truth}
-use Rattle.pl_frame.specs.Printed.{padded, date_text, clock_text, decimal_text, printed}
-use Rattle.pl_frame.specs.Text.{WriteOptions, needs_quotes, quoted, written_cell}
+use Rattle.pl_text.specs.ValueText.{padded, date_text, clock_text, decimal_text, printed}
+use Rattle.pl_text.specs.FrameText.{WriteOptions, needs_quotes, quoted, written_cell}
 use Rattle.pl_frame.specs.Types.{is_within, day_range}
 use Rattle.pl_cells.specs.Cells.{Reading, cell}
 use Rattle.pl_cells.specs.NullValues.{means_null}

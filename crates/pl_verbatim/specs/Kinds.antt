@@ -7,7 +7,7 @@ use Rattle.pl_frame.specs.declared.data_type.DataType.TheVariants as dtype
 use Rattle.pl_frame.specs.declared.data_type.TimeUnit.{TimeUnit}
 use Rattle.pl_frame.specs.Columns.{is_value_of}
 use Rattle.pl_frame.specs.Frame.{Number}
-use Rattle.pl_frame.specs.Printed.{places_of}
+use Rattle.pl_text.specs.ValueText.{places_of}
 use Rattle.pl_frame.specs.Schema.{Entry}
 use Rattle.pl_frame.specs.Types.{is_readable, is_whole_number, datetime_range, is_narrow, units_in_second}
 use Rattle.pl_verbatim.specs.declared.kinds.Kind.{Kind}

@@ -1,4 +1,4 @@
-pub mod Printing
+pub mod PrintedTexts
 pub mod CellTexts
 pub mod Kinds
 pub mod Verbatim

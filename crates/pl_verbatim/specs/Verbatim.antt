@@ -3,7 +3,7 @@ use Rattle.std.specs.Prelude.{◌≡◌, ℕ, ◌+◌, ◌<◌, ◌≤◌, true,
 use Rattle.std.specs.List.{join_with_byte, range_with_len}
 use Rattle.pl_frame.specs.declared.data_type.DataType.{DataType}
 use Rattle.pl_frame.specs.Schema.{Entry}
-use Rattle.pl_frame.specs.Text.{WriteOptions}
+use Rattle.pl_text.specs.FrameText.{WriteOptions}
 use Rattle.pl_frame.specs.Types.{is_readable}
 use Rattle.pl_scan.specs.Dialect.{marks_of}
 use Rattle.pl_rows.specs.declared.plan.RangePlan.{RangePlan}
@@ -13,7 +13,7 @@ use Rattle.pl_verbatim.specs.declared.verbatim.Verbatim.{Verbatim}
 use Rattle.pl_verbatim.specs.CellTexts.{IsCellOptions, IsCellOf, IsCopyOf}
 use Rattle.pl_verbatim.specs.declared.kinds.Kind.{Kind}
 use Rattle.pl_verbatim.specs.Kinds.{AreReadable, AreKindsOf, IsKindOf}
-use Rattle.pl_verbatim.specs.Printing.{CanPrint, IsTextPrinted}
+use Rattle.pl_verbatim.specs.PrintedTexts.{CanPrint, IsTextPrinted}
 
 -- ---- lines
 

@@ -1,7 +1,7 @@
 //! Cells that stand as they are written.
 ghost use Rattle.std.specs.Prelude.{◌≡◌, ◌<◌, ◌≤◌, true, length, slice_index, slice_range, IfSome};
 ghost use Rattle.pl_frame.specs.declared.data_type.DataType.{DataType};
-ghost use Rattle.pl_frame.specs.Text.{WriteOptions};
+ghost use Rattle.pl_text.specs.FrameText.{WriteOptions};
 ghost use Rattle.pl_verbatim.specs.CellTexts.{IsCellOf, IsCellOptions};
 ghost use Rattle.pl_verbatim.specs.Kinds.{IsKindOf, is_sound_kind};
 

@@ -2,7 +2,7 @@
 ghost use Rattle.std.specs.Prelude.{◌≡◌, ◌+◌, ◌<◌, ◌≤◌, [], ◌∷◌, ◌++◌, true, length, slice_index, slice_range, IfSome};
 ghost use Rattle.std.specs.Bool.{OnTrue};
 ghost use Rattle.pl_frame.specs.declared.data_type.DataType.{DataType};
-ghost use Rattle.pl_frame.specs.Text.{WriteOptions};
+ghost use Rattle.pl_text.specs.FrameText.{WriteOptions};
 ghost use Rattle.pl_frame.specs.Types.{is_readable};
 ghost use Rattle.pl_round_trip.specs.Fits.{FitsOptions};
 ghost use Rattle.pl_verbatim.specs.CellTexts.{IsCellOptions, IsSecondsText, IsCopyOf, zeros_text};

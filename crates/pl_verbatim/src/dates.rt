@@ -3,25 +3,13 @@ ghost use Rattle.std.specs.Prelude.{◌≡◌, ◌+◌, ◌-◌, ◌*◌, ◌≤
 ghost use Rattle.std.specs.Bool.{OnTrue};
 ghost use Rattle.std.specs.Char.{is_ascii_digit};
 ghost use Rattle.jiff_core.specs.Calendar.{IsCivilDate, is_leap_year, days_in_month};
-ghost use Rattle.pl_cells.specs.Lanes.{IsDateText as HasDateDigits};
+ghost use Rattle.pl_cells.specs.Lanes.{HasDateDigits};
 ghost use Rattle.pl_verbatim.specs.CellTexts.{IsDateText};
 
+use pl_cells::date_at::{end_in_date, pair};
 use std::simd::prelude::*;
 
-// Whether digits and hyphens stand in the last ten of sixteen bytes as in `YYYY-MM-DD`.
-#[inline(always)]
-fn end_in_date(bytes: u8x16) -> bool
-    ensures { OnTrue result (HasDateDigits (drop 6 bytes)) }
-{
-    let zeros = [
-        0, 0, 0, 0, 0, 0, b'0', b'0', b'0', b'0', b'-', b'0', b'0', b'-', b'0', b'0',
-    ];
-    let most = [255, 255, 255, 255, 255, 255, 9, 9, 9, 9, 0, 9, 9, 0, 9, 9];
-    let above = bytes - u8x16::from_array(zeros);
-    above.simd_gt(u8x16::from_array(most)).to_bitmask() == 0
-}
-
-// The same of ten bytes, byte by byte.
+// Whether digits and hyphens stand in ten bytes as in `YYYY-MM-DD`, byte by byte.
 fn is_date_slowly(bytes: &[u8]) -> bool
     requires { 10 ≤ length bytes.now }
     ensures { OnTrue result (HasDateDigits bytes.now) }
@@ -36,17 +24,6 @@ fn is_date_slowly(bytes: &[u8]) -> bool
         && bytes[7] == b'-'
         && bytes[8].is_ascii_digit()
         && bytes[9].is_ascii_digit()
-}
-
-// The number of two digits.
-#[inline(always)]
-pub(crate) fn pair(tens: u8, ones: u8) -> u8
-    requires tens { is_ascii_digit tens ≡ true }
-    requires ones { is_ascii_digit ones ≡ true }
-    ensures value { result ≡ (tens - 48) * 10 + (ones - 48) }
-    ensures small { result < 100 }
-{
-    (tens - b'0') * 10 + (ones - b'0')
 }
 
 // Whether a year has a leap day.

@@ -3,12 +3,12 @@ ghost use Rattle.std.specs.Prelude.{◌≡◌, ◌<◌, ◌≤◌, List, true, f
 ghost use Rattle.std.specs.Bool.{OnTrue};
 ghost use Rattle.std.specs.List.{All, range_with_len};
 ghost use Rattle.pl_frame.specs.Schema.{Entry};
-ghost use Rattle.pl_frame.specs.Text.{WriteOptions};
+ghost use Rattle.pl_text.specs.FrameText.{WriteOptions};
 ghost use Rattle.pl_rows.specs.declared.plan.RangePlan.{RangePlan};
-ghost use Rattle.pl_round_trip.specs.RoundTrip.{is_plain};
+ghost use Rattle.pl_round_trip.specs.RoundTrip.{is_printed_byte};
 ghost use Rattle.pl_write.specs.Options.{cell_options};
 ghost use Rattle.pl_verbatim.specs.Kinds.{AreReadable, AreKindsOf, is_sound_kind};
-ghost use Rattle.pl_verbatim.specs.Printing.{CanPrint, IsFrontPrinted};
+ghost use Rattle.pl_verbatim.specs.PrintedTexts.{CanPrint, IsFrontPrinted};
 ghost use Rattle.pl_verbatim.specs.Verbatim.{IsWrittenAsRead, IsVerbatimOf, AreRowsCopied};
 
 use crate::kinds::{Kind, kind_of};
@@ -35,7 +35,7 @@ fn are_all(places: &[usize], width: usize) -> bool
 
 // Whether a byte is neither a letter nor a digit, `-`, `.` or `:`.
 fn is_apart(byte: u8) -> bool
-    ensures { OnTrue result (is_plain byte ≡ false) }
+    ensures { OnTrue result (is_printed_byte byte ≡ false) }
 {
     !(byte.is_ascii_alphanumeric() || byte == b'-' || byte == b'.' || byte == b':')
 }
@@ -70,9 +70,7 @@ fn kinds_of(alloc: Global, schema: &Schema) -> Result<Vec<Kind>, AllocError>
 {
     let mut kinds = Vec::new(alloc);
     for index in 0..schema.len() {
-        let Some((_, dtype)) = schema.get_at_index(index) else {
-            return Ok(Vec::new(alloc));
-        };
+        let (_, dtype) = schema.entry(index);
         let Some(kind) = kind_of(dtype) else {
             return Ok(Vec::new(alloc));
         };

@@ -1,27 +1,14 @@
 //! Datetimes that stand as they are printed, or without a fraction.
 ghost use Rattle.std.specs.Prelude.{◌≡◌, ℕ, ◌+◌, ◌≤◌, ◌<◌, length, drop, slice_range, IfSome};
 ghost use Rattle.std.specs.Bool.{OnTrue};
-ghost use Rattle.pl_cells.specs.Lanes.{IsClockText as HasClockDigits};
+ghost use Rattle.pl_cells.specs.Lanes.{HasClockDigits};
 ghost use Rattle.pl_verbatim.specs.CellTexts.{IsClockText, IsSecondsText, IsMomentText};
 
-use crate::dates::{date_end, pair};
+use crate::dates::date_end;
 use crate::digits::digits_end;
+use pl_cells::date_at::pair;
+use pl_cells::seconds_at::end_in_clock;
 use std::simd::prelude::*;
-
-// Whether digits and colons stand in the last eight of sixteen bytes as in `HH:MM:SS`.
-#[inline(always)]
-fn end_in_clock(bytes: u8x16) -> bool
-    ensures { OnTrue result (HasClockDigits (drop 8 bytes)) }
-{
-    let zeros = [
-        0, 0, 0, 0, 0, 0, 0, 0, b'0', b'0', b':', b'0', b'0', b':', b'0', b'0',
-    ];
-    let most = [
-        255, 255, 255, 255, 255, 255, 255, 255, 9, 9, 0, 9, 9, 0, 9, 9,
-    ];
-    let above = bytes - u8x16::from_array(zeros);
-    above.simd_gt(u8x16::from_array(most)).to_bitmask() == 0
-}
 
 // Whether digits and colons stand at a place as in `HH:MM:SS`. At least eight bytes stand before it.
 #[inline(always)]

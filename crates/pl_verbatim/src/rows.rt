@@ -2,7 +2,7 @@
 ghost use Rattle.std.specs.Prelude.{◌≡◌, ◌<◌, ◌≤◌, List, true, length, slice_range, IfSome};
 ghost use Rattle.std.specs.List.{All};
 ghost use Rattle.pl_frame.specs.Schema.{Entry};
-ghost use Rattle.pl_frame.specs.Text.{WriteOptions};
+ghost use Rattle.pl_text.specs.FrameText.{WriteOptions};
 ghost use Rattle.pl_verbatim.specs.CellTexts.{IsCellOptions};
 ghost use Rattle.pl_verbatim.specs.Kinds.{AreKindsOf, is_sound_kind};
 ghost use Rattle.pl_verbatim.specs.Verbatim.{IsLineOf, IsRowCopied};

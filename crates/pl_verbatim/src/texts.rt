@@ -1,7 +1,7 @@
 //! Texts that stand as they are written.
 ghost use Rattle.std.specs.Prelude.{◌≡◌, ◌<◌, ◌≤◌, ◌||◌, not, nat_le, length, slice_range, slice_index, IfSome};
 ghost use Rattle.std.specs.List.{prefix_len};
-ghost use Rattle.pl_frame.specs.Text.{is_special};
+ghost use Rattle.pl_text.specs.FrameText.{is_special};
 ghost use Rattle.pl_verbatim.specs.CellTexts.{IsWrittenText, IsBareText};
 
 use memchr::memchr;

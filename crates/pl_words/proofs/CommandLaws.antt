@@ -20,17 +20,6 @@ use Rattle.pl_words.proofs.WalkLaws.{walk_parts}
 
 -- ---- building
 
--- the command with more rules
-abbrev pub with_rules : App → List Rule → App
-with_rules a rs = on_top (λ s. record s { rules = s.rules ++ rs }) a
-
--- the names of ids, added one after another
-pub names_added : (action : ArgAction) (a : App) (ids : List Text) → fold (with_name action) a (map dashed ids) ≡ with_rules a (map (rule_named action) ids)
-names_added action a [] = sym (ap (λ rs. on_top (λ s. record s { rules = rs }) a) (append-nil a.top.rules))
-names_added action a (i ∷ is) =
-    names_added action (with_rule a (rule_named action i)) is
-    ∙ ap (λ rs. on_top (λ s. record s { rules = rs }) a) (append_assoc a.top.rules (rule_named action i ∷ []) (map (rule_named action) is))
-
 -- ---- the rules as they are built
 
 abbrev pub rules : List Text → List Text → List Rule
@@ -43,9 +32,6 @@ options_filled (i ∷ is) = ap (λ rs. full_option i ∷ rs) (options_filled is)
 rules_filled : (fs os : List Text) → filled_from 1 (map (rule_named SetTrue) fs ++ map (rule_named Set) os) ≡ rules fs os
 rules_filled [] os = options_filled os
 rules_filled (i ∷ is) os = ap (λ rs. full_flag i ∷ rs) (rules_filled is os)
-
-all_rules : List Rule
-all_rules = rules flag_ids option_ids
 
 pub built_rules : (built command).top.rules ≡ rules flag_ids option_ids
 built_rules = rules_filled flag_ids option_ids

@@ -85,16 +85,6 @@ named (i ∷ is) name any = by (bytes_eq name (dashed i)) refl (named is name)
         let d = deeper (sym (ap (λ t. t || list_any (bytes_eq name) (map dashed is)) e) ∙ any) in
         (d.0, d.1, or_true (bytes_eq d.0 i) (list_any (bytes_eq d.0) is) d.2)
 
-pub any_dashed : (ids : List Text) (k : Text) → list_any (bytes_eq (dashed k)) (map dashed ids) ≡ list_any (bytes_eq k) ids
-any_dashed [] k = refl
-any_dashed (i ∷ is) k = ap (λ t. bytes_eq k i || t) (any_dashed is k)
-
-flags_dashed : flags ≡ map dashed flag_ids
-flags_dashed = refl
-
-options_dashed : options ≡ map dashed option_ids
-options_dashed = refl
-
 pub flag_named : (name : Text) → list_any (bytes_eq name) flags ≡ true → (k : Text) × (name ≡ dashed k) × (list_any (bytes_eq k) flag_ids ≡ true)
 flag_named name any = named flag_ids name any
 

@@ -25,10 +25,6 @@ use Rattle.pl_words.specs.TypeText.{small_number}
 abbrev Named : Type 0
 Named = List ℕ × DataType
 
--- the schema that has one entry more, unless there is none or its name is there
-abbrev pub with_entry : SchemaValue → Option Named → Option SchemaValue
-with_entry done entry = option_and_then (λ (e : Named). if list_any (bytes_eq e.0) (names_in done) then None else Some (done ++ e ∷ [])) entry
-
 -- the schema that has some entries, one after another
 abbrev pub with_entries : SchemaValue → List (Option Named) → Option SchemaValue
 with_entries done [] = Some done
@@ -151,18 +147,6 @@ with_entries-is done (Some e ∷ es) d = by (list_any (bytes_eq e.0) (names_in d
 
 pub schema_of-entries : (text : List ℕ) → schema_of text ≡ with_entries [] (map entry_of (parts_at 44 text))
 schema_of-entries text = sym (with_entries-is [] (map entry_of (parts_at 44 text)) refl)
-
--- one entry, and then the others
-pub with_entries-more : (done now : SchemaValue) (e : Option Named) (es : List (Option Named)) → with_entry done e ≡ Some now → with_entries done (e ∷ es) ≡ with_entries now es
-with_entries-more done now None es is = cc
-with_entries-more done now (Some e) es is = by (list_any (bytes_eq e.0) (names_in done)) refl
-  where
-    by : (t : Bool) → list_any (bytes_eq e.0) (names_in done) ≡ t → with_entries done (Some e ∷ es) ≡ with_entries now es
-    by true at = let no_way : None ≡ Some now = sym (ap (λ t. if t then None else Some (done ++ e ∷ [])) at) ∙ is in cc
-    by false at =
-        let there : Some (done ++ e ∷ []) ≡ Some now = sym (ap (λ t. if t then None else Some (done ++ e ∷ [])) at) ∙ is in
-        let same : done ++ e ∷ [] ≡ now = cc in
-        ap (λ t. elim t [ true ↦ None | false ↦ with_entries (done ++ e ∷ []) es ]) at ∙ ap (λ l. with_entries l es) same
 
 -- ---- numbers
 

@@ -3,7 +3,7 @@ use Rattle.std.specs.Prelude.{ℕ, ◌≤◌, Bool, nat_le, if◌then◌else◌,
 use Rattle.std.specs.List.{list_all, list_any}
 use Rattle.std.specs.Option.{option_and_then}
 use Rattle.std.specs.Str.{bytes_eq}
-use Rattle.pl_infer.specs.Options.{default_read_options}
+use Rattle.pl_options.specs.Options.{default_read_options}
 use Rattle.pl_words.specs.declared.job.Job.{Job}
 use Rattle.pl_words.specs.declared.job.Job.TheVariants as job
 use Rattle.pl_words.specs.Defaults.{option_or, with}

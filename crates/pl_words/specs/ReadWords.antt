@@ -4,9 +4,9 @@ use Rattle.pl_scan.specs.Comment.{prefix_from}
 use Rattle.pl_scan.specs.declared.comment.CommentPrefix.{CommentPrefix}
 use Rattle.pl_cells.specs.declared.utf8.CsvEncoding.{CsvEncoding}
 use Rattle.pl_cells.specs.declared.utf8.CsvEncoding.TheVariants as encoding
-use Rattle.pl_infer.specs.Options.{default_parse_options, default_read_options}
-use Rattle.pl_infer.specs.declared.parse_options.CsvParseOptions.{CsvParseOptions}
-use Rattle.pl_infer.specs.declared.read_options.CsvReadOptions.{CsvReadOptions}
+use Rattle.pl_options.specs.Options.{default_parse_options, default_read_options}
+use Rattle.pl_options.specs.declared.parse_options.CsvParseOptions.{CsvParseOptions}
+use Rattle.pl_options.specs.declared.read_options.CsvReadOptions.{CsvReadOptions}
 use Rattle.pl_words.specs.ColumnWords.{names_of, places_of, row_index_of, types_of}
 use Rattle.pl_words.specs.Defaults.{option_or, set_to, with}
 use Rattle.pl_words.specs.NullWords.{null_values_of}

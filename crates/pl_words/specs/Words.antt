@@ -1,6 +1,6 @@
 -- What the words of the command line mean (docs/command-line.md, "Words").
 use Rattle.std.specs.Prelude.{ℕ, if◌then◌else◌, List, codes, Option, None, Some}
-use Rattle.pl_infer.specs.declared.read_options.CsvReadOptions.{CsvReadOptions}
+use Rattle.pl_options.specs.declared.read_options.CsvReadOptions.{CsvReadOptions}
 use Rattle.pl_write.specs.declared.options.CsvWriterOptions.{CsvWriterOptions}
 use Rattle.pl_words.specs.declared.job.Job.{Job}
 use Rattle.pl_words.specs.declared.job.Job.TheVariants as job

@@ -8,8 +8,8 @@ use crate::from_text::{FromText, meant, read_list};
 use crate::option_values::parse_offset;
 use crate::splitting::{copy_text, split_texts};
 use crate::words::WordsFault;
-use pl_infer::column_lists::{ColumnNames, ColumnPlaces, DataTypes};
-use pl_infer::row_index::RowIndex;
+use pl_options::column_lists::{ColumnNames, ColumnPlaces, DataTypes};
+use pl_options::row_index::RowIndex;
 use std::alloc::Global;
 
 // LIST of names.

@@ -1,5 +1,5 @@
 //! What the program is to do.
-use pl_infer::read_options::CsvReadOptions;
+use pl_options::read_options::CsvReadOptions;
 use pl_write::options::CsvWriterOptions;
 
 /// What words ask for.

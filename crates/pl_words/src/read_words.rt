@@ -12,8 +12,8 @@ use crate::null_words::null_values_of;
 use crate::option_values::{parse_quote, parse_sample};
 use crate::words::WordsFault;
 use pl_cells::utf8::CsvEncoding;
-use pl_infer::parse_options::CsvParseOptions;
-use pl_infer::read_options::CsvReadOptions;
+use pl_options::parse_options::CsvParseOptions;
+use pl_options::read_options::CsvReadOptions;
 use pl_scan::comment::CommentPrefix;
 use std::alloc::Global;
 

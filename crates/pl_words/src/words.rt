@@ -11,12 +11,15 @@ use crate::parts::are_known_once;
 use crate::read_words::read_options_of;
 use crate::write_words::write_options_of;
 use std::alloc::Global;
+use thiserror::Error;
 
 /// Why words were refused.
-#[derive(Clone, Copy, Debug, PartialEq, Eq)]
+#[derive(Clone, Copy, Debug, PartialEq, Eq, Error)]
 pub enum WordsFault {
     /// They have no meaning.
+    #[error("the arguments have no meaning")]
     Words,
+    #[error("out of memory")]
     OutOfMemory,
 }
 

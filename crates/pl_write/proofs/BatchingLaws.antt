@@ -6,7 +6,7 @@ use Rattle.std.proofs.lemmas.Grind.{flat_map-append}
 use Rattle.std.proofs.lemmas.List.{take_more}
 use Rattle.pl_frame.specs.Frame.{ColumnValue}
 use Rattle.pl_frame.specs.Schema.{names_in}
-use Rattle.pl_frame.specs.Text.{head_text}
+use Rattle.pl_text.specs.FrameText.{head_text}
 use Rattle.pl_frame.proofs.Known.{Appends-more}
 use Rattle.pl_write.specs.Batches.{BatchWriter, all_lines, batch_text, head_to_come}
 use Rattle.pl_write.specs.JoinedBatches.{batches_text}
@@ -18,10 +18,6 @@ pub record IsBatching {S : Type 0} (received : S → Option (List ℕ)) (old now
   pub written : List ℕ
   pub appended : Appends (received old.writer.sink) (received now.writer.sink) written
   pub whole : written ++ head_to_come now ≡ batches_text old batches
-
--- nothing was written yet
-pub IsBatching-none : {S : Type 0} (received : S → Option (List ℕ)) (w : BatchWriter S) → IsBatching received w w []
-IsBatching-none received w = record { written = []; appended = Appends-nil (received w.writer.sink); whole = sym (append-nil (head_to_come w)) }
 
 -- one batch more
 pub IsBatching-more : {S : Type 0} (received : S → Option (List ℕ)) (old now next : BatchWriter S) (batches : List (List ColumnValue)) (i : ℕ) (batch : List ColumnValue) → i < length batches
@@ -46,10 +42,3 @@ IsBatching-more received old now next batches i batch inside so_far same begun a
           ∙ append_assoc head (flat_map lines (take i batches)) (lines item)
           ∙ ap (λ l. head ++ l) (sym more);
     }
-
--- all of them, and then byte order mark and header, where they are still to come
-pub IsBatching-all : {S : Type 0} (received : S → Option (List ℕ)) (old now next : BatchWriter S) (batches : List (List ColumnValue)) → IsBatching received old now batches
-    → Appends (received now.writer.sink) (received next.writer.sink) (head_to_come now) → Appends (received old.writer.sink) (received next.writer.sink) (batches_text old batches)
-IsBatching-all received old now next batches so_far appended =
-    subst (λ l. Appends (received old.writer.sink) (received next.writer.sink) l) so_far.whole
-    (Appends-more (received old.writer.sink) (received now.writer.sink) (received next.writer.sink) so_far.written (head_to_come now) so_far.appended appended)

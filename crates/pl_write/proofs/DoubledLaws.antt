@@ -4,7 +4,7 @@ use Rattle.std.proofs.lemmas.List.{take_all, drop_all, get_or-drop}
 use Rattle.std.proofs.lemmas.Bool.Decides.{nat_tests}
 use Rattle.std.specs.List.{prefix_len}
 use Rattle.memchr.specs.Find.{Nowhere, Passes, is_byte}
-use Rattle.pl_frame.specs.Text.{doubled}
+use Rattle.pl_text.specs.FrameText.{doubled}
 
 not_true : (t : Bool) → (t ≡ true → ⊥) → t ≡ false
 not_true true h = absurd (h refl)

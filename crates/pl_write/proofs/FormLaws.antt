@@ -2,7 +2,7 @@
 use Rattle.std.proofs.Common.{◌≡◌, ℕ, Bool, true, if◌then◌else◌, List, sym, ap, true≢false}
 use Rattle.pl_frame.specs.declared.data_type.DataType.{DataType}
 use Rattle.pl_frame.specs.declared.data_type.DataType.TheVariants as dtype
-use Rattle.pl_frame.specs.Text.{WriteOptions, is_bare, quoted, written_value}
+use Rattle.pl_text.specs.FrameText.{WriteOptions, is_bare, quoted, written_value}
 use Rattle.pl_frame.specs.Types.{is_whole_number}
 use Rattle.pl_write.specs.declared.cell_form.CellForm.TheVariants as form
 use Rattle.pl_write.specs.CellForms.{FitsForm}

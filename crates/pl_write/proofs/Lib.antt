@@ -2,7 +2,6 @@ mod BatchLaws
 mod BatchingLaws
 mod BlockLaws
 mod CountLaws
-pub mod DateLaws
 mod DigitLaws
 mod DoubledLaws
 pub mod FormLaws
@@ -10,6 +9,7 @@ mod HeldLaws
 pub mod KeptLaws
 mod LeftLaws
 mod LineLaws
+pub mod OptionsEqualLaws
 mod PaddedLaws
 mod PointLaws
 pub mod PrintLaws
@@ -18,6 +18,5 @@ pub mod PutLaws
 pub mod SourceLaws
 mod SpecialLaws
 pub mod StackLaws
-pub mod TimeLaws
 mod WordLaws
 pub mod WriteLaws

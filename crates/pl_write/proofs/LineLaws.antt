@@ -3,7 +3,7 @@ use Rattle.std.proofs.Common.{◌≡◌, ℕ, zero, suc, ◌+◌, ◌<◌, ◌�
 use Rattle.std.specs.List.{flat_map, join_with_byte}
 use Rattle.std.proofs.lemmas.List.{take_more, map-append, length-map, length-take-le}
 use Rattle.pl_frame.specs.Frame.{ColumnValue, cell_at}
-use Rattle.pl_frame.specs.Text.{WriteOptions, written_cell, row_line, row_lines}
+use Rattle.pl_text.specs.FrameText.{WriteOptions, written_cell, row_line, row_lines}
 use Rattle.pl_write.specs.Lines.{cell_in_line, joined_cells, AreLines, HaveRows}
 use Rattle.pl_write.specs.Writing.{separator_before}
 
@@ -53,9 +53,3 @@ lines-are o columns first (line ∷ lines) are =
     let rest : AreLines (joined_cells o columns) (first + 1) lines = λ k h. are (suc k) (omega arith) ∙ ap (joined_cells o columns) (omega arith) in
     ap (λ l. (l ++ o.terminator) ++ flat_map (λ line. line ++ o.terminator) lines) here
     ∙ ap (λ l. row_line o columns first ++ l) (lines-are o columns (first + 1) lines rest)
-
--- so many rows that every column has are rows of each column
-pub HaveRows-at : (count : ℕ) (columns : List ColumnValue) (i : ℕ) (d : ColumnValue) → HaveRows count columns → i < length columns → count ≤ length (get_or columns i d).values
-HaveRows-at count [] i d have inside = absurd (omega arith)
-HaveRows-at count (column ∷ columns) zero d have inside = have.0
-HaveRows-at count (column ∷ columns) (suc i) d have inside = HaveRows-at count columns i d have.1 (omega arith)

@@ -4,7 +4,7 @@ use Rattle.std.specs.Prelude.{decimal}
 use Rattle.std.proofs.lemmas.List.{drop-append-le, drop-replicate, length-replicate}
 use Rattle.std.proofs.lemmas.Fmt.{decimal_digit, decimal_step, decimal_by_steps_wide}
 use Rattle.std.proofs.lemmas.Bool.Decides.{nat_tests}
-use Rattle.pl_frame.specs.Printed.{padded}
+use Rattle.pl_text.specs.ValueText.{padded}
 
 -- one more in front is one more behind
 replicate-behind : (x n : ℕ) → replicate n x ++ x ∷ [] ≡ x ∷ replicate n x

@@ -3,7 +3,7 @@ use Rattle.std.proofs.Common.{◌≡◌, ℕ, suc, ◌+◌, ◌-◌, ◌/◌, �
 use Rattle.std.specs.Prelude.{decimal}
 use Rattle.std.proofs.Math.Seq.{drop-append-add}
 use Rattle.std.proofs.lemmas.Bool.Decides.{nat_tests}
-use Rattle.pl_frame.specs.Printed.{padded, point_text}
+use Rattle.pl_text.specs.ValueText.{padded, point_text}
 use Rattle.pl_write.proofs.PaddedLaws.{padded-drop, padded-bare, padded-four}
 use Rattle.pl_write.proofs.WordLaws.{decimal-onto_eight, padded-eight}
 

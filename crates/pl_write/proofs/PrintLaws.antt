@@ -7,7 +7,7 @@ use Rattle.std.proofs.lemmas.Grind.{flat_map-append}
 use Rattle.std.proofs.lemmas.List.{take-append-drop}
 use Rattle.std.proofs.lemmas.List.Elements.{All-nil, All-cons, All-head, All-tail}
 use Rattle.pl_frame.specs.Frame.{ColumnValue, HaveHeight}
-use Rattle.pl_frame.specs.Text.{WriteOptions, row_lines}
+use Rattle.pl_text.specs.FrameText.{WriteOptions, row_lines}
 use Rattle.pl_frame.proofs.Known.{Appends-more}
 use Rattle.pl_write.specs.Lines.{HaveRows}
 use Rattle.pl_write.specs.Printing.{ShareValue, FollowOn, texts_of}

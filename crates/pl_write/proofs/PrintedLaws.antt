@@ -4,7 +4,7 @@ use Rattle.std.specs.List.{concat}
 use Rattle.std.proofs.lemmas.List.Folds.{concat-append}
 use Rattle.pl_frame.specs.Frame.{ColumnValue, HaveHeight, height_of, names_of}
 use Rattle.pl_frame.specs.FrameParts.{HaveSameColumns, schema_of, stacked}
-use Rattle.pl_frame.specs.Text.{WriteOptions, head_text, text_of_frame}
+use Rattle.pl_text.specs.FrameText.{WriteOptions, head_text, text_of_frame}
 use Rattle.pl_write.specs.Batches.{all_lines}
 use Rattle.pl_write.specs.Options.{cell_options, frame_options}
 use Rattle.pl_write.specs.Printed.{printed_text}
@@ -20,15 +20,6 @@ pub names-stacked : (columns others : List ColumnValue) → HaveSameColumns colu
 names-stacked columns others same =
     let schema = schema_of others in
     names-are schema (stacked columns others) (schema-stacked columns others same ∙ same) ∙ sym (names-are schema others refl)
-
--- one printed text more, and the rows that it has behind the others
-pub printed-more : (o : WriteOptions) (printed : List (List ℕ)) (lines : List ℕ) (columns others : List ColumnValue) → HaveSameColumns columns others → HaveHeight (height_of columns) columns
-    → concat printed ≡ all_lines o columns → lines ≡ all_lines o others → concat (printed ++ lines ∷ []) ≡ all_lines o (stacked columns others)
-printed-more o printed lines columns others same have before here =
-    concat-append printed (lines ∷ [])
-    ∙ ap (λ l. concat printed ++ l) (append-nil lines)
-    ∙ (λ j. before j ++ here j)
-    ∙ sym (lines-stacked o columns others same have)
 
 -- where the lines of the first rows were printed, the text is that of the frame of these rows and those behind them
 pub printed-is-text : (o : WriteOptions) (printed : List (List ℕ)) (columns others : List ColumnValue) → HaveSameColumns columns others → HaveHeight (height_of columns) columns

@@ -4,8 +4,8 @@ use Rattle.std.specs.Option.{option_map, option_map_or}
 use Rattle.std.specs.Prelude.{Option, None, Some, IfSome, unwrap_or, slice_get}
 use Rattle.pl_frame.specs.Columns.{number_cells, text_cells}
 use Rattle.pl_frame.specs.Frame.{Number, Letters, ColumnValue, cell_at}
-use Rattle.pl_frame.specs.Printed.{number_text}
-use Rattle.pl_frame.specs.Text.{WriteOptions, written_cell, written_value}
+use Rattle.pl_text.specs.ValueText.{number_text}
+use Rattle.pl_text.specs.FrameText.{WriteOptions, written_cell, written_value}
 use Rattle.pl_frame.specs.Types.{Range, is_numeric, is_within}
 use Rattle.pl_frame.specs.declared.data_type.DataType.{DataType}
 use Rattle.pl_write.specs.declared.cell_source.CellSource.{CellSource}

@@ -10,7 +10,7 @@ use lib.Count.{count_trailing_zeros}
 use lib.Lanes.{chunk, mask_l, zip2, top}
 use mir.Syntax.{w8}
 use Rattle.std.proofs.lemmas.Bool.Decides.{nat_tests}
-use Rattle.pl_frame.specs.Text.{is_special, needs_quotes}
+use Rattle.pl_text.specs.FrameText.{is_special, needs_quotes}
 use Rattle.pl_write.specs.Special.{HasNoSpecial}
 
 abbrev hit : ℕ → ℕ → ℕ

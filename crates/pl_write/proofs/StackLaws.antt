@@ -5,11 +5,10 @@ use Rattle.std.specs.Io.KnownBytes.{Appends}
 use Rattle.std.specs.List.{flat_map}
 use Rattle.std.proofs.lemmas.List.Elements.{All-head, All-tail}
 use Rattle.pl_frame.specs.Frame.{Scalar, ColumnValue, HaveHeight, IsFrame, cell_at, height_of, names_of}
-use Rattle.pl_frame.specs.FrameParts.{HaveSameColumns, empty_columns, schema_of, stacked}
+use Rattle.pl_frame.specs.FrameParts.{HaveSameColumns, empty_columns, schema_of, stacked, all_stacked}
 use Rattle.pl_frame.specs.Schema.{Entry, names_in}
-use Rattle.pl_frame.specs.Text.{WriteOptions, line, row_line, row_lines, written_cell}
+use Rattle.pl_text.specs.FrameText.{WriteOptions, line, row_line, row_lines, written_cell}
 use Rattle.pl_write.specs.Batches.{HaveSchema, all_lines}
-use Rattle.pl_write.specs.JoinedBatches.{stacked_batches}
 use Rattle.pl_write.proofs.WriteLaws.{row_lines-both}
 
 -- ---- the cells of a row
@@ -113,7 +112,7 @@ schema-stacked (c ∷ cs) (x ∷ xs) same = ap (λ l. (c.name, c.dtype) ∷ l) (
 
 -- the lines of the rows of batches that are put behind columns
 pub lines-batches : (o : WriteOptions) (schema : List Entry) (columns : List ColumnValue) (batches : List (List ColumnValue)) → HaveSchema schema columns → HaveHeight (height_of columns) columns
-    → All (HaveSchema schema) batches → All IsFrame batches → all_lines o (stacked_batches columns batches) ≡ all_lines o columns ++ flat_map (all_lines o) batches
+    → All (HaveSchema schema) batches → All IsFrame batches → all_lines o (all_stacked columns batches) ≡ all_lines o columns ++ flat_map (all_lines o) batches
 lines-batches o schema columns [] has level have frames = sym (append-nil (all_lines o columns))
 lines-batches o schema columns (batch ∷ batches) has level have frames =
     let same : HaveSameColumns columns batch = has ∙ sym (All-head (HaveSchema schema) batch batches have) in
@@ -125,7 +124,7 @@ lines-batches o schema columns (batch ∷ batches) has level have frames =
 
 -- they have the names and types of the columns
 pub schema-batches : (schema : List Entry) (columns : List ColumnValue) (batches : List (List ColumnValue)) → HaveSchema schema columns → All (HaveSchema schema) batches
-    → HaveSchema schema (stacked_batches columns batches)
+    → HaveSchema schema (all_stacked columns batches)
 schema-batches schema columns [] has have = has
 schema-batches schema columns (batch ∷ batches) has have =
     schema-batches schema (stacked columns batch) batches

@@ -3,7 +3,7 @@ use Rattle.std.proofs.Common.{◌≡◌, ℕ, zero, suc, ◌+◌, ◌-◌, ◌*�
 use Rattle.std.proofs.Math.Nat.{div-div-eq-div-mul}
 use Rattle.std.proofs.lemmas.Nat.{pow-add}
 use Rattle.std.specs.Int.{w64, to_le_bytes, bytes_low_first, byte_at}
-use Rattle.pl_frame.specs.Printed.{padded}
+use Rattle.pl_text.specs.ValueText.{padded}
 use Rattle.std.specs.Prelude.{decimal}
 use Rattle.pl_write.proofs.PaddedLaws.{padded-step, padded-two, padded-three, padded-four, padded-onto, padded-drop, padded-bare, decimal-onto_four}
 

@@ -4,7 +4,7 @@ use Rattle.std.specs.Prelude.{Option, None, Some}
 use Rattle.std.specs.Io.KnownBytes.{Appends}
 use Rattle.std.proofs.lemmas.List.{take_at, take-append-drop}
 use Rattle.pl_frame.specs.Frame.{ColumnValue, HaveHeight}
-use Rattle.pl_frame.specs.Text.{WriteOptions, row_line, row_lines}
+use Rattle.pl_text.specs.FrameText.{WriteOptions, row_line, row_lines}
 use Rattle.pl_frame.proofs.Known.{Appends-more}
 use Rattle.pl_write.specs.Lines.{HaveRows}
 use Rattle.pl_write.specs.Writing.{AppendsPrefix}

@@ -4,7 +4,7 @@ use Rattle.pl_frame.specs.Causes.{Rose}
 use Rattle.pl_frame.specs.Frame.{ColumnValue, height_of}
 use Rattle.pl_frame.specs.FrameParts.{schema_of}
 use Rattle.pl_frame.specs.Schema.{Entry, names_in}
-use Rattle.pl_frame.specs.Text.{WriteOptions, head_text, row_lines}
+use Rattle.pl_text.specs.FrameText.{WriteOptions, head_text, row_lines}
 use Rattle.pl_frame.specs.declared.error.PolarsError.{PolarsError}
 use Rattle.pl_frame.specs.declared.error.PolarsError.TheVariants as error
 use Rattle.pl_write.specs.Options.{frame_options}

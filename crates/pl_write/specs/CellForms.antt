@@ -2,8 +2,8 @@
 use Rattle.std.specs.Prelude.{◌≡◌, ℕ, ℤ, List, Option, None, Some}
 use Rattle.std.specs.Fmt.{signed_decimal}
 use Rattle.pl_frame.specs.declared.data_type.DataType.{DataType}
-use Rattle.pl_frame.specs.Printed.{number_text}
-use Rattle.pl_frame.specs.Text.{WriteOptions, written_null, written_text, written_value}
+use Rattle.pl_text.specs.ValueText.{number_text}
+use Rattle.pl_text.specs.FrameText.{WriteOptions, written_null, written_text, written_value}
 use Rattle.pl_frame.specs.Types.{is_numeric}
 use Rattle.pl_write.specs.declared.cell_form.CellForm.{CellForm}
 use Rattle.pl_write.specs.declared.cell_form.CellForm.TheVariants as form

@@ -3,8 +3,8 @@ use Rattle.std.specs.Prelude.{◌≡◌, ℕ, ℤ, ◌≤◌, List, [], ◌∷�
 use Rattle.std.specs.Fmt.{signed_decimal}
 use Rattle.pl_frame.specs.Columns.{HoldsType, number_cells, text_cells}
 use Rattle.pl_frame.specs.Frame.{ColumnValue}
-use Rattle.pl_frame.specs.Printed.{date_text, datetime_text, decimal_text, number_text}
-use Rattle.pl_frame.specs.Text.{WriteOptions, written_value}
+use Rattle.pl_text.specs.ValueText.{date_text, datetime_text, decimal_text, number_text}
+use Rattle.pl_text.specs.FrameText.{WriteOptions, written_value}
 use Rattle.pl_frame.specs.Types.{Range, day_range, datetime_range, is_numeric, range_of, units_in_second}
 use Rattle.pl_write.specs.CellForms.{FitsForm}
 use Rattle.pl_write.specs.declared.cell_source.CellSource.{CellSource}

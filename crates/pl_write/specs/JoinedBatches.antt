@@ -2,19 +2,14 @@
 use Rattle.std.specs.Prelude.{ℕ, List, [], ◌∷◌, ◌++◌, All}
 use Rattle.std.specs.List.{flat_map}
 use Rattle.pl_frame.specs.Frame.{ColumnValue}
-use Rattle.pl_frame.specs.FrameParts.{empty_columns, stacked}
+use Rattle.pl_frame.specs.FrameParts.{empty_columns, all_stacked}
 use Rattle.pl_frame.specs.Schema.{Entry}
 use Rattle.pl_write.specs.Batches.{BatchWriter, HaveSchema, all_lines, head_to_come}
 use Rattle.pl_write.specs.Options.{frame_options}
 
--- columns, and behind them the rows of batches, one batch behind the other
-abbrev pub stacked_batches : List ColumnValue → List (List ColumnValue) → List ColumnValue
-stacked_batches columns [] = columns
-stacked_batches columns (batch ∷ batches) = stacked_batches (stacked columns batch) batches
-
 -- the frame of all rows of batches that have these names and types
 abbrev pub joined_batches : List Entry → List (List ColumnValue) → List ColumnValue
-joined_batches schema batches = stacked_batches (empty_columns schema) batches
+joined_batches schema batches = all_stacked (empty_columns schema) batches
 
 -- each batch has the names and types of the writer
 abbrev pub AreBatchesOf : {S : Type 0} → BatchWriter S → List (List ColumnValue) → Type 0

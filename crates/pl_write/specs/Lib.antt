@@ -5,8 +5,17 @@ pub mod CellsLeft
 pub mod JoinedBatches
 pub mod Lines
 pub mod Options
+pub mod OptionsEqual
 pub mod Printed
 pub mod Printing
 pub mod Serializing
 pub mod Special
 pub mod Writing
+pub use Rattle.pl_frame.specs.Causes
+pub use Rattle.pl_frame.specs.Columns
+pub use Rattle.pl_frame.specs.Equal
+pub use Rattle.pl_frame.specs.Frame
+pub use Rattle.pl_frame.specs.FrameParts
+pub use Rattle.pl_frame.specs.Schema
+pub use Rattle.pl_frame.specs.Types
+pub use Rattle.pl_text.specs.FrameText

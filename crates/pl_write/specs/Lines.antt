@@ -2,7 +2,7 @@
 use Rattle.std.specs.Prelude.{◌≡◌, ℕ, ◌+◌, ◌<◌, ◌≤◌, List, [], ◌++◌, map, length, slice_index_or}
 use Rattle.std.specs.List.{AllByRecursion, join_with_byte}
 use Rattle.pl_frame.specs.Frame.{ColumnValue, cell_at}
-use Rattle.pl_frame.specs.Text.{WriteOptions, written_cell}
+use Rattle.pl_text.specs.FrameText.{WriteOptions, written_cell}
 use Rattle.pl_write.specs.Writing.{separator_before}
 
 -- what a column adds to the line of a row: a separator, unless it is the first, and the cell

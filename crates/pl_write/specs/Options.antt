@@ -1,6 +1,6 @@
 -- How a frame is written (docs/quoting.md).
 use Rattle.std.specs.Prelude.{ℕ, Bool, true, false, List, [], ◌∷◌}
-use Rattle.pl_frame.specs.Text.{WriteOptions}
+use Rattle.pl_text.specs.FrameText.{WriteOptions}
 use Rattle.pl_write.specs.declared.options.CsvWriterOptions.{CsvWriterOptions}
 use Rattle.pl_write.specs.declared.options.QuoteStyle.{QuoteStyle}
 use Rattle.pl_write.specs.declared.options.QuoteStyle.TheVariants as style
@@ -46,28 +46,28 @@ default_options = record { include_bom = false; include_header = true; batch_siz
 -- ---- one setting set, and all others kept
 
 abbrev pub with_separator : ℕ → SerializeOptions → SerializeOptions
-with_separator separator o = record { separator = separator; quote_char = o.quote_char; null = o.null; line_terminator = o.line_terminator; quote_style = o.quote_style }
+with_separator separator o = record o { separator = separator }
 
 abbrev pub with_quote_char : ℕ → SerializeOptions → SerializeOptions
-with_quote_char quote_char o = record { separator = o.separator; quote_char = quote_char; null = o.null; line_terminator = o.line_terminator; quote_style = o.quote_style }
+with_quote_char quote_char o = record o { quote_char = quote_char }
 
 abbrev pub with_null : List ℕ → SerializeOptions → SerializeOptions
-with_null null o = record { separator = o.separator; quote_char = o.quote_char; null = null; line_terminator = o.line_terminator; quote_style = o.quote_style }
+with_null null o = record o { null = null }
 
 abbrev pub with_line_terminator : List ℕ → SerializeOptions → SerializeOptions
-with_line_terminator line_terminator o = record { separator = o.separator; quote_char = o.quote_char; null = o.null; line_terminator = line_terminator; quote_style = o.quote_style }
+with_line_terminator line_terminator o = record o { line_terminator = line_terminator }
 
 abbrev pub with_quote_style : QuoteStyle → SerializeOptions → SerializeOptions
-with_quote_style quote_style o = record { separator = o.separator; quote_char = o.quote_char; null = o.null; line_terminator = o.line_terminator; quote_style = quote_style }
+with_quote_style quote_style o = record o { quote_style = quote_style }
 
 abbrev pub with_include_bom : Bool → CsvWriterOptions → CsvWriterOptions
-with_include_bom include_bom o = record { include_bom = include_bom; include_header = o.include_header; batch_size = o.batch_size; maintain_order = o.maintain_order; serialize_options = o.serialize_options }
+with_include_bom include_bom o = record o { include_bom = include_bom }
 
 abbrev pub with_include_header : Bool → CsvWriterOptions → CsvWriterOptions
-with_include_header include_header o = record { include_bom = o.include_bom; include_header = include_header; batch_size = o.batch_size; maintain_order = o.maintain_order; serialize_options = o.serialize_options }
+with_include_header include_header o = record o { include_header = include_header }
 
 abbrev pub with_batch_size : ℕ → CsvWriterOptions → CsvWriterOptions
-with_batch_size batch_size o = record { include_bom = o.include_bom; include_header = o.include_header; batch_size = batch_size; maintain_order = o.maintain_order; serialize_options = o.serialize_options }
+with_batch_size batch_size o = record o { batch_size = batch_size }
 
 abbrev pub with_cells : (SerializeOptions → SerializeOptions) → CsvWriterOptions → CsvWriterOptions
-with_cells change o = record { include_bom = o.include_bom; include_header = o.include_header; batch_size = o.batch_size; maintain_order = o.maintain_order; serialize_options = change o.serialize_options }
+with_cells change o = record o { serialize_options = change o.serialize_options }

@@ -2,7 +2,7 @@
 use Rattle.std.specs.Prelude.{ℕ, List, ◌++◌}
 use Rattle.std.specs.List.{concat}
 use Rattle.pl_frame.specs.Frame.{ColumnValue}
-use Rattle.pl_frame.specs.Text.{WriteOptions, head_text}
+use Rattle.pl_text.specs.FrameText.{WriteOptions, head_text}
 use Rattle.pl_write.specs.Batches.{all_lines}
 
 -- what stands before the rows under these names, lines that were printed, one text behind the other, and the lines of the rows

@@ -1,6 +1,6 @@
 -- What only a quoted text may hold (docs/quoting.md).
 use Rattle.std.specs.Prelude.{◌≡◌, ℕ, ◌<◌, ◌≤◌, false, List, slice_index}
-use Rattle.pl_frame.specs.Text.{is_special}
+use Rattle.pl_text.specs.FrameText.{is_special}
 
 -- no such byte stands from one place up to another
 abbrev pub HasNoSpecial : ℕ → ℕ → List ℕ → ℕ → ℕ → Type 0

@@ -7,7 +7,7 @@ ghost use Rattle.std.specs.Option.{option_map_or};
 ghost use Rattle.pl_frame.specs.Equal.{entries_equal};
 ghost use Rattle.pl_frame.specs.FrameParts.{schema_of};
 ghost use Rattle.pl_frame.specs.Schema.{names_in};
-ghost use Rattle.pl_frame.specs.Text.{head_text};
+ghost use Rattle.pl_text.specs.FrameText.{head_text};
 ghost use Rattle.pl_write.specs.Batches.{HaveSchema, IsBatchFault, IsReady, batch_text, head_to_come};
 ghost use Rattle.pl_write.specs.Options.{frame_options};
 ghost use Rattle.pl_write.specs.Writing.{AppendsPrefix};

@@ -1,6 +1,6 @@
 //! How the cells of a column are written: settled once for the column, by its type and the style.
 ghost use Rattle.std.specs.Prelude.{◌≡◌, true};
-ghost use Rattle.pl_frame.specs.Text.{is_bare};
+ghost use Rattle.pl_text.specs.FrameText.{is_bare};
 ghost use Rattle.pl_frame.specs.Types.{is_whole_number};
 ghost use Rattle.pl_write.specs.Options.{cell_options, style_number};
 ghost use Rattle.pl_write.specs.declared.cell_form.CellForm.TheVariants as CellForm;

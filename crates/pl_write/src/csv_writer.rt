@@ -4,7 +4,7 @@ ghost use Rattle.std.specs.Io.KnownBytes.{Appends};
 ghost use Rattle.std.specs.Thread.{IsSync};
 ghost use Rattle.pl_frame.specs.declared.error.PolarsError.TheVariants as error;
 ghost use Rattle.pl_frame.specs.Columns.{is_number};
-ghost use Rattle.pl_frame.specs.Text.{text_of_frame};
+ghost use Rattle.pl_text.specs.FrameText.{text_of_frame};
 ghost use Rattle.pl_frame.specs.Types.{is_readable};
 ghost use Rattle.pl_write.specs.Options.{default_options, frame_options, with_separator, with_quote_char, with_null, with_line_terminator, with_quote_style, with_include_bom, with_include_header, with_batch_size, with_cells};
 ghost use Rattle.pl_write.specs.Writing.{AppendsPrefix, CanWrite, IsEarlyFault, IsWriteFault, Writer, with_change, with_threads};

@@ -1,7 +1,7 @@
 //! Dates as text.
 ghost use Rattle.std.specs.Prelude.{◌≡◌, ◌++◌, true, OnOk};
 ghost use Rattle.pl_frame.specs.Types.{is_within, day_range};
-ghost use Rattle.pl_frame.specs.Printed.{date_text};
+ghost use Rattle.pl_text.specs.ValueText.{date_text};
 ghost use Rattle.pl_write.specs.Writing.{StaysInFront};
 
 use crate::put_dates::put_date;

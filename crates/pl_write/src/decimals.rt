@@ -1,7 +1,7 @@
 //! Decimal numbers as text.
 ghost use Rattle.std.specs.Prelude.{◌≡◌, ◌++◌, ◌∷◌, [], ◌<◌, ◌≤◌, ◌+◌, ◌-◌, ◌^◌, length, replicate, OnOk, if◌then◌else◌};
 ghost use Rattle.std.specs.Int.{is_negative};
-ghost use Rattle.pl_frame.specs.Printed.{padded, point_text, decimal_text};
+ghost use Rattle.pl_text.specs.ValueText.{padded, point_text, decimal_text};
 ghost use Rattle.pl_write.specs.Writing.{StaysInFront};
 
 use crate::put_decimals::put_decimal;

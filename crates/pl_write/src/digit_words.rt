@@ -1,7 +1,7 @@
 //! Eight decimal digits in one word, whose lowest byte is the first of them.
 ghost use Rattle.std.specs.Prelude.{◌≡◌, ◌+◌, ◌-◌, ◌*◌, ◌/◌, ◌%◌, ◌^◌, ◌<◌, take, drop};
 ghost use Rattle.std.specs.Int.{w64, to_le_bytes};
-ghost use Rattle.pl_frame.specs.Printed.{padded};
+ghost use Rattle.pl_text.specs.ValueText.{padded};
 
 // The two digits of a number below 100, the first of them in the low byte.
 #[inline]

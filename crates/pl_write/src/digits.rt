@@ -1,6 +1,6 @@
 //! Numbers in a fixed number of decimal digits.
 ghost use Rattle.std.specs.Prelude.{◌≡◌, ◌+◌, ◌<◌};
-ghost use Rattle.pl_frame.specs.Printed.{padded};
+ghost use Rattle.pl_text.specs.ValueText.{padded};
 
 // The digit for a number below 10.
 #[inline]

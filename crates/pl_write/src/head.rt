@@ -2,7 +2,8 @@
 ghost use Rattle.std.specs.Prelude.{◌≡◌, ℕ, ◌<◌, ◌++◌, [], List, length, slice_index_or, IfOk, OnOk, if◌then◌else◌};
 ghost use Rattle.pl_frame.specs.Frame.{names_of};
 ghost use Rattle.pl_frame.specs.Schema.{names_in};
-ghost use Rattle.pl_frame.specs.Text.{written_text, header_line, head_text, byte_order_mark};
+ghost use Rattle.pl_frame.specs.ByteOrderMark.{byte_order_mark};
+ghost use Rattle.pl_text.specs.FrameText.{written_text, header_line, head_text};
 ghost use Rattle.pl_write.specs.Options.{cell_options, frame_options};
 ghost use Rattle.pl_write.specs.Writing.{separator_before};
 

@@ -5,6 +5,7 @@ ghost use Rattle.std.specs.Thread.{IsSync};
 ghost use Rattle.pl_frame.specs.Frame.{IsFrame};
 ghost use Rattle.pl_write.specs.JoinedBatches.{AreBatchesOf, batches_text, joined_batches};
 ghost use Rattle.pl_write.specs.Options.{frame_options, with_batch_size};
+ghost use Rattle.pl_write.specs.OptionsEqual.{CellOptionsAreTold, WriterOptionsAreTold};
 
 use crate::batched_writer::BatchedWriter;
 use crate::csv_writer::{CsvWriter, SerWriter};
@@ -12,6 +13,12 @@ use pl_frame::error::PolarsResult;
 use pl_frame::frame::DataFrame;
 use pl_frame::sink::Sink;
 use std::thread::Threads;
+
+/// `==` of the options of cells tells whether two of them are one, and so does that of the options of a writer.
+pub fn options_are_told()
+    ensures cells { CellOptionsAreTold }
+    ensures writers { WriterOptionsAreTold }
+{}
 
 /// Writes a frame by two writers, which differ in batch size and number of threads alone: where both writes succeed and their
 /// sinks had received the same, both have received the same.

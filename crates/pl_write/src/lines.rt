@@ -1,7 +1,7 @@
 //! The lines of some rows, put together column by column.
 ghost use Rattle.std.specs.Prelude.{◌≡◌, ◌+◌, ◌≤◌, ◌<◌, ◌++◌, [], length, IfOk, OnOk};
 ghost use Rattle.std.specs.List.{All, flat_map};
-ghost use Rattle.pl_frame.specs.Text.{row_lines};
+ghost use Rattle.pl_text.specs.FrameText.{row_lines};
 ghost use Rattle.pl_write.specs.CellSources.{IsSourceOf, HaveSources};
 ghost use Rattle.pl_write.specs.Lines.{cell_in_line, joined_cells, GrewBy, AreLines, HaveRows};
 ghost use Rattle.pl_write.specs.Options.{cell_options};

@@ -72,7 +72,7 @@ pub struct CsvWriterOptions {
     pub include_bom: bool,
     /// Whether the line of the names stands before the rows.
     pub include_header: bool,
-    /// Has no effect: a frame is written in blocks of bytes.
+    /// How many rows are a batch, 0 counting as 1: printing is shared out by batches, and the text does not depend on them.
     pub batch_size: usize,
     /// Has no effect.
     pub maintain_order: bool,

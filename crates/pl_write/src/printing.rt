@@ -5,7 +5,7 @@ ghost use Rattle.std.specs.Thread.{IsSync};
 ghost use Rattle.std.specs.Io.KnownBytes.{Appends};
 ghost use Rattle.pl_frame.specs.Causes.{Rose};
 ghost use Rattle.pl_frame.specs.Frame.{HaveHeight};
-ghost use Rattle.pl_frame.specs.Text.{row_lines};
+ghost use Rattle.pl_text.specs.FrameText.{row_lines};
 ghost use Rattle.pl_write.specs.CellSources.{HaveSources};
 ghost use Rattle.pl_write.specs.Lines.{HaveRows};
 ghost use Rattle.pl_write.specs.Options.{cell_options};

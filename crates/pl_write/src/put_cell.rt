@@ -1,7 +1,7 @@
 //! What puts the cells of a column.
 ghost use Rattle.std.specs.Prelude.{◌≡◌, ◌<◌, ◌++◌, ◌+◌, ◌≤◌, length, take, IfSome, IfNone};
 ghost use Rattle.pl_frame.specs.Frame.{ColumnValue, cell_at};
-ghost use Rattle.pl_frame.specs.Text.{WriteOptions, written_cell};
+ghost use Rattle.pl_text.specs.FrameText.{WriteOptions, written_cell};
 ghost use Rattle.pl_write.specs.Options.{cell_options};
 
 use crate::options::SerializeOptions;

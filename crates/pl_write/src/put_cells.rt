@@ -2,8 +2,8 @@
 ghost use Rattle.std.specs.Prelude.{◌≡◌, true, ◌<◌, ◌++◌, ◌+◌, ◌*◌, ◌≤◌, length, take, IfSome, IfNone};
 ghost use Rattle.pl_frame.specs.Columns.{is_number_of};
 ghost use Rattle.pl_frame.specs.Frame.{Truth, cell_at};
-ghost use Rattle.pl_frame.specs.Printed.{number_text, printed};
-ghost use Rattle.pl_frame.specs.Text.{written_cell, written_value, written_text};
+ghost use Rattle.pl_text.specs.ValueText.{number_text, printed};
+ghost use Rattle.pl_text.specs.FrameText.{written_cell, written_value, written_text};
 ghost use Rattle.pl_frame.specs.Types.{is_numeric};
 ghost use Rattle.pl_write.specs.CellForms.{FitsForm};
 ghost use Rattle.pl_write.specs.Options.{cell_options};

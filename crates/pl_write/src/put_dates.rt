@@ -1,7 +1,8 @@
 //! Dates and the numbers in them, put into a block from a place on.
 ghost use Rattle.std.specs.Prelude.{◌≡◌, ◌++◌, ◌<◌, ◌+◌, ◌≤◌, true, length, take};
 ghost use Rattle.pl_frame.specs.Types.{is_within, day_range};
-ghost use Rattle.pl_frame.specs.Printed.{civil, civil_text, date_text, padded};
+ghost use Rattle.pl_frame.specs.Days.{civil};
+ghost use Rattle.pl_text.specs.ValueText.{civil_text, date_text, padded};
 
 use crate::digit_words::two_digits;
 use crate::puts::{put_byte, put_front};

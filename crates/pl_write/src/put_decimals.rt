@@ -1,6 +1,6 @@
 //! Decimal numbers, put into a block from a place on.
 ghost use Rattle.std.specs.Prelude.{◌≡◌, ◌++◌, ◌∷◌, [], ◌<◌, ◌≤◌, ◌+◌, ◌-◌, length, take, drop, IfSome, IfNone};
-ghost use Rattle.pl_frame.specs.Printed.{padded, point_text, decimal_text};
+ghost use Rattle.pl_text.specs.ValueText.{padded, point_text, decimal_text};
 
 use crate::digit_counts::short_digit_count;
 use crate::digit_words::{bytes_from, eight_digits};

@@ -1,7 +1,7 @@
 //! Texts that lie in a buffer with others, put into a block from a place on. A short one goes there with what stands
 //! behind it, by one copy of fixed size, of which only the first bytes count.
 ghost use Rattle.std.specs.Prelude.{◌≡◌, ◌++◌, ◌≤◌, ◌+◌, ◌*◌, length, take, slice_range, IfSome, IfNone, if◌then◌else◌};
-ghost use Rattle.pl_frame.specs.Text.{doubled, needs_quotes, quoted, written_text};
+ghost use Rattle.pl_text.specs.FrameText.{doubled, needs_quotes, quoted, written_text};
 ghost use Rattle.pl_write.specs.Options.{cell_options};
 
 use crate::cell_form::CellForm;

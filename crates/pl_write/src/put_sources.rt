@@ -1,7 +1,7 @@
 //! The sources of columns, which put their cells into a block from a place on. A cell for which there is no room is not put.
 ghost use Rattle.std.specs.Prelude.{◌≡◌, ℤ, true, ◌<◌, ◌++◌, ◌+◌, ◌≤◌, length, take, None, Some, unwrap_or, slice_get, IfSome, IfNone};
 ghost use Rattle.std.specs.Fmt.{signed_decimal};
-ghost use Rattle.pl_frame.specs.Printed.{date_text, datetime_text, decimal_text};
+ghost use Rattle.pl_text.specs.ValueText.{date_text, datetime_text, decimal_text};
 ghost use Rattle.pl_frame.specs.Types.{is_within, day_range, datetime_range, units_in_second};
 ghost use Rattle.pl_write.specs.CellForms.{number_or_null, text_or_null};
 ghost use Rattle.pl_write.specs.Options.{cell_options};
@@ -187,7 +187,7 @@ impl PutCell for DigitSource<'_> {
 pub(crate) struct DateSource<'a>(pub(crate) &'a Numbers<i64>);
 
 impl PutCell for DateSource<'_> {
-    ghost use Rattle.pl_frame.specs.Printed.{date_text};
+    ghost use Rattle.pl_text.specs.ValueText.{date_text};
     ghost use Rattle.pl_frame.specs.Types.{day_range};
     ghost use Rattle.pl_write.specs.CellSources.{WritesNumbers, LieWithin};
 
@@ -212,7 +212,7 @@ impl PutCell for DateSource<'_> {
 pub(crate) struct DatetimeSource<'a>(pub(crate) TimeUnit, pub(crate) &'a Numbers<i64>);
 
 impl PutCell for DatetimeSource<'_> {
-    ghost use Rattle.pl_frame.specs.Printed.{datetime_text};
+    ghost use Rattle.pl_text.specs.ValueText.{datetime_text};
     ghost use Rattle.pl_frame.specs.Types.{datetime_range, units_in_second};
     ghost use Rattle.pl_write.specs.CellSources.{WritesNumbers, LieWithin};
 
@@ -238,7 +238,7 @@ pub(crate) struct DecimalSource<'a>(pub(crate) usize, pub(crate) &'a Numbers<i64
 
 impl PutCell for DecimalSource<'_> {
     ghost use Rattle.std.specs.Prelude.{◌≤◌};
-    ghost use Rattle.pl_frame.specs.Printed.{decimal_text};
+    ghost use Rattle.pl_text.specs.ValueText.{decimal_text};
     ghost use Rattle.pl_write.specs.CellSources.{WritesNumbers};
 
     ghost fits = { λ source o column. WritesNumbers (decimal_text source.0) source.1.now o column × (1 ≤ source.0) × (source.0 ≤ 7) };
@@ -266,7 +266,7 @@ pub(crate) struct WideDecimalSource<'a>(pub(crate) usize, pub(crate) &'a Numbers
 
 impl PutCell for WideDecimalSource<'_> {
     ghost use Rattle.std.specs.Prelude.{◌≤◌};
-    ghost use Rattle.pl_frame.specs.Printed.{decimal_text};
+    ghost use Rattle.pl_text.specs.ValueText.{decimal_text};
     ghost use Rattle.pl_write.specs.CellSources.{WritesNumbers};
 
     ghost fits = { λ source o column. WritesNumbers (decimal_text source.0) source.1.now o column × (1 ≤ source.0) × (source.0 ≤ 7) };

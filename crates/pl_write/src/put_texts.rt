@@ -1,7 +1,7 @@
 //! Texts and nulls, put into a block from a place on.
 ghost use Rattle.std.specs.Prelude.{◌≡◌, ◌++◌, ◌∷◌, [], ◌<◌, ◌≤◌, ◌+◌, ◌*◌, false, length, take, IfSome, IfNone, if◌then◌else◌};
 ghost use Rattle.std.specs.List.{list_any};
-ghost use Rattle.pl_frame.specs.Text.{is_special, needs_quotes, doubled, quoted, quoted_null, written_null};
+ghost use Rattle.pl_text.specs.FrameText.{is_special, needs_quotes, doubled, quoted, quoted_null, written_null};
 ghost use Rattle.pl_write.specs.Options.{cell_options};
 
 use crate::options::{QuoteStyle, SerializeOptions};

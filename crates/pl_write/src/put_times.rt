@@ -2,7 +2,7 @@
 ghost use Rattle.std.specs.Prelude.{◌≡◌, ◌++◌, ◌∷◌, [], ◌<◌, ◌+◌, ◌≤◌, ◌*◌, ◌^◌, true, pos, unsigned_abs, length, take};
 ghost use Rattle.std.specs.Int.{int_div_euclid};
 ghost use Rattle.pl_frame.specs.Types.{is_within, day_range, time_range, datetime_range, units_in_second};
-ghost use Rattle.pl_frame.specs.Printed.{padded, clock_text, time_text, places_of, second_text, datetime_text};
+ghost use Rattle.pl_text.specs.ValueText.{padded, clock_text, time_text, places_of, second_text, datetime_text};
 
 use crate::digit_words::{bytes_from, eight_digits};
 use crate::digits::{nine_digits, three_digits};

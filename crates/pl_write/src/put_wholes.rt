@@ -1,7 +1,7 @@
 //! Whole numbers of 64 bits, put into a block from a place on.
 ghost use Rattle.std.specs.Prelude.{◌≡◌, ◌++◌, ◌∷◌, [], ◌<◌, ◌+◌, ◌≤◌, length, take, decimal};
 ghost use Rattle.std.specs.Fmt.{signed_decimal};
-ghost use Rattle.pl_frame.specs.Printed.{padded};
+ghost use Rattle.pl_text.specs.ValueText.{padded};
 
 use crate::digit_counts::{digit_count, short_digit_count};
 use crate::digit_words::{bytes_from, eight_digits};

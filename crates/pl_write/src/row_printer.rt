@@ -1,7 +1,7 @@
 //! A printer of rows, whose memory is used again.
 ghost use Rattle.std.specs.Prelude.{◌≡◌, ◌-◌, ◌<◌, ◌++◌, [], length, IfOk, OnOk};
 ghost use Rattle.pl_frame.specs.Frame.{HaveHeight, height_of};
-ghost use Rattle.pl_frame.specs.Text.{row_lines};
+ghost use Rattle.pl_text.specs.FrameText.{row_lines};
 ghost use Rattle.pl_write.specs.CellSources.{HaveSources};
 ghost use Rattle.pl_write.specs.Lines.{HaveRows};
 ghost use Rattle.pl_write.specs.Options.{cell_options};

@@ -1,6 +1,6 @@
 //! The cells of a column, written one by one.
 ghost use Rattle.std.specs.Prelude.{◌≡◌, ◌++◌, ◌<◌, length, IsOkUnless, OnErr, OnOk};
-ghost use Rattle.pl_frame.specs.Text.{written_cell};
+ghost use Rattle.pl_text.specs.FrameText.{written_cell};
 ghost use Rattle.pl_frame.specs.declared.error.PolarsError.TheVariants as error;
 ghost use Rattle.pl_write.specs.CellsLeft.{next_cell, without_next};
 ghost use Rattle.pl_write.specs.Options.{cell_options};

@@ -1,6 +1,6 @@
 //! A share of the rows of a frame, printed by one worker.
 ghost use Rattle.std.specs.Prelude.{◌≡◌, ◌-◌, [], false, IfOk};
-ghost use Rattle.pl_frame.specs.Text.{row_lines};
+ghost use Rattle.pl_text.specs.FrameText.{row_lines};
 ghost use Rattle.pl_write.specs.CellSources.{HaveSources};
 ghost use Rattle.pl_write.specs.Lines.{HaveRows};
 ghost use Rattle.pl_write.specs.Options.{cell_options};

@@ -2,7 +2,7 @@
 ghost use Rattle.std.specs.Prelude.{◌≡◌, ◌==◌, ◌+◌, ◌≤◌, length, not};
 ghost use Rattle.std.specs.Bool.{OnTrue};
 ghost use Rattle.std.specs.List.{list_any, prefix_len};
-ghost use Rattle.pl_frame.specs.Text.{is_special};
+ghost use Rattle.pl_text.specs.FrameText.{is_special};
 ghost use Rattle.pl_write.specs.Special.{HasNoSpecial};
 
 use std::simd::prelude::*;

@@ -1,6 +1,6 @@
 //! Texts and nulls as they are written.
 ghost use Rattle.std.specs.Prelude.{◌≡◌, ◌++◌, ◌∷◌, ◌==◌, ◌||◌, ◌≤◌, [], length, take, drop, OnOk, if◌then◌else◌};
-ghost use Rattle.pl_frame.specs.Text.{needs_quotes, doubled, quoted, quoted_null, written_text, written_null};
+ghost use Rattle.pl_text.specs.FrameText.{needs_quotes, doubled, quoted, quoted_null, written_text, written_null};
 ghost use Rattle.pl_write.specs.Options.{cell_options};
 ghost use Rattle.pl_write.specs.Writing.{StaysInFront};
 

@@ -3,7 +3,7 @@ ghost use Rattle.std.specs.Prelude.{◌≡◌, ◌++◌, ◌<◌, ◌*◌, ◌^�
 ghost use Rattle.std.specs.Int.{int_div_euclid, int_rem_euclid};
 ghost use Rattle.jiff_core.specs.Calendar.{IsBetween};
 ghost use Rattle.pl_frame.specs.Types.{is_within, time_range, datetime_range, units_in_second};
-ghost use Rattle.pl_frame.specs.Printed.{time_text, datetime_text};
+ghost use Rattle.pl_text.specs.ValueText.{time_text, datetime_text};
 ghost use Rattle.pl_write.specs.Writing.{StaysInFront};
 
 use crate::put_times::{put_datetime, put_time};

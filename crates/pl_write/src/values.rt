@@ -3,8 +3,8 @@ ghost use Rattle.std.specs.Prelude.{◌≡◌, ◌++◌, true, not, unwrap_or, u
 ghost use Rattle.pl_frame.specs.Columns.{is_number_of};
 ghost use Rattle.pl_frame.specs.Frame.{Truth};
 ghost use Rattle.pl_frame.specs.Types.{is_numeric, is_within, datetime_range, range_of, units_in_second};
-ghost use Rattle.pl_frame.specs.Printed.{datetime_text, number_text, printed};
-ghost use Rattle.pl_frame.specs.Text.{is_bare, quoted, written_value};
+ghost use Rattle.pl_text.specs.ValueText.{datetime_text, number_text, printed};
+ghost use Rattle.pl_text.specs.FrameText.{is_bare, quoted, written_value};
 ghost use Rattle.pl_write.specs.Options.{cell_options, style_number};
 ghost use Rattle.pl_write.specs.Writing.{StaysInFront};
 

@@ -1,35 +1,23 @@
 //! The text of a frame, written in blocks.
-ghost use Rattle.std.specs.Prelude.{◌≡◌, true, ◌<◌, ◌++◌, ◌≤◌, length, None, unwrap_or, slice_get, OnOk, IsErrOf};
-ghost use Rattle.std.specs.Fmt.{signed_decimal};
+ghost use Rattle.std.specs.Prelude.{◌≡◌, ◌<◌, ◌++◌, ◌≤◌, OnOk, IsErrOf};
 ghost use Rattle.std.specs.Io.KnownBytes.{Appends};
 ghost use Rattle.pl_frame.specs.Causes.{Rose};
-ghost use Rattle.pl_frame.specs.Columns.{is_number_of};
-ghost use Rattle.pl_frame.specs.Types.{is_numeric};
-ghost use Rattle.pl_frame.specs.Frame.{cell_at, HaveHeight, height_of};
-ghost use Rattle.pl_frame.specs.Printed.{number_text};
-ghost use Rattle.pl_frame.specs.Text.{written_cell, written_value, written_text, row_lines, text_of_frame};
+ghost use Rattle.pl_frame.specs.Frame.{HaveHeight, height_of};
+ghost use Rattle.pl_text.specs.FrameText.{row_lines, text_of_frame};
 ghost use Rattle.pl_write.specs.Options.{cell_options, frame_options};
-ghost use Rattle.pl_write.specs.CellForms.{FitsForm, number_or_null};
 ghost use Rattle.pl_write.specs.CellSources.{HaveSources};
-ghost use Rattle.pl_write.specs.declared.cell_form.CellForm.TheVariants as CellForm;
-ghost use Rattle.pl_write.specs.Writing.{AppendsPrefix, StaysInFront};
+ghost use Rattle.pl_write.specs.Writing.{AppendsPrefix};
 
 use crate::block::Block;
-use crate::cell_form::CellForm;
 use crate::cell_source::{CellSource, sources_of};
 use crate::head::{ColumnNames, head_block};
 use crate::lines::{append_rows, line_count, new_lines};
 use crate::options::{CsvWriterOptions, SerializeOptions};
 use crate::printing::write_by_workers;
 use crate::spare::Spare;
-use crate::texts::{push_as_needed, push_null, push_text};
-use crate::values::{push_number_cell, push_truth_cell};
-use crate::wholes::{push_narrow, push_whole};
-use pl_frame::column::{Column, Value};
-use pl_frame::data_type::DataType;
-use pl_frame::numbers::Numbers;
+use pl_frame::column::Column;
 use pl_frame::sink::{Sink, SinkFault, write_all};
-use std::alloc::{AllocError, Global};
+use std::alloc::Global;
 use std::thread::Threads;
 
 // So many bytes are written at a time, or some rows more.
@@ -37,115 +25,6 @@ const BLOCK: usize = 1 << 17;
 
 // So many workers print at most.
 const WORKERS: usize = 64;
-
-// Appends a text, quoted as the style asks.
-#[inline]
-fn push_text_in(
-    block: &mut Vec<u8>,
-    text: &[u8],
-    form: CellForm,
-    options: &SerializeOptions,
-) -> Result<(), AllocError>
-    requires { form ≡ CellForm.AsNeeded → (cell_options options.now).style ≡ 0 }
-    ensures text { OnOk result (block.new.items ≡ block.old.items ++ written_text (cell_options options.now) text.now) }
-    ensures kept { StaysInFront block.old.items block.new.items }
-{
-    match form {
-        CellForm::AsNeeded => push_as_needed(block, text, options.separator, options.quote_char),
-        CellForm::Digits | CellForm::ByCell => push_text(block, text, options),
-    }
-}
-
-// Appends the cell of a number.
-#[tactic(auto, using(crate::proofs::KeptLaws::keeping))]
-#[inline]
-fn push_number_in(
-    block: &mut Vec<u8>,
-    scratch: &mut Vec<u8>,
-    dtype: &DataType,
-    form: CellForm,
-    number: i128,
-    options: &SerializeOptions,
-) -> Result<(), AllocError>
-    requires range { is_number_of dtype.now number ≡ true }
-    requires form { FitsForm form (cell_options options.now) dtype.now }
-    ensures text { OnOk result (block.new.items ≡ block.old.items ++ written_value (cell_options options.now) (is_numeric dtype.now) (number_text dtype.now number)) }
-    ensures kept { StaysInFront block.old.items block.new.items }
-{
-    match form {
-        CellForm::Digits => push_whole(block, number),
-        CellForm::AsNeeded | CellForm::ByCell => push_number_cell(
-            block, scratch, dtype, number, options,
-        ),
-    }
-}
-
-// Appends the text of a cell of any column, in its form.
-#[tactic(auto, using(crate::proofs::KeptLaws::keeping))]
-#[inline]
-fn push_value(
-    block: &mut Vec<u8>,
-    scratch: &mut Vec<u8>,
-    column: &Column,
-    form: CellForm,
-    row: usize,
-    options: &SerializeOptions,
-) -> Result<(), AllocError>
-    requires row { row < length column.now.values }
-    requires form { FitsForm form (cell_options options.now) column.now.dtype }
-    ensures text { OnOk result (block.new.items ≡ block.old.items ++ written_cell (cell_options options.now) column.now.dtype (cell_at column.now row)) }
-    ensures kept { StaysInFront block.old.items block.new.items }
-{
-    match column.get(row) {
-        Value::Null => push_null(block, options),
-        Value::Text(text) => push_text_in(block, text.as_bytes(), form, options),
-        Value::Boolean(truth) => push_truth_cell(block, scratch, column.dtype(), truth, options),
-        Value::Whole(number) => {
-            push_number_in(block, scratch, column.dtype(), form, number, options)
-        }
-    }
-}
-
-// Appends the digits of a number kept in 64 bits, or what stands for a null.
-#[tactic(auto, using(crate::proofs::KeptLaws::keeping))]
-#[inline]
-fn push_narrow_cell(
-    block: &mut Vec<u8>,
-    numbers: &Numbers<i64>,
-    row: usize,
-    options: &SerializeOptions,
-) -> Result<(), AllocError>
-    requires { row < length numbers.now }
-    ensures text { OnOk result (block.new.items ≡ block.old.items ++ number_or_null signed_decimal (cell_options options.now) (unwrap_or (slice_get numbers.now row) None)) }
-    ensures kept { StaysInFront block.old.items block.new.items }
-{
-    match numbers.get(row) {
-        Some(number) => push_narrow(block, number),
-        None => push_null(block, options),
-    }
-}
-
-// Appends the text of a cell, in the form of its column.
-#[tactic(auto, using(crate::proofs::KeptLaws::keeping))]
-#[inline]
-pub(crate) fn push_cell(
-    block: &mut Vec<u8>,
-    scratch: &mut Vec<u8>,
-    column: &Column,
-    form: CellForm,
-    row: usize,
-    options: &SerializeOptions,
-) -> Result<(), AllocError>
-    requires row { row < length column.now.values }
-    requires form { FitsForm form (cell_options options.now) column.now.dtype }
-    ensures text { OnOk result (block.new.items ≡ block.old.items ++ written_cell (cell_options options.now) column.now.dtype (cell_at column.now row)) }
-    ensures kept { StaysInFront block.old.items block.new.items }
-{
-    if let (CellForm::Digits, Some(numbers)) = (form, column.narrow_numbers()) {
-        return push_narrow_cell(block, numbers, row, options);
-    }
-    push_value(block, scratch, column, form, row, options)
-}
 
 /// The number of rows.
 pub(crate) fn row_count(columns: &[Column]) -> usize

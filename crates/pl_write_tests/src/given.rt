@@ -15,18 +15,6 @@ pub fn name(rt: &impl Abort, alloc: Global, text: &str) -> PlSmallStr {
     PlSmallStr::from_str(alloc, text).expect(rt, "a name")
 }
 
-// A column `t` of a null and behind it these texts.
-pub fn texts(rt: &impl Abort, alloc: Global, given: &[&str]) -> Column {
-    let mut values = Vec::new(alloc);
-    values.push(None).expect(rt, "a null");
-    for text in given {
-        let pushed = values.push(Some(name(rt, alloc, text)));
-        pushed.expect(rt, "a text");
-    }
-    let column = Column::text(alloc, name(rt, alloc, "t"), DataType::String, values);
-    column.expect(rt, "a column")
-}
-
 // A column `n` of these numbers or nulls, which are of the type.
 pub fn numbers(rt: &impl Abort, alloc: Global, dtype: DataType, given: &[Option<i128>]) -> Column
     requires number { is_number dtype ≡ true }

@@ -8,12 +8,8 @@ mod csv_writer;
 #[cfg(test)]
 mod given;
 #[cfg(test)]
-mod given_rows;
-#[cfg(test)]
 mod options;
 #[cfg(test)]
 mod printed;
 #[cfg(test)]
 mod serializer;
-#[cfg(test)]
-mod workers;

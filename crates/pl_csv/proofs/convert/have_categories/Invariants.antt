@@ -1,7 +1,7 @@
 use Rattle.std.proofs.Common.{◌≡◌, drop}
 use Rattle.std.specs.List.{list_any}
 use Rattle.pl_cells.specs.InitBuffers.{entry_at}
-use Rattle.pl_schema.specs.Schemas.{is_categorical}
+use Rattle.pl_infer.specs.Schemas.{is_categorical}
 use Rattle.pl_csv.proofs.convert.have_categories.Given as goal
 
 abbrev pub invariant-loop-place : goal.invariant-loop-place

@@ -1,7 +1,7 @@
 use Rattle.std.proofs.Common.{◌≡◌, List, drop, sym, ◌∙◌, ap, subst}
 use Rattle.std.specs.Prelude.{OnOk, IfErr, None}
 use Rattle.pl_frame.specs.Schema.{Entry}
-use Rattle.pl_infer.specs.Causes.{IsFault}
+use Rattle.pl_options.specs.FirstCause.{IsFault}
 use Rattle.pl_read.specs.Options.{settled_schema}
 use Rattle.pl_read.specs.Steps.{late_cause, data_cause}
 use Rattle.pl_read.proofs.SettlingLaws.{late-opening, late-data}

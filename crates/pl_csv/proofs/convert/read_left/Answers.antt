@@ -1,7 +1,7 @@
 use Rattle.std.proofs.Common.{◌≡◌, drop, map, inl, sym, subst}
 use Rattle.std.specs.Cow.{cow_slice_items}
 use Rattle.pl_frame.specs.Frame.{names_of}
-use Rattle.pl_frame.specs.Text.{text_of_frame}
+use Rattle.pl_text.specs.FrameText.{text_of_frame}
 use Rattle.pl_rows.specs.Ranges.{IsRangeRead}
 use Rattle.pl_read.specs.Rows.{data_frame}
 use Rattle.pl_write.specs.Options.{frame_options}

@@ -1,7 +1,7 @@
 use Rattle.std.proofs.Common.{◌≡◌, pos, ◌+◌, arith}
 use Rattle.jiff_core.proofs.SignedLemmas.{signed_arith}
 use Rattle.jiff_core.specs.Calendar.{days_from_civil}
-use Rattle.pl_frame.specs.Printed.{date_text, padded}
+use Rattle.pl_text.specs.ValueText.{date_text, padded}
 use Rattle.pl_csv.proofs.MadeInputLaws.{day_text, day_joined}
 use Rattle.pl_csv.proofs.make_input.push_day.Goals as goal
 

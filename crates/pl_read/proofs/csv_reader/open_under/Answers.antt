@@ -1,6 +1,6 @@
 use Rattle.std.proofs.Common.{refl, inr, subst}
 use Rattle.std.specs.Prelude.{IfOk, IfErr}
-use Rattle.pl_infer.specs.declared.read_options.CsvReadOptions.{CsvReadOptions}
+use Rattle.pl_options.specs.declared.read_options.CsvReadOptions.{CsvReadOptions}
 use Rattle.pl_read.specs.Batches.{IsOpened}
 use Rattle.pl_read.specs.BatchSteps.{IsOpeningFaultOf}
 use Rattle.pl_read.proofs.csv_reader.open_under.Goals as goal

@@ -18,6 +18,7 @@ returns g c =
       refused = refused-is lent left g.R.Source.faults before now o result input is c.read_frame.ensures;
       complete = complete-of (lent before) (left before) (left now) o result input _ _ is c.read_frame.ensures;
       lent = search rules;
+      read_on = search rules;
       later = search rules;
     }
 

@@ -1,6 +1,6 @@
 use Rattle.std.proofs.Common.{◌≡◌, map, take}
 use Rattle.std.specs.Prelude.{None}
-use Rattle.pl_infer.specs.Causes.{first_some}
+use Rattle.pl_options.specs.FirstCause.{first_some}
 use Rattle.pl_read.specs.Refusals.{codes_past}
 use Rattle.pl_read.proofs.indexing.find_codes_past.Given as goal
 

@@ -1,7 +1,7 @@
 use Rattle.std.proofs.Common.{◌≡◌, false, sym, ◌∙◌, subst}
 use Rattle.std.specs.Prelude.{IfOk, OnOk, IfErr, None}
 use Rattle.pl_frame.specs.Compression.{is_compressed}
-use Rattle.pl_infer.specs.Causes.{IsFault}
+use Rattle.pl_options.specs.FirstCause.{IsFault}
 use Rattle.pl_read.specs.Preparing.{IsPrepared}
 use Rattle.pl_read.proofs.SettlingLaws.{opening-early, opening-settled}
 use Rattle.pl_read.proofs.preparing.prepare.Goals as goal

@@ -1,7 +1,7 @@
 use Rattle.std.proofs.Common.{◌≡◌, List, ℕ, length, drop, sym, ◌∙◌, ap}
 use Rattle.std.specs.Prelude.{◌≤◌, ◌-◌, Some}
-use Rattle.pl_infer.specs.declared.read_options.CsvReadOptions.{CsvReadOptions}
-use Rattle.pl_infer.specs.Text.{marks_of, comment_of, skips_of}
+use Rattle.pl_options.specs.declared.read_options.CsvReadOptions.{CsvReadOptions}
+use Rattle.pl_options.specs.Text.{marks_of, comment_of, skips_of}
 use Rattle.pl_scan.proofs.StartLaws.{IsEndOf-data_left, IsEndOf-place}
 use Rattle.pl_read.specs.Options.{keeps_ends, data_of}
 use Rattle.pl_read.proofs.preparing.start_of.Goals as goal

@@ -2,7 +2,7 @@ use Rattle.std.proofs.Common.{true, false, sym, ◌∙◌, subst}
 use Rattle.std.specs.Option.{option_map}
 use Rattle.pl_frame.specs.declared.error.NamePlace.TheVariants as name_place
 use Rattle.pl_frame.specs.declared.error.PolarsError.TheVariants as error
-use Rattle.pl_infer.specs.Causes.{IsFault}
+use Rattle.pl_options.specs.FirstCause.{IsFault}
 use Rattle.pl_read.proofs.ProjectionLaws.{projected-below, taken}
 use Rattle.pl_read.proofs.projecting.check_index_name.Goals as goal
 

@@ -2,9 +2,8 @@ use Rattle.std.proofs.Common.{◌≡◌, true, ◌++◌, ◌∷◌, [], sym, ◌
 use Rattle.std.specs.Prelude.{Some, is_none}
 use Rattle.std.specs.Option.{option_map}
 use Rattle.pl_frame.specs.declared.error.PolarsError.TheVariants as error
-use Rattle.pl_frame.specs.Schema.{place_of}
+use Rattle.pl_frame.specs.Schema.{place_of, lacks}
 use Rattle.pl_cells.proofs.PlaceLaws.{find_first, find_more}
-use Rattle.pl_read.specs.Projection.{lacks}
 use Rattle.pl_read.proofs.ProjectionLaws.{found-more}
 use Rattle.pl_read.proofs.projecting.places_of.Goals as goal
 

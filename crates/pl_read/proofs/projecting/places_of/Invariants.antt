@@ -1,8 +1,7 @@
 use Rattle.std.proofs.Common.{◌≡◌, take}
 use Rattle.std.specs.Prelude.{None, find}
 use Rattle.std.specs.List.{filter_map}
-use Rattle.pl_frame.specs.Schema.{place_of}
-use Rattle.pl_read.specs.Projection.{lacks}
+use Rattle.pl_frame.specs.Schema.{place_of, lacks}
 use Rattle.pl_read.proofs.projecting.places_of.Given as goal
 
 abbrev pub invariant-loop-name : goal.invariant-loop-name

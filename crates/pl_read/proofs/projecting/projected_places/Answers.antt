@@ -2,7 +2,7 @@ use Rattle.std.proofs.Common.{◌≡◌, length, sym, ◌∙◌, subst, arith}
 use Rattle.std.specs.Prelude.{Some, None, filter, nat_le}
 use Rattle.pl_frame.specs.declared.error.NamePlace.TheVariants as name_place
 use Rattle.pl_frame.specs.declared.error.PolarsError.TheVariants as error
-use Rattle.pl_infer.specs.Causes.{IsFault}
+use Rattle.pl_options.specs.FirstCause.{IsFault}
 use Rattle.pl_read.specs.Projection.{asked, outside, doubled}
 use Rattle.pl_read.proofs.ProjectionLaws.{outside-is, greatest-none, found-below, doubled-is, projected-is, projection-doubled, projection-taken, projection-sound}
 use Rattle.pl_read.proofs.projecting.projected_places.Goals as goal

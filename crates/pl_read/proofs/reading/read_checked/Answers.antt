@@ -1,7 +1,7 @@
 use Rattle.std.proofs.Common.{◌≡◌, sym, ◌∙◌, ap, subst}
 use Rattle.std.specs.Prelude.{ℕ, List, Option, IfOk, OnOk, IfErr, None, drop, unwrap_or, []}
 use Rattle.pl_frame.specs.Schema.{Entry}
-use Rattle.pl_infer.specs.Causes.{IsFault}
+use Rattle.pl_options.specs.FirstCause.{IsFault}
 use Rattle.pl_read.specs.Options.{settled_schema}
 use Rattle.pl_read.specs.Reading.{frame_of}
 use Rattle.pl_read.specs.Rows.{data_frame}

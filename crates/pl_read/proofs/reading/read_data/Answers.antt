@@ -5,8 +5,8 @@ use Rattle.pl_frame.specs.Frame.{IsFrame, height_of}
 use Rattle.pl_frame.specs.Dialect.{IsDialect}
 use Rattle.pl_scan.specs.Dialect.{comment_of as scan_comment_of}
 use Rattle.pl_rows.specs.Plan.{AreRising}
-use Rattle.pl_infer.specs.Text.{marks_of}
-use Rattle.pl_infer.specs.Causes.{IsFault}
+use Rattle.pl_options.specs.Text.{marks_of}
+use Rattle.pl_options.specs.FirstCause.{IsFault}
 use Rattle.pl_read.specs.Refusals.{index_past}
 use Rattle.pl_read.specs.Rows.{with_index, data_frame}
 use Rattle.pl_read.specs.Steps.{data_cause}

@@ -1,6 +1,6 @@
 use Rattle.std.proofs.Common.{rules, ◌≡◌, List, ℕ, drop, refl, sym, subst, arith}
 use Rattle.std.specs.Prelude.{IfOk, OnOk, IfErr, None}
-use Rattle.pl_infer.specs.Causes.{IsFault}
+use Rattle.pl_options.specs.FirstCause.{IsFault}
 use Rattle.pl_read.specs.Rows.{data_frame}
 use Rattle.pl_read.specs.Steps.{data_cause, CanReadData}
 use Rattle.pl_read.proofs.BatchStepLaws.{rest-is}

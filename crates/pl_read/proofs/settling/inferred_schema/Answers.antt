@@ -1,10 +1,10 @@
 use Rattle.std.proofs.Common.{◌≡◌, sym, ◌∙◌, ap, subst}
 use Rattle.std.specs.Prelude.{None}
 use Rattle.pl_frame.specs.Dialect.{AreDistinct}
-use Rattle.pl_infer.specs.Causes.{first_some, IsFault}
-use Rattle.pl_infer.specs.Text.{marks_of}
-use Rattle.pl_schema.specs.Inference.{Inference, inferred, inference_causes}
-use Rattle.pl_schema.specs.declared.inference_result.SchemaInferenceResult.{SchemaInferenceResult}
+use Rattle.pl_options.specs.FirstCause.{first_some, IsFault}
+use Rattle.pl_options.specs.Text.{marks_of}
+use Rattle.pl_infer.specs.Inference.{Inference, inferred, inference_causes}
+use Rattle.pl_infer.specs.declared.inference_result.SchemaInferenceResult.{SchemaInferenceResult}
 use Rattle.pl_read.proofs.settling.inferred_schema.Goals as goal
 
 pub infer_schema-requires : goal.infer_schema-requires

@@ -1,6 +1,6 @@
 use Rattle.std.proofs.Common.{◌≡◌, sym, subst}
 use Rattle.std.specs.Prelude.{IfOk, OnOk, IfErr, None}
-use Rattle.pl_infer.specs.Causes.{IsFault}
+use Rattle.pl_options.specs.FirstCause.{IsFault}
 use Rattle.pl_read.proofs.DataLaws.{may-dialect}
 use Rattle.pl_read.proofs.SettlingLaws.{copy-schema, copy-sound, copy-refused, schema-inferred, cause-inferred}
 use Rattle.pl_read.proofs.settling.schema_of.Goals as goal

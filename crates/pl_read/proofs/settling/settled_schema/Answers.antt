@@ -1,6 +1,6 @@
 use Rattle.std.proofs.Common.{◌≡◌, ap, subst}
 use Rattle.std.specs.Prelude.{IfOk, OnOk, IfErr, None}
-use Rattle.pl_infer.specs.Causes.{IsFault}
+use Rattle.pl_options.specs.FirstCause.{IsFault}
 use Rattle.pl_read.specs.Options.{settled}
 use Rattle.pl_read.proofs.SettlingLaws.{settling-early, settling-late}
 use Rattle.pl_read.proofs.settling.settled_schema.Goals as goal

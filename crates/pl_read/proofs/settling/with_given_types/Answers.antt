@@ -5,7 +5,7 @@ use Rattle.pl_frame.specs.declared.data_type.DataType.{DataType}
 use Rattle.pl_frame.specs.declared.error.PolarsError.TheVariants as error
 use Rattle.pl_frame.specs.declared.error.OpFault.TheVariants as op_fault
 use Rattle.pl_frame.specs.declared.error.ComputeFault.TheVariants as compute_fault
-use Rattle.pl_schema.specs.Schemas.{unreadable}
+use Rattle.pl_infer.specs.Schemas.{unreadable}
 use Rattle.pl_read.specs.Options.{with_types, settled}
 use Rattle.pl_read.proofs.SettlingLaws.{types-overrides, types-few}
 use Rattle.pl_read.proofs.settling.with_given_types.Goals as goal

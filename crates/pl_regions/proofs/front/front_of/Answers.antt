@@ -4,7 +4,7 @@ use Rattle.std.specs.List.{concat}
 use Rattle.std.specs.declared.borrow.CowSlice.{CowSlice}
 use Rattle.std.proofs.lemmas.List.{map-append, length_push}
 use Rattle.pl_write.specs.Options.{cell_options}
-use Rattle.pl_verbatim.specs.Printing.{IsFrontPrinted}
+use Rattle.pl_verbatim.specs.PrintedTexts.{IsFrontPrinted}
 use Rattle.pl_regions.proofs.RegionLaws.{IsFrontOf, IsFrontOf-none, IsFrontOf-more, front-part, front-whole, next-region}
 use Rattle.pl_regions.proofs.front.front_of.Goals as goal
 

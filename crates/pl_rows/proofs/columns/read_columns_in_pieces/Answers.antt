@@ -23,6 +23,6 @@ returns g c =
     let fresh : buffers ≡ empty_buffers plan.dialect.quote_char plan.options.encoding schema plan.projection.places.now = ap states c.deref_mut.ensures.value ∙ c.in_ok-buffers.ensures in
     let back = written_back c.in_ok-buffers.buffers.items c.read_pieces.new.buffers c.in_ok-buffers.buffers.len (omega (arith, c.in_ok-buffers.buffers.ok, c.deref_mut.ensures.len)) (omega (arith, c.read_pieces.auto.buffers, c.deref_mut.ensures.len, c.in_ok-buffers.buffers.ok)) in
     record {
-      columns = c.in_ok-columns.ensures ∙ ap (λ b. columns_of (states b)) back ∙ range_frame-is plan schema range buffers (states c.read_pieces.new.buffers) fresh c.requires.width c.in_ok-read.ensures.added;
-      end_is = c.in_ok-read.ensures.end ∙ ap (λ columns. range_end plan columns range) (plan_columns-empty plan schema buffers fresh c.requires.width);
+      columns = c.in_ok-columns.ensures ∙ ap (λ b. columns_of (states b)) back ∙ range_frame-is plan schema range buffers (states c.read_pieces.new.buffers) fresh c.requires.width c.in_ok-end.ensures.added;
+      end_is = c.in_ok-end.ensures.end ∙ ap (λ columns. range_end plan columns range) (plan_columns-empty plan schema buffers fresh c.requires.width);
     }

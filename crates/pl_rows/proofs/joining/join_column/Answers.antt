@@ -2,7 +2,7 @@ use Rattle.std.proofs.Common.{◌≡◌, ℕ, suc, ◌+◌, ◌<◌, length, get
 use Rattle.std.specs.Prelude.{Some, slice_get}
 use Rattle.std.proofs.lemmas.Option.{slice_get_read}
 use Rattle.pl_cells.specs.declared.buffer.Buffer.{Buffer}
-use Rattle.pl_cells.specs.BufferValue.{BufferValue, with_values}
+use Rattle.pl_cells.specs.BufferValue.{BufferValue, with_more}
 use Rattle.pl_cells.specs.InitBuffers.{state_of}
 use Rattle.pl_rows.specs.Apart.{column_joined, values_at}
 use Rattle.pl_rows.specs.Plan.{states, state_types}
@@ -40,6 +40,6 @@ loop-part-2-preserved c =
     let k = c.loop-part-2.part-index in
     let next : k + 1 ≡ suc k = omega arith in
     c.in_ok-append_column.ensures
-    ∙ ap (λ (b : BufferValue). with_values b (values_at column part)) c.loop-part-2.invariant
+    ∙ ap (λ (b : BufferValue). with_more b (values_at column part)) c.loop-part-2.invariant
     ∙ sym (column_joined-more column first (take k parts) part)
     ∙ ap (column_joined column first) (sym (ap (λ j. take j parts) next ∙ take-more parts k part at))

@@ -17,7 +17,6 @@ pub loop-init : goal.loop-init
 loop-init g c = record {
   read = HasReadRows-start c.args.plan.now c.args.range.now (states c.args.buffers.now) c.requires.can;
   end_within = omega arith;
-  bytes_within = omega arith;
   bytes_are = ap (λ (s : Snapshot PieceDone). s.setup.bytes) c.new-board.ensures;
   reached_is = ap (λ (s : Snapshot PieceDone). reached s.log) c.new-board.ensures ∙ reached-none;
 }
@@ -65,8 +64,7 @@ loop-preserved g c =
     let inside : c.to-end.result ≤ length c.args.range.now = omega (arith, within, ap length c.loop.invariant.bytes_are, c.to-end.ensures) in
     record {
       read = more g c;
-      end_within = omega arith;
-      bytes_within = inside;
+      end_within = inside;
       bytes_are = ap (λ (s : Setup). s.bytes) (posted.0 ∙ handed_out.0) ∙ c.loop.invariant.bytes_are;
       reached_is = posted.1 ∙ handed_out.1 ∙ ap (λ (p : Cut). p.to) (sym is) ∙ sym c.to-end.ensures;
     }

@@ -1,7 +1,7 @@
 use Rattle.std.proofs.Common.{◌≡◌, ◌≤◌, ◌&&◌, true, false, length, sym, ◌∙◌, ap, subst, arith}
 use Rattle.std.proofs.lemmas.List.{length-map}
 use Rattle.pl_rows.specs.Blocks.{HaveAllRows}
-use Rattle.pl_rows.specs.Pieces.{is_closed, ends_item}
+use Rattle.pl_rows.specs.Pieces.{is_closed, is_fault, ends_item}
 use Rattle.pl_rows.specs.Plan.{states, plan_columns}
 use Rattle.pl_rows.specs.Ranges.{rows_of, range_end}
 use Rattle.pl_rows.proofs.PieceLaws.{closed-whole, ends-told, HasReadRange-back}
@@ -21,12 +21,14 @@ returns-clause-done c =
     let read = c.in-Ok.ensures.read in
     let told : c.ends_item-closed.result ≡ (is_closed (range_end plan (plan_columns plan before) piece) && ends_item plan.dialect piece) =
     c.ends_item-closed.ensures ∙ ap (λ e. is_closed e && ends_item plan.dialect piece) read.end_is in
+    let stops : c.is_fault.result ≡ is_fault (range_end plan (plan_columns plan before) piece) = c.is_fault.ensures ∙ ap is_fault read.end_is in
     elim c.if-not-closed.branch [
       | then-not-closed w ↦
           let unclosed : c.ends_item-closed.result ≡ false = w.if-not-closed.true in
           let all : length mid ≤ length c.read_counted.new.buffers = simp length-map (omega arith) in
           record {
             told = told;
+            stops = stops;
             ends = λ e. absurd (cc);
             read = λ e. absurd (cc);
             kept = λ _. ap states w.buffers-is ∙ w.cut_back.ensures ∙ HasReadRange-back plan piece before mid c.in-Ok.read.end c.in-Ok.read.rows (length c.read_counted.new.buffers) c.requires.can read all;
@@ -37,6 +39,7 @@ returns-clause-done c =
           let whole = closed-whole plan piece before mid c.in-Ok.read.end c.in-Ok.read.rows read parts.0 in
           record {
             told = told;
+            stops = stops;
             ends = λ _. parts.1;
             read = λ _. record {
               ends = parts.1;

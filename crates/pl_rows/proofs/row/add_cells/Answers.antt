@@ -7,7 +7,7 @@ use Rattle.pl_cells.specs.BufferValue.{with_value, IsCellFault}
 use Rattle.pl_rows.specs.Cells.{cell}
 use Rattle.pl_rows.specs.Plan.{states, rules_of}
 use Rattle.pl_rows.specs.RowRest.{fields_left}
-use Rattle.pl_rows.specs.Rows.{field_at}
+use Rattle.pl_cells.specs.Columns.{field_in}
 use Rattle.pl_rows.proofs.RowLaws.{HasReadColumns, IsAt, HasReadColumns-more, next_place, cells_fault}
 use Rattle.pl_rows.proofs.RuleLaws.{FollowsRules-at}
 use Rattle.pl_rows.proofs.row.add_cells.Goals as goal
@@ -55,7 +55,7 @@ returns-in-Err c =
     let at : IsAt plan before (states bs) i place (state_of old) =
     record { inside = simp length-map within; same = simp length-map (omega (arith, c.loop-index.auto.buffers)); count = c.requires.count; is = is; place_is = refl } in
     let begin = c.pass_fields-begin.result in
-    let fault : IsCellFault c.in-Err.fault (cell rules place (state_of old).dtype (field_at (fields_left (marks_of plan.dialect) begin) 0)) =
+    let fault : IsCellFault c.in-Err.fault (cell rules place (state_of old).dtype (field_in (fields_left (marks_of plan.dialect) begin) 0)) =
     subst (λ f. IsCellFault c.in-Err.fault (cell rules place (state_of old).dtype f)) c.next_field.ensures.field c.in-Err.ensures.0 in
     let kept : states (set bs i c.add_field.new.buffer) ≡ states bs = map-set_same state_of bs i c.add_field.new.buffer c.index-buffers-index.result c.in-Err.ensures.1 in
     rw c.row_fault.ensures
@@ -78,7 +78,7 @@ loop-index-preserved c =
     let at : IsAt plan before (states bs) i place (state_of old) =
     record { inside = simp length-map within; same = simp length-map (omega (arith, c.loop-index.auto.buffers)); count = c.requires.count; is = is; place_is = refl } in
     let begin = c.pass_fields-begin.result in
-    let ok : cell rules place (state_of old).dtype (field_at (fields_left (marks_of plan.dialect) begin) 0) ≡ Ok value = sym (ap (cell rules place (state_of old).dtype) c.next_field.ensures.field) ∙ c.in-Ok.ensures.is in
+    let ok : cell rules place (state_of old).dtype (field_in (fields_left (marks_of plan.dialect) begin) 0) ≡ Ok value = sym (ap (cell rules place (state_of old).dtype) c.next_field.ensures.field) ∙ c.in-Ok.ensures.is in
     let more = HasReadColumns-more plan b before (states bs) c.loop-index.rest begin c.next_field.result.1 i c.loop-index.next place (state_of old) value c.loop-index.invariant at
     c.pass_fields-begin.ensures.left c.pass_fields-begin.ensures.behind c.next_field.ensures.left c.next_field.ensures.behind ok in
     let now : states (set bs i c.add_field.new.buffer) ≡ set (states bs) i (with_value (state_of old) value) =

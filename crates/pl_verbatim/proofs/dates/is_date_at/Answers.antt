@@ -1,7 +1,7 @@
 use Rattle.std.proofs.Common.{◌-◌, ◌+◌, drop, subst}
 use Rattle.std.specs.List.{slice_range}
 use lib.Lanes.{chunk}
-use Rattle.pl_cells.specs.Lanes.{IsDateText as HasDateDigits}
+use Rattle.pl_cells.specs.Lanes.{HasDateDigits}
 use Rattle.pl_verbatim.proofs.DateLaws.{last_ten, on_true}
 use Rattle.pl_verbatim.proofs.dates.is_date_at.Goals as goal
 

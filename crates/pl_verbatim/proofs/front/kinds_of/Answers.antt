@@ -7,6 +7,6 @@ use Rattle.pl_verbatim.proofs.front.kinds_of.Goals as goal
 pub loop-index-preserved : goal.loop-index-preserved
 loop-index-preserved c = record {
   kinds = subst (AreKindsOf (take (c.loop-index.index + 1) c.args.schema.now)) (sym c.in_ok-push.ensures.items)
-      (kinds-more c.args.schema.now c.loop-index.index (c.in-Some.field-0-0.now, c.in-Some.dtype.now) c.loop-index.kinds.items c.in-Some-kind_of.kind (sym c.in-Some.ensures) c.loop-index.invariant.kinds c.in-Some-kind_of.ensures.kind);
-  sound = subst (All (λ kind. is_sound_kind kind ≡ true)) (sym c.in_ok-push.ensures.items) (sounds-more c.loop-index.kinds.items c.in-Some-kind_of.kind c.loop-index.invariant.sound c.in-Some-kind_of.ensures.sound);
+      (kinds-more c.args.schema.now c.loop-index.index (c.entry.result.0.now, c.entry.result.1.now) c.loop-index.kinds.items c.in-Some.kind c.entry.ensures c.loop-index.invariant.kinds c.in-Some.ensures.kind);
+  sound = subst (All (λ kind. is_sound_kind kind ≡ true)) (sym c.in_ok-push.ensures.items) (sounds-more c.loop-index.kinds.items c.in-Some.kind c.loop-index.invariant.sound c.in-Some.ensures.sound);
 }

@@ -1,7 +1,7 @@
 use Rattle.std.proofs.Common.{◌-◌, ◌+◌, drop, subst}
 use Rattle.std.specs.List.{slice_range}
 use lib.Lanes.{chunk}
-use Rattle.pl_cells.specs.Lanes.{IsClockText as HasClockDigits}
+use Rattle.pl_cells.specs.Lanes.{HasClockDigits}
 use Rattle.pl_verbatim.proofs.DateLaws.{on_true}
 use Rattle.pl_verbatim.proofs.MomentTextLaws.{last_eight}
 use Rattle.pl_verbatim.proofs.moments.is_clock_at.Goals as goal

@@ -1,5 +1,5 @@
 use Rattle.std.proofs.Common.{◌∙◌, sym, arith}
-use Rattle.pl_frame.specs.Text.{is_special}
+use Rattle.pl_text.specs.FrameText.{is_special}
 use Rattle.pl_verbatim.proofs.TextLaws.{counted}
 use Rattle.pl_verbatim.proofs.texts.count_before_special.Goals as goal
 

@@ -1,5 +1,5 @@
 use Rattle.std.proofs.Common.{◌≡◌, ℕ, ◌<◌, false, get_or}
-use Rattle.pl_frame.specs.Text.{is_special}
+use Rattle.pl_text.specs.FrameText.{is_special}
 use Rattle.pl_verbatim.proofs.texts.count_before_special.Given as goal
 
 abbrev pub invariant-loop-count : goal.invariant-loop-count

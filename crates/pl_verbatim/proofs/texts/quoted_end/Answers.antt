@@ -2,7 +2,7 @@ use Rattle.std.proofs.Common.{◌≡◌, ◌⊎◌, inl, inr, ◌+◌, true, ◌
 use Rattle.std.proofs.lemmas.Bool.{eqb-true}
 use Rattle.std.specs.List.{list_any, slice_range}
 use Rattle.std.specs.Str.{is_utf8}
-use Rattle.pl_frame.specs.Text.{is_special}
+use Rattle.pl_text.specs.FrameText.{is_special}
 use Rattle.pl_verbatim.proofs.TextInnerLaws.{IsNextQuote, some_in_part, part_read, quote_read, text_read}
 use Rattle.pl_verbatim.proofs.texts.quoted_end.Goals as goal
 use Rattle.pl_verbatim.proofs.texts.quoted_end.Goals.{then-is_needed, else-is_needed, then-is_needed-2, else-is_needed-2}

@@ -3,7 +3,7 @@ use Rattle.std.specs.Int.{w128}
 use Rattle.std.proofs.lemmas.Grind.{common_steps}
 use Rattle.std.proofs.lemmas.Int.{to_z-of_z}
 use Rattle.std.proofs.lemmas.Result.{on_ok_weaker}
-use Rattle.pl_frame.specs.Printed.{decimal_text}
+use Rattle.pl_text.specs.ValueText.{decimal_text}
 use Rattle.pl_write.proofs.decimals.push_decimal.Goals as goal
 
 pub returns-in-Some-clause-text : goal.returns-in-Some-clause-text

@@ -1,7 +1,7 @@
 use Rattle.std.proofs.Common.{◌≡◌, ◌+◌, if◌then◌else◌, [], ◌∷◌, ◌++◌, unsigned_abs, ap}
 use Rattle.std.proofs.lemmas.Int.{to_z-of_z}
 use Rattle.std.specs.Int.{is_negative, w128}
-use Rattle.pl_frame.specs.Printed.{padded, point_text, decimal_text}
+use Rattle.pl_text.specs.ValueText.{padded, point_text, decimal_text}
 use Rattle.pl_write.proofs.BlockLaws.{two_parts}
 use Rattle.pl_write.proofs.decimals.push_wide_decimal.Goals as goal
 

@@ -1,7 +1,7 @@
 use Rattle.std.proofs.Common.{◌++◌, [], map, take, ◌∙◌, ap, arith}
 use Rattle.std.specs.List.{join_with_byte}
 use Rattle.std.proofs.lemmas.List.{take_all}
-use Rattle.pl_frame.specs.Text.{written_text, header_line}
+use Rattle.pl_text.specs.FrameText.{written_text, header_line}
 use Rattle.pl_write.specs.Options.{cell_options}
 use Rattle.pl_write.specs.Writing.{separator_before}
 use Rattle.pl_write.proofs.BlockLaws.{two_parts}

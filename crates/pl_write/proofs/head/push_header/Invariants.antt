@@ -1,6 +1,6 @@
 use Rattle.std.proofs.Common.{◌≡◌, ◌++◌, map, take}
 use Rattle.std.specs.List.{join_with_byte}
-use Rattle.pl_frame.specs.Text.{written_text}
+use Rattle.pl_text.specs.FrameText.{written_text}
 use Rattle.pl_write.specs.Options.{cell_options}
 use Rattle.pl_write.proofs.head.push_header.Given as goal
 

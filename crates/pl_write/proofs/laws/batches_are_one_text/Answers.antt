@@ -4,7 +4,7 @@ use Rattle.std.specs.List.{flat_map}
 use Rattle.pl_frame.specs.Frame.{names_of}
 use Rattle.pl_frame.specs.FrameParts.{empty_columns}
 use Rattle.pl_frame.specs.Schema.{names_in}
-use Rattle.pl_frame.specs.Text.{head_text, text_of_frame}
+use Rattle.pl_text.specs.FrameText.{head_text, text_of_frame}
 use Rattle.pl_write.specs.Batches.{all_lines, head_to_come}
 use Rattle.pl_write.specs.JoinedBatches.{batches_text, joined_batches}
 use Rattle.pl_write.specs.Options.{frame_options}

@@ -2,7 +2,7 @@ use Rattle.std.proofs.Common.{◌≡◌, pos, ◌+ℤ◌, ◌++◌, ◌∙◌, a
 use Rattle.std.proofs.lemmas.Int.{to_z-of_z}
 use Rattle.jiff_core.proofs.SignedLemmas.{signed_arith}
 use Rattle.jiff_core.specs.Calendar.{days_from_civil}
-use Rattle.pl_write.proofs.DateLaws.{year_is, in_days, same_day, date_text-is}
+use Rattle.pl_text.proofs.DateLaws.{year_is, in_days, same_day, date_text-is}
 use Rattle.pl_write.proofs.put_dates.put_date.Goals as goal
 
 pub overflow_cast-date : goal.overflow_cast-date

@@ -1,5 +1,5 @@
 use Rattle.std.proofs.Common.{◌/◌, ◌%◌, take}
-use Rattle.pl_frame.specs.Printed.{padded}
+use Rattle.pl_text.specs.ValueText.{padded}
 use Rattle.pl_write.proofs.PutLaws.{put-both}
 use Rattle.pl_write.proofs.WordLaws.{padded-twice}
 use Rattle.pl_write.proofs.put_dates.put_four.Goals as goal

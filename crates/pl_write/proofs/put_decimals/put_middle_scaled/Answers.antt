@@ -1,6 +1,6 @@
 use Rattle.std.proofs.Common.{◌+◌, ◌/◌, ◌%◌, take}
 use Rattle.std.specs.Prelude.{decimal}
-use Rattle.pl_frame.specs.Printed.{padded, point_text}
+use Rattle.pl_text.specs.ValueText.{padded, point_text}
 use Rattle.pl_write.proofs.PutLaws.{put-both}
 use Rattle.pl_write.proofs.PointLaws.{point-onto_eight}
 use Rattle.pl_write.proofs.put_decimals.put_middle_scaled.Goals as goal

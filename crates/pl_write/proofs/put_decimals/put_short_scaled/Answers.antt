@@ -1,6 +1,6 @@
 use Rattle.std.proofs.Common.{◌≡◌, ◌+◌, ◌++◌, max, length, take, ◌∙◌, ap, arith}
 use Rattle.std.specs.Prelude.{decimal}
-use Rattle.pl_frame.specs.Printed.{point_text}
+use Rattle.pl_text.specs.ValueText.{point_text}
 use Rattle.pl_write.proofs.PointLaws.{padded-max}
 use Rattle.pl_write.proofs.put_decimals.put_short_scaled.Goals as goal
 

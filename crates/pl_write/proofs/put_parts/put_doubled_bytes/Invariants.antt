@@ -1,5 +1,5 @@
 use Rattle.std.proofs.Common.{◌≡◌, ◌≤◌, ◌+◌, ◌*◌, ◌++◌, take}
-use Rattle.pl_frame.specs.Text.{doubled}
+use Rattle.pl_text.specs.FrameText.{doubled}
 use Rattle.pl_write.proofs.put_parts.put_doubled_bytes.Given as goal
 
 abbrev pub invariant-loop-byte : goal.invariant-loop-byte

@@ -1,6 +1,6 @@
 use Rattle.std.proofs.Common.{◌≡◌, ◌++◌, Bool, true, if◌then◌else◌, take, sym, ap, ◌∙◌, arith, length}
 use Rattle.std.proofs.lemmas.List.{length-take-le}
-use Rattle.pl_frame.specs.Text.{needs_quotes, quoted}
+use Rattle.pl_text.specs.FrameText.{needs_quotes, quoted}
 use Rattle.pl_write.proofs.PutLaws.{put-front}
 use Rattle.pl_write.proofs.SpecialLaws.{first_bare, first_empty, first_quoted}
 use Rattle.pl_write.proofs.put_parts.put_first.Goals as goal

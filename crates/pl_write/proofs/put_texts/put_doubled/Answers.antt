@@ -1,6 +1,6 @@
 use Rattle.std.proofs.Common.{◌≡◌, [], ◌∷◌, take, drop, ◌++◌, sym, ◌∙◌, ap, append_assoc, eqb-true, arith, length-drop}
 use Rattle.std.proofs.lemmas.List.{take_rest}
-use Rattle.pl_frame.specs.Text.{doubled}
+use Rattle.pl_text.specs.FrameText.{doubled}
 use Rattle.pl_write.proofs.BlockLaws.{written_more}
 use Rattle.pl_write.proofs.DoubledLaws.{doubled-none, doubled-step}
 use Rattle.pl_write.proofs.put_texts.put_doubled.Goals as goal

@@ -1,5 +1,5 @@
 use Rattle.std.proofs.Common.{◌≡◌, ◌≤◌, ◌+◌, ◌*◌, ◌++◌, length, take}
-use Rattle.pl_frame.specs.Text.{doubled}
+use Rattle.pl_text.specs.FrameText.{doubled}
 use Rattle.pl_write.proofs.put_texts.put_doubled.Given as goal
 
 abbrev pub invariant-loop-place : goal.invariant-loop-place

@@ -1,5 +1,5 @@
 use Rattle.std.proofs.Common.{◌/◌, ◌%◌, take}
-use Rattle.pl_frame.specs.Printed.{padded}
+use Rattle.pl_text.specs.ValueText.{padded}
 use Rattle.pl_write.proofs.PutLaws.{put-three}
 use Rattle.pl_write.proofs.put_times.put_clock.Goals as goal
 

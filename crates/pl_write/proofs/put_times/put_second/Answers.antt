@@ -1,7 +1,7 @@
 use Rattle.std.proofs.Common.{◌≡◌, ℕ, List, ◌++◌, ◌∷◌, [], pos, take, ap, ◌∙◌, append_assoc, w64, FitsSigned}
 use Rattle.std.proofs.lemmas.Int.{to_z-of_z}
 use Rattle.std.specs.Int.{int_div_euclid}
-use Rattle.pl_frame.specs.Printed.{date_text, clock_text}
+use Rattle.pl_text.specs.ValueText.{date_text, clock_text}
 use Rattle.pl_write.proofs.put_times.put_second.Goals as goal
 
 pub returns-clause-text : goal.returns-clause-text

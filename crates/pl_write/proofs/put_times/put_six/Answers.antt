@@ -1,7 +1,7 @@
 use Rattle.std.proofs.Common.{◌≡◌, ◌+◌, ◌≤◌, ◌++◌, length, take, drop, ◌∙◌, ap, arith}
 use Rattle.std.specs.Prelude.{decimal}
 use Rattle.std.proofs.lemmas.Fmt.{length-decimal-le}
-use Rattle.pl_frame.specs.Printed.{padded}
+use Rattle.pl_text.specs.ValueText.{padded}
 use Rattle.pl_write.proofs.PaddedLaws.{padded-drop}
 use Rattle.pl_write.proofs.put_times.put_six.Goals as goal
 

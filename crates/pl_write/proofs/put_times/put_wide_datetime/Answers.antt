@@ -2,7 +2,7 @@ use Rattle.std.proofs.Common.{◌≡◌, ◌++◌, ◌∷◌, [], pos, take, ap,
 use Rattle.std.proofs.lemmas.Int.{to_z-of_z}
 use Rattle.std.specs.Int.{int_div_euclid, w128}
 use Rattle.pl_frame.specs.Types.{units_in_second}
-use Rattle.pl_frame.specs.Printed.{second_text, padded, places_of, datetime_text}
+use Rattle.pl_text.specs.ValueText.{second_text, padded, places_of, datetime_text}
 use Rattle.pl_write.proofs.PutLaws.{put-both}
 use Rattle.pl_write.proofs.put_times.put_wide_datetime.Goals as goal
 

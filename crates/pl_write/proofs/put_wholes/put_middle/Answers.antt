@@ -1,6 +1,6 @@
 use Rattle.std.proofs.Common.{sym, take, ◌/◌, ◌%◌, arith}
 use Rattle.std.specs.Prelude.{decimal}
-use Rattle.pl_frame.specs.Printed.{padded}
+use Rattle.pl_text.specs.ValueText.{padded}
 use Rattle.pl_write.proofs.PutLaws.{put-both}
 use Rattle.pl_write.proofs.WordLaws.{decimal-onto_eight}
 use Rattle.pl_write.proofs.put_wholes.put_middle.Goals as goal

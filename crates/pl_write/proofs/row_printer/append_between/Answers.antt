@@ -1,6 +1,6 @@
 use Rattle.std.proofs.Common.{◌≡◌, ◌+◌, ◌-◌, ◌≤◌, ◌++◌, length, length-append, take, drop, sym, ◌∙◌, ap, append_assoc, arith}
 use Rattle.std.proofs.lemmas.List.{length-take-le}
-use Rattle.pl_frame.specs.Text.{row_lines}
+use Rattle.pl_text.specs.FrameText.{row_lines}
 use Rattle.pl_write.specs.Options.{cell_options}
 use Rattle.pl_write.proofs.WriteLaws.{row_lines-step}
 use Rattle.pl_write.proofs.row_printer.append_between.Goals as goal

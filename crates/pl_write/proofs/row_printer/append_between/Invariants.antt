@@ -1,5 +1,5 @@
 use Rattle.std.proofs.Common.{◌≡◌, ◌<◌, ◌-◌, ◌++◌, length}
-use Rattle.pl_frame.specs.Text.{row_lines}
+use Rattle.pl_text.specs.FrameText.{row_lines}
 use Rattle.pl_write.specs.Options.{cell_options}
 use Rattle.pl_write.proofs.row_printer.append_between.Given as goal
 

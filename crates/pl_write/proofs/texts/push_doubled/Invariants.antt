@@ -1,5 +1,5 @@
 use Rattle.std.proofs.Common.{◌≡◌, ◌++◌, length}
-use Rattle.pl_frame.specs.Text.{doubled}
+use Rattle.pl_text.specs.FrameText.{doubled}
 use Rattle.pl_write.specs.Writing.{StaysInFront}
 use Rattle.pl_write.proofs.texts.push_doubled.Given as goal
 

@@ -2,7 +2,7 @@ use Rattle.std.proofs.Common.{arith}
 use Rattle.std.specs.Int.{w128}
 use Rattle.std.proofs.lemmas.Grind.{common_steps}
 use Rattle.std.proofs.lemmas.Int.{to_z-of_z}
-use Rattle.pl_frame.specs.Printed.{datetime_text}
+use Rattle.pl_text.specs.ValueText.{datetime_text}
 use Rattle.pl_write.proofs.KeptLaws.{front-is}
 use Rattle.pl_write.proofs.times.push_datetime.Goals as goal
 

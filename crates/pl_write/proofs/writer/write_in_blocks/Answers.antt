@@ -2,7 +2,7 @@ use Rattle.std.proofs.Common.{◌≡◌, ℕ, List, ◌≤◌, ◌+◌, ◌-◌,
 use Rattle.std.proofs.lemmas.List.{length-take-le}
 use Rattle.std.proofs.lemmas.Result.{on_ok_weaker}
 use Rattle.std.specs.Io.KnownBytes.{Appends}
-use Rattle.pl_frame.specs.Text.{row_lines}
+use Rattle.pl_text.specs.FrameText.{row_lines}
 use Rattle.pl_write.specs.Options.{cell_options}
 use Rattle.pl_write.proofs.WriteLaws.{IsWriting, IsWriting-prefix, IsWriting-more, IsWriting-flushed, IsWriting-part, IsWriting-all, row_lines-step, row_lines-none}
 use Rattle.pl_write.proofs.writer.write_in_blocks.Goals as goal

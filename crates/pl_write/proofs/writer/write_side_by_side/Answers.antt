@@ -1,5 +1,5 @@
 use Rattle.std.proofs.Common.{◌++◌, refl}
-use Rattle.pl_frame.specs.Text.{row_lines}
+use Rattle.pl_text.specs.FrameText.{row_lines}
 use Rattle.pl_write.specs.Options.{cell_options}
 use Rattle.pl_write.proofs.PrintLaws.{AppendsPrefix-behind, AppendsPrefix-longer}
 use Rattle.pl_write.proofs.writer.write_side_by_side.Goals as goal

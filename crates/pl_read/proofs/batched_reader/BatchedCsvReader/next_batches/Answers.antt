@@ -1,5 +1,5 @@
 use Rattle.std.proofs.Common.{arith, sym, ◌∙◌}
-use Rattle.pl_infer.specs.ReaderBytes.{bytes_in}
+use Rattle.pl_options.specs.ReaderBytes.{bytes_in}
 use Rattle.pl_read.proofs.BatchStepLaws.{step-fits, step-may, step-batches}
 use Rattle.pl_read.proofs.batched_reader.BatchedCsvReader.next_batches.Goals as goal
 

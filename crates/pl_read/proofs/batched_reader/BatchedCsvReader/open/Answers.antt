@@ -1,4 +1,4 @@
-use Rattle.pl_infer.specs.ReaderBytes.{bytes_in}
+use Rattle.pl_options.specs.ReaderBytes.{bytes_in}
 use Rattle.pl_read.proofs.BatchStepLaws.{refused-options}
 use Rattle.pl_read.proofs.batched_reader.BatchedCsvReader.open.Goals as goal
 

@@ -1,7 +1,7 @@
 use Rattle.std.proofs.Common.{◌≡◌, ◌<◌, ◌^◌, length, ap, subst, arith}
 use Rattle.std.specs.Prelude.{ℕ, List, None}
-use Rattle.pl_infer.specs.Causes.{IsFault}
-use Rattle.pl_infer.specs.ReaderBytes.{bytes_in}
+use Rattle.pl_options.specs.FirstCause.{IsFault}
+use Rattle.pl_options.specs.ReaderBytes.{bytes_in}
 use Rattle.pl_read.specs.Options.{settled_schema}
 use Rattle.pl_read.specs.Preparing.{IsPrepared}
 use Rattle.pl_read.specs.Steps.{opening_cause}

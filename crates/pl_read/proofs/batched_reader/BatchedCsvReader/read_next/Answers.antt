@@ -1,5 +1,5 @@
 use Rattle.std.proofs.Common.{length, drop, sym, ap, subst, arith}
-use Rattle.pl_infer.specs.ReaderBytes.{bytes_in}
+use Rattle.pl_options.specs.ReaderBytes.{bytes_in}
 use Rattle.pl_read.specs.Steps.{CanReadData}
 use Rattle.pl_read.proofs.BatchStepLaws.{rows-fit, rest-is, rest-fewer}
 use Rattle.pl_read.proofs.PreparingLaws.{can-read}

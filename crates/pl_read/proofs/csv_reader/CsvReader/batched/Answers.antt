@@ -1,5 +1,6 @@
 use Rattle.std.proofs.Common.{◌≡◌, ℕ, List, ◌≤◌, refl}
 use Rattle.std.specs.Prelude.{Result, Err, Some, IsSome, IfOk, IfErr}
+use Rattle.pl_frame.specs.Came.{IsReadOn}
 use Rattle.pl_frame.specs.declared.error.PolarsError.{PolarsError}
 use Rattle.pl_read.specs.Batches.{Batches, options_under, IsOpened, IsOpening, IsOpeningFault}
 use Rattle.pl_read.specs.BytesReader.{input_of}
@@ -29,6 +30,10 @@ returns-in-Err-clause-complete g c =
 pub returns-in-Err-clause-lent : goal.returns-in-Err-clause-lent
 returns-in-Err-clause-lent g c =
     seen (λ source o. IsSome (g.R.MmapBytesReader.lent source) → c.read_owned.new.reader ≡ source) c.self.inside.reader c.self.inside.options c.args.self.now c.self.view_is c.in-Err.ensures.lent
+
+pub returns-in-Err-clause-read_on : goal.returns-in-Err-clause-read_on
+returns-in-Err-clause-read_on g c =
+    seen (λ source o. IsReadOn (g.R.Source.left source) (g.R.Source.left c.read_owned.new.reader)) c.self.inside.reader c.self.inside.options c.args.self.now c.self.view_is c.in-Err.ensures.read_on
 
 pub returns-in-Err-clause-later : goal.returns-in-Err-clause-later
 returns-in-Err-clause-later g c =
@@ -68,6 +73,10 @@ returns-clause-complete g c =
 pub returns-clause-lent : goal.returns-clause-lent
 returns-clause-lent g c =
     seen (λ source o. IsSome (g.R.MmapBytesReader.lent source) → c.read_owned.new.reader ≡ source) c.self.inside.reader c.self.inside.options c.args.self.now c.self.view_is c.in-Ok.ensures.lent
+
+pub returns-clause-read_on : goal.returns-clause-read_on
+returns-clause-read_on g c =
+    seen (λ source o. IsReadOn (g.R.Source.left source) (g.R.Source.left c.read_owned.new.reader)) c.self.inside.reader c.self.inside.options c.args.self.now c.self.view_is c.in-Ok.ensures.read_on
 
 pub returns-clause-later : goal.returns-clause-later
 returns-clause-later g c =

@@ -1,7 +1,7 @@
 use Rattle.std.proofs.Common.{rules, subst}
 use Rattle.std.specs.Prelude.{IfOk, IfErr}
-use Rattle.pl_infer.specs.ReaderBytes.{bytes_in}
-use Rattle.pl_infer.specs.declared.read_options.CsvReadOptions.{CsvReadOptions}
+use Rattle.pl_options.specs.ReaderBytes.{bytes_in}
+use Rattle.pl_options.specs.declared.read_options.CsvReadOptions.{CsvReadOptions}
 use Rattle.pl_read.specs.Batches.{IsOpened, OfTold, IsBorrowingFault}
 use Rattle.pl_read.specs.BatchSteps.{IsOpeningFaultOf}
 use Rattle.pl_read.specs.CsvReader.{IsInput}

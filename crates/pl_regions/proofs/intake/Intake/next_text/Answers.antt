@@ -1,7 +1,7 @@
 use Rattle.std.proofs.Common.{rules, arith, ◌≡◌, ℕ, ◌++◌, ◌-◌, ◌≤◌, length, take, slice_range, replicate, refl, sym, ◌∙◌, ap, subst, not, append-nil, length-append, length-take}
 use Rattle.std.specs.Prelude.{if◌then◌else◌}
 use Rattle.std.proofs.lemmas.List.{length-take-le}
-use Rattle.pl_regions.specs.Intake.{HasGiven, IsTooLong, HasStopped}
+use Rattle.pl_regions.specs.Intake.{HasGiven, HasStopped, IsPastLimit}
 use Rattle.pl_regions.proofs.IntakeLaws.{HasGiven-nothing, HasGiven-filled, IsTooLong-behind, HasStopped-behind, written-back, parted, front-resized}
 use Rattle.pl_regions.proofs.intake.Intake.next_text.Goals as goal
 
@@ -21,7 +21,7 @@ loop-init g c =
 
 pub returns-in_err-filled-clause-too_long : goal.returns-in_err-filled-clause-too_long
 returns-in_err-filled-clause-too_long g c = λ is.
-    let far : IsTooLong (g.So.Source.left c.loop.source) (g.So.Source.left c.fill.new.source) c.args.limit c.loop.self.size = search rules in
+    let far : IsPastLimit (g.So.Source.left c.loop.source) (g.So.Source.left c.fill.new.source) c.args.limit c.loop.self.size = search rules in
     IsTooLong-behind _ _ _ _ _ _ _ c.loop.invariant.given far
 
 pub returns-in_err-filled-clause-failed : goal.returns-in_err-filled-clause-failed

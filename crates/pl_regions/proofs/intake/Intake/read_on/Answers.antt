@@ -1,5 +1,5 @@
 use Rattle.std.proofs.Common.{rules, refl, arith, []}
-use Rattle.pl_regions.specs.Intake.{HasStopped, IsTooLong}
+use Rattle.pl_regions.specs.Intake.{HasStopped, IsPastLimit}
 use Rattle.pl_regions.proofs.IntakeLaws.{HasGiven-nothing, HasGiven-then, HasGainedAll-kept, HasStopped-behind, IsTooLong-behind, nearer}
 use Rattle.pl_regions.proofs.intake.Intake.read_on.Goals as goal
 
@@ -27,7 +27,7 @@ loop-self-preserved g c =
 
 pub returns-in_err-read_block-clause-too_long : goal.returns-in_err-read_block-clause-too_long
 returns-in_err-read_block-clause-too_long g c = λ is.
-    let far : IsTooLong (g.So.Source.left c.loop-self.source) (g.So.Source.left c.read_block.new.source) c.args.limit c.loop-self.self.size = search rules in
+    let far : IsPastLimit (g.So.Source.left c.loop-self.source) (g.So.Source.left c.read_block.new.source) c.args.limit c.loop-self.self.size = search rules in
     IsTooLong-behind _ _ _ _ _ _ _ c.loop-self.invariant.given far
 
 pub returns-in_err-read_block-clause-failed : goal.returns-in_err-read_block-clause-failed

@@ -4,7 +4,7 @@ use Rattle.pl_frame.specs.Frame.{HaveHeight, height_of}
 use Rattle.pl_write.specs.Batches.{all_lines}
 use Rattle.pl_write.specs.Options.{cell_options}
 use Rattle.pl_rows.specs.WholePieces.{IsPieceFound}
-use Rattle.pl_verbatim.specs.Printing.{IsFrontPrinted}
+use Rattle.pl_verbatim.specs.PrintedTexts.{IsFrontPrinted}
 use Rattle.pl_verbatim.proofs.PrintingLaws.{IsFrontPrinted-more}
 use Rattle.pl_regions.proofs.RegionLaws.{ok-holds, level-piece, IsTextPrinted-piece}
 use Rattle.pl_regions.proofs.region.OpenRegion.print_piece.Goals as goal

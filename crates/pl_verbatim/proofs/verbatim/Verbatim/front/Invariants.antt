@@ -1,8 +1,8 @@
 use Rattle.std.proofs.Common.{List, length, take, ◌-◌, ◌≤◌}
 use Rattle.pl_frame.specs.Schema.{Entry}
-use Rattle.pl_frame.specs.Text.{WriteOptions}
+use Rattle.pl_text.specs.FrameText.{WriteOptions}
 use Rattle.pl_rows.specs.declared.plan.RangePlan.{RangePlan}
-use Rattle.pl_verbatim.specs.Printing.{CanPrint, IsFrontPrinted}
+use Rattle.pl_verbatim.specs.PrintedTexts.{CanPrint, IsFrontPrinted}
 use Rattle.pl_verbatim.specs.Verbatim.{IsVerbatimOf}
 use Rattle.pl_verbatim.proofs.verbatim.Verbatim.front.Given as goal
 

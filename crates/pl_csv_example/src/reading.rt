@@ -1,0 +1,104 @@
+//! Frames that are read of a file and of bytes in memory.
+ghost use Rattle.std.specs.Prelude.{◌≡◌, None, IfOk};
+
+use pl_csv::adapters::FsOpener;
+use pl_frame::data_type::DataType;
+use pl_frame::error::PolarsResult;
+use pl_frame::frame::DataFrame;
+use pl_frame::name::PlSmallStr;
+use pl_frame::schema::Schema;
+use pl_frame::source::MemSource;
+use pl_infer::inference::infer_file_schema;
+use pl_read::csv_reader::{CsvReader, SerReader};
+use pl_read::options::{
+    ColumnNames, CsvParseOptions, CsvReadOptions, NullTexts, NullValues, ReaderBytes,
+};
+use pl_read::reader_makers::ReaderMakers;
+use std::alloc::Global;
+use std::fs::Files;
+use std::sync::Wait;
+use std::thread::Threads;
+
+/// A read of the columns `id`, `name` and `amount`.
+pub fn orders(alloc: Global) -> PolarsResult<CsvReadOptions>
+    ensures { IfOk result (λ options. options.path ≡ None) }
+{
+    let mut schema = Schema::new(alloc);
+    schema.with_column(PlSmallStr::from_str(alloc, "id")?, DataType::Int64)?;
+    schema.with_column(PlSmallStr::from_str(alloc, "name")?, DataType::String)?;
+    let amount = DataType::Decimal(None, Some(2));
+    schema.with_column(PlSmallStr::from_str(alloc, "amount")?, amount)?;
+    Ok(CsvReadOptions::new(alloc).with_schema(Some(schema)))
+}
+
+/// The frame of a file.
+pub fn read_a_file<W: Files + Threads + Wait + Sync>(
+    rt: &W,
+    alloc: Global,
+    path: &str,
+) -> PolarsResult<DataFrame> {
+    let path = PlSmallStr::from_str(alloc, path)?;
+    let mut opener = FsOpener::new(rt);
+    let options = orders(alloc)?;
+    let mut reader = options.try_into_reader_with_file_path(alloc, &mut opener, Some(path))?;
+    reader.finish(rt)
+}
+
+/// The frame of a text whose header names the columns and whose texts give the types.
+pub fn read_without_a_schema<W: Threads + Wait + Sync>(
+    rt: &W,
+    alloc: Global,
+    text: &[u8],
+) -> PolarsResult<DataFrame> {
+    let mut reader = CsvReader::new(alloc, MemSource::new(text));
+    reader.finish(rt)
+}
+
+/// The columns `id` and `amount` of a text.
+pub fn read_two_columns<W: Threads + Wait + Sync>(
+    rt: &W,
+    alloc: Global,
+    text: &[u8],
+) -> PolarsResult<DataFrame> {
+    let amount = PlSmallStr::from_str(alloc, "amount")?;
+    let id = PlSmallStr::from_str(alloc, "id")?;
+    let names = vec![in alloc; amount, id]?;
+    let options = orders(alloc)?.with_columns(Some(ColumnNames::new(names)));
+    let mut reader = options.into_reader_with_file_handle(alloc, MemSource::new(text));
+    reader.finish(rt)
+}
+
+/// The frame of a text in which `NA` and `-` mean null, in every column.
+pub fn read_with_nulls<W: Threads + Wait + Sync>(
+    rt: &W,
+    alloc: Global,
+    text: &[u8],
+) -> PolarsResult<DataFrame> {
+    let na = PlSmallStr::from_str(alloc, "NA")?;
+    let dash = PlSmallStr::from_str(alloc, "-")?;
+    let nulls = NullValues::AllColumns(NullTexts::new(vec![in alloc; na, dash]?));
+    let parse = CsvParseOptions::new().with_null_values(Some(nulls));
+    let options = CsvReadOptions::new(alloc).with_parse_options(parse);
+    let mut reader = options.into_reader_with_file_handle(alloc, MemSource::new(text));
+    reader.finish(rt)
+}
+
+/// The names in the header of a text, and the types that its first hundred rows show.
+pub fn infer_a_schema(alloc: Global, text: &[u8]) -> PolarsResult<Schema> {
+    let bytes = ReaderBytes::Borrowed(text);
+    let parse = CsvParseOptions::new();
+    let found = infer_file_schema(
+        alloc,
+        &bytes,
+        &parse,
+        Some(100),
+        true,
+        None,
+        0,
+        0,
+        0,
+        true,
+        &mut None,
+    )?;
+    Ok(found.0)
+}

@@ -1,0 +1,5 @@
+pub mod FirstCause
+pub mod ColumnLists
+pub mod Options
+pub mod ReaderBytes
+pub mod Text

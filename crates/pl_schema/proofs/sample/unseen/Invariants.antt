@@ -1,6 +1,0 @@
-use Rattle.std.proofs.Common.{◌≡◌}
-use Rattle.pl_schema.specs.SampleSteps.{unseen}
-use Rattle.pl_schema.proofs.sample.unseen.Given as goal
-
-abbrev pub invariant-loop-column : goal.invariant-loop-column
-invariant-loop-column l = l.columns.items ≡ unseen l._column

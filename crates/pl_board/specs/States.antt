@@ -1,11 +1,11 @@
 -- What a board knows (docs/pieces.md, "What a board keeps").
-use Rattle.std.specs.Prelude.{◌≡◌, ℕ, ◌+◌, ◌-◌, ◌≤◌, ◌<◌, true, false, List, [], ◌∷◌, ◌++◌, length, take, drop, map, Option, None, Some, MatchOption, slice_get, slice_set, slice_range}
+use Rattle.std.specs.Prelude.{◌≡◌, ℕ, ◌-◌, ◌≤◌, ◌<◌, true, false, List, [], ◌∷◌, ◌++◌, length, take, map, Option, None, Some, MatchOption, slice_get, slice_set, slice_range}
+use Rattle.pl_scan.specs.LineCuts.{RiseTo}
 use Rattle.pl_board.specs.declared.event.Mark.{Mark}
 use Rattle.pl_board.specs.declared.event.Event.{Event}
 use Rattle.pl_board.specs.declared.event.Event.TheVariants.{Take, Post}
-use Rattle.pl_board.specs.Cutting.{cut}
-use Rattle.pl_board.specs.Pieces.{Cut, result_mark}
-use Rattle.pl_board.specs.Log.{Setup, or_else, hand_outs, marks, reached, is_finished, is_open, IsChain, IsLegal}
+use Rattle.pl_board.specs.Pieces.{Cut, piece_from, piece_to, result_mark}
+use Rattle.pl_board.specs.Log.{Setup, or_else, hand_outs, marks, is_finished, is_open, IsChain, IsLegal}
 
 -- what a board was made for, the events so far, for each hand-out in order the result that was posted of it, how many
 -- seats were made, still run and are still clean, and a result that did not match with the length of the log then
@@ -30,9 +30,10 @@ fresh setup = record { setup = setup; log = []; results = []; seats = 0; running
 -- the piece that comes next
 abbrev pub next_piece : Setup → List Event → Cut
 next_piece setup log =
-    let from = reached log in
-    let to = from + cut setup.quote setup.line_end (drop from setup.bytes) setup.piece_size in
-    record { number = length (hand_outs log); from = from; to = to; text = slice_range setup.bytes from to }
+    let number = length (hand_outs log) in
+    let from = piece_from setup.ends number in
+    let to = piece_to setup.ends number in
+    record { number = number; from = from; to = to; text = slice_range setup.bytes from to }
 
 -- a piece that a board of this setup hands out: it is the next one behind a legal log that is not finished
 pub record IsHandOut (setup : Setup) (piece : Cut) : Type 0 where
@@ -74,11 +75,15 @@ SameSeats s t = (t.seats ≡ s.seats) × (t.running ≡ s.running) × (t.clean �
 
 -- what holds of every board
 pub record IsSound {D : Type 0} (mark : D → Mark) (s : Snapshot D) : Type 0 where
+  -- the ends of the pieces rise to the end of the text
+  pub rise : RiseTo (length s.setup.bytes) 0 s.setup.ends
   -- the log is legal, and the results are those that it posts
   pub legal : IsLegal s.setup s.log
   pub replay : map (result_mark mark) s.results ≡ marks s.log
   -- each byte is handed out at most once: the pieces follow one another from the start
   pub chained : IsChain 0 (hand_outs s.log)
+  -- hand-out n is piece n of the text
+  pub ranged : (n : ℕ) (range : ℕ × ℕ) → slice_get (hand_outs s.log) n ≡ Some range → range ≡ (piece_from s.setup.ends n, piece_to s.setup.ends n)
   -- a result stands at its piece's number, and its piece was handed out with its range
   pub placed : (n : ℕ) (posted : Cut × D) → slice_get s.results n ≡ Some (Some posted) → (posted.0.number ≡ n) × (slice_get (hand_outs s.log) n ≡ Some (posted.0.from, posted.0.to))
   -- a seat stops only where the log is finished

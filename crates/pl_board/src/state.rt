@@ -2,16 +2,15 @@
 ghost use Rattle.std.specs.Prelude.{◌≡◌, ◌+◌, ◌<◌, ◌≤◌, ◌≢◌, None, Some, true, false, length, OnErr, IfOk, IfSome, IfNone, MatchOption, MatchBool, IsOkUnless, slice_get};
 ghost use Rattle.std.specs.Bool.{OnTrue};
 ghost use Rattle.pl_frame.specs.declared.error.PolarsError.TheVariants as error;
+ghost use Rattle.pl_scan.specs.LineCuts.{RiseTo};
 ghost use Rattle.pl_board.specs.Log.{hand_outs, post_of, count_hand_outs, count_posts, is_finished, is_open, is_range};
+ghost use Rattle.pl_board.specs.Pieces.{piece_from};
 ghost use Rattle.pl_board.specs.States.{fresh, next_piece, after_take, after_post, after_leave, after_turn_away, with_seats, SameSeats, IsAstray, IsSound};
 
-use crate::cutting::piece_end;
 use crate::event::Event;
 use crate::front::follow_front;
 use crate::piece::{Done, Piece, Posted};
 use pl_frame::error::{PolarsError, PolarsResult};
-use pl_scan::line_ends::CountLines;
-use std::alloc::Global;
 use std::marker::Model;
 
 // Whether the piece has this range.
@@ -21,15 +20,23 @@ fn has_range(piece: &Piece, range: (usize, usize)) -> bool
     range.0 == piece.from() && range.1 == piece.to()
 }
 
+// Where the piece of this number begins, by the ends of all pieces.
+fn start_of(ends: &[usize], number: usize) -> usize
+    requires { number ≤ length ends.now }
+    ensures { result ≡ piece_from ends.now number }
+{
+    if number == 0 {
+        return 0;
+    }
+    ends[number - 1]
+}
+
 /// Hands out the pieces of a text and stores the results that are posted of them.
 #[derive(Drop)]
 pub struct BoardState<'a, D: Done> {
     bytes: &'a [u8],
-    piece_size: usize,
-    lines: CountLines,
+    ends: Vec<usize>,
     limit: Option<usize>,
-    reached: usize,
-    ranges: Vec<(usize, usize)>,
     results: Vec<Option<Posted<'a, D>>>,
     log: Vec<Event>,
     posts: usize,
@@ -44,38 +51,29 @@ pub struct BoardState<'a, D: Done> {
 impl<'a, D: Done> Model for BoardState<'a, D> {
     ghost use Rattle.pl_board.specs.States.{Snapshot, snapshot, IsSound};
     ghost use Rattle.pl_board.specs.Log.{marks};
-    ghost use Rattle.pl_board.specs.Fields.{setup_of, IsIndexed, IsFront};
+    ghost use Rattle.pl_board.specs.Fields.{IsIndexed, IsFront};
     ghost use Rattle.std.specs.Prelude.{vec_capacity};
 
     ghost Value = { Snapshot D };
 
-    ghost view = { λ s. snapshot (setup_of s.bytes.now s.piece_size s.lines s.limit) s.log.items s.results.items s.seats s.running s.clean s.stray };
+    ghost view = { λ s. snapshot (record { bytes = s.bytes.now; ends = s.ends.items; limit = s.limit }) s.log.items s.results.items s.seats s.running s.clean s.stray };
 
     ghost invariant = { λ s.
-        let view = snapshot (setup_of s.bytes.now s.piece_size s.lines s.limit) s.log.items s.results.items s.seats s.running s.clean s.stray in
-        IsSound D.mark view × IsIndexed view s.reached s.ranges.items s.posts (vec_capacity s.log) × IsFront (marks s.log.items) s.front s.front_rows };
+        let view = snapshot (record { bytes = s.bytes.now; ends = s.ends.items; limit = s.limit }) s.log.items s.results.items s.seats s.running s.clean s.stray in
+        IsSound D.mark view × IsIndexed view s.posts (vec_capacity s.log) × IsFront (marks s.log.items) s.front s.front_rows };
 }
 
 impl<'a, D: Done> BoardState<'a, D> {
-    /// A board over these bytes, with nothing handed out.
-    pub fn new(
-        alloc: Global,
-        bytes: &'a [u8],
-        piece_size: usize,
-        quote_char: Option<u8>,
-        eol_char: u8,
-        limit: Option<usize>,
-    ) -> Self
-        requires { 0 < piece_size }
-        ensures { result ≡ fresh (record { bytes = bytes.entry.now; piece_size = piece_size; quote = quote_char; line_end = eol_char; limit = limit }) }
+    /// A board over these bytes, with nothing handed out, whose pieces end at these places.
+    pub fn new(bytes: &'a [u8], ends: Vec<usize>, limit: Option<usize>) -> Self
+        requires { RiseTo (length bytes.now) 0 ends.items }
+        ensures { result ≡ fresh (record { bytes = bytes.entry.now; ends = ends.items; limit = limit }) }
     {
+        let alloc = *ends.allocator();
         BoardState {
             bytes,
-            piece_size,
-            lines: CountLines::new(quote_char, eol_char),
+            ends,
             limit,
-            reached: 0,
-            ranges: Vec::new(alloc),
             results: Vec::new(alloc),
             log: Vec::new(alloc),
             posts: 0,
@@ -93,7 +91,7 @@ impl<'a, D: Done> BoardState<'a, D> {
         ensures count { result ≡ count_hand_outs self.now.log }
         ensures sound { IsSound D.mark self.now }
     {
-        self.ranges.len()
+        self.results.len()
     }
 
     /// How many results were posted.
@@ -108,7 +106,7 @@ impl<'a, D: Done> BoardState<'a, D> {
     fn is_finished(&self) -> bool
         ensures { result ≡ is_finished self.now.setup self.now.log }
     {
-        if self.reached == self.bytes.len() {
+        if self.results.len() >= self.ends.len() {
             return true;
         }
         if let Some(limit) = self.limit {
@@ -117,6 +115,29 @@ impl<'a, D: Done> BoardState<'a, D> {
             }
         }
         self.front < self.results.len() && self.results[self.front].is_some()
+    }
+
+    // The range of the next piece.
+    fn next_range(&self) -> (usize, usize)
+        requires { is_finished self.now.setup self.now.log ≡ false }
+        ensures from { result.0 ≡ (next_piece self.now.setup self.now.log).from }
+        ensures to { result.1 ≡ (next_piece self.now.setup self.now.log).to }
+        ensures some { result.0 < result.1 }
+        ensures within { result.1 ≤ length self.now.setup.bytes }
+    {
+        let number = self.results.len();
+        (start_of(&self.ends, number), self.ends[number])
+    }
+
+    // The next piece.
+    fn cut_next(&self) -> Piece<'a>
+        requires { is_finished self.now.setup self.now.log ≡ false }
+        ensures piece { result ≡ next_piece self.now.setup self.now.log }
+        ensures some { result.from < result.to }
+        ensures within { result.to ≤ length self.now.setup.bytes }
+    {
+        let (from, to) = self.next_range();
+        Piece::new(self.results.len(), from, to, &self.bytes[from..to])
     }
 
     /// Hands out the next piece, or `None` where the log is finished.
@@ -138,21 +159,17 @@ impl<'a, D: Done> BoardState<'a, D> {
         if self.is_finished() {
             return Ok(None);
         }
-        let number = self.ranges.len();
-        let from = self.reached;
-        let to = piece_end(self.bytes, from, self.piece_size, &self.lines);
-        let open = number - self.posts;
-        if self.ranges.reserve(1).is_err()
-            || self.results.reserve(1).is_err()
-            || self.log.reserve(open + 2).is_err()
-        {
+        let piece = self.cut_next();
+        let open = self.results.len() - self.posts;
+        if self.results.reserve(1).is_err() || self.log.reserve(open + 2).is_err() {
             return Err(PolarsError::OutOfMemory);
         }
-        self.ranges.push_reserved((from, to));
         self.results.push_reserved(None);
-        self.log.push_reserved(Event::Take { from, to });
-        self.reached = to;
-        Ok(Some(Piece::new(number, from, to, &self.bytes[from..to])))
+        self.log.push_reserved(Event::Take {
+            from: piece.from(),
+            to: piece.to(),
+        });
+        Ok(Some(piece))
     }
 
     /// Whether the piece is one that was handed out and not yet posted.
@@ -160,10 +177,11 @@ impl<'a, D: Done> BoardState<'a, D> {
         ensures { result ≡ is_open self.now.log piece.now.number piece.now.from piece.now.to }
     {
         let number = piece.number();
-        if number >= self.ranges.len() {
+        if number >= self.results.len() {
             return false;
         }
-        if !has_range(piece, self.ranges[number]) {
+        let range = (start_of(&self.ends, number), self.ends[number]);
+        if !has_range(piece, range) {
             return false;
         }
         self.results[number].is_none()

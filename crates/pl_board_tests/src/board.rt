@@ -31,7 +31,7 @@ fn one_seat_strays<T: Task, P: Ledger, S: Ledger, R: Ledger, C: Ledger, W: Wait>
     requires running { IsBlankOf blanks.running R.name R.parts 2 }
     requires clean { IsBlankOf blanks.clean C.name C.parts 2 }
 {
-    let mut other = board_of(alloc, b"1\n", None);
+    let mut other = board_of(alloc, b"1\n", None)?;
     let Some(piece) = other.take()? else {
         return Ok(None);
     };
@@ -42,7 +42,7 @@ fn one_seat_strays<T: Task, P: Ledger, S: Ledger, R: Ledger, C: Ledger, W: Wait>
 }
 
 fn counts_where_one_seat_strays<W: Wait>(rt: &W, alloc: Global) -> PolarsResult<Option<Counts>> {
-    let state = board_of(alloc, b"1\n2\n", None);
+    let state = board_of(alloc, b"1\n2\n", None)?;
     one_seat_strays::<Brand, Brand, Brand, Brand, Brand, W>(rt, alloc, state, Blanks::new(2))
 }
 

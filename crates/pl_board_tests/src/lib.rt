@@ -6,6 +6,8 @@ mod board;
 #[cfg(test)]
 mod cutting;
 #[cfg(test)]
+mod line_states;
+#[cfg(test)]
 mod rows;
 #[cfg(test)]
 mod state;

@@ -5,7 +5,7 @@ use std::test::Fail;
 
 #[test]
 fn stops_where_the_front_has_rows_enough(rt: HostRuntime) -> Result<(), Fail> {
-    let mut board = board_of(rt.alloc(), b"1\n2\n", Some(1));
+    let mut board = board_of(rt.alloc(), b"1\n2\n", Some(1))?;
     let Some(piece) = board.take()? else {
         return Err("a piece".into());
     };

@@ -132,7 +132,7 @@ fn counts_by_two<G: Gate + Sync, W: Threads + Wait + Sync>(
     bytes: &[u8],
     gate: &G,
 ) -> PolarsResult<Counts> {
-    let state = board_of(alloc, bytes, None);
+    let state = board_of(alloc, bytes, None)?;
     let read = read_by_two(rt, alloc, state, &OneRow, gate)?;
     Ok(counts_of(&read))
 }

@@ -18,7 +18,9 @@ pub mod BatchLaws
 pub mod BatchStepLaws
 pub mod OpeningLaws
 pub mod BatchJoinLaws
+pub mod BatchRangeLaws
 pub mod NextTextLaws
+pub mod BatchTextLaws
 pub mod NextPartLaws
 pub mod NextLaws
 pub mod NextFrameLaws

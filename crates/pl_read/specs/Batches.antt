@@ -1,5 +1,5 @@
 -- A reader of batches: what it holds, and what its calls answer (docs/batches.md).
-use Rattle.std.specs.Prelude.{◌≡◌, ℕ, zero, suc, ◌+◌, ◌<◌, ◌≤◌, ◌⊎◌, ◌||◌, ◌==◌, ◌&&◌, not, Bool, true, false, nat_le, if◌then◌else◌, List, [], ◌∷◌, ◌++◌, length, map, take, drop, Option, None, Some, Result, IsNone, IfSome, MatchResult, unwrap_or}
+use Rattle.std.specs.Prelude.{◌≡◌, ℕ, zero, suc, ◌+◌, ◌<◌, ◌≤◌, ◌⊎◌, ◌||◌, ◌==◌, Bool, false, nat_le, List, [], ◌∷◌, ◌++◌, length, map, take, drop, Option, None, Some, Result, IsNone, IfSome, MatchResult, unwrap_or}
 use Rattle.std.specs.Option.{option_map, option_map_or}
 use Rattle.pl_frame.specs.Causes.{Rose}
 use Rattle.pl_frame.specs.Frame.{ColumnValue}
@@ -7,9 +7,12 @@ use Rattle.pl_frame.specs.Schema.{Entry}
 use Rattle.pl_frame.specs.declared.error.PolarsError.{PolarsError}
 use Rattle.pl_frame.specs.declared.error.PolarsError.TheVariants as error
 use Rattle.pl_frame.specs.declared.error.ComputeFault.TheVariants as compute_fault
-use Rattle.pl_board.specs.Cutting.{cut}
 use Rattle.pl_scan.specs.Closing.{ends_open}
 use Rattle.pl_scan.specs.Laws.{IsEnded}
+use Rattle.pl_scan.specs.LineCuts.{cut_piece}
+use Rattle.pl_scan.specs.LineStates.{after}
+use Rattle.pl_scan.specs.declared.summary.LineState.{LineState}
+use Rattle.pl_scan.specs.declared.summary.LineState.TheVariants.{Start, Open}
 use Rattle.pl_options.specs.declared.read_options.CsvReadOptions.{CsvReadOptions}
 use Rattle.pl_options.specs.FirstCause.{IsFirstCause, first_some}
 use Rattle.pl_options.specs.declared.row_index.RowIndex.{RowIndex}
@@ -54,25 +57,41 @@ pub record StandsInData (b : Batches) : Type 0 where
 
 -- ---- the batches of a call
 
--- how many bytes the first so many pieces of a text have
-abbrev pub pieces_length : CsvReadOptions → ℕ → List ℕ → ℕ
-pieces_length o zero text = 0
-pieces_length o (suc n) [] = 0
-pieces_length o (suc n) (x ∷ text) =
-    let first = cut o.parse_options.quote_char o.parse_options.eol_char (x ∷ text) o.chunk_size in
-    first + pieces_length o n (drop first (x ∷ text))
+-- how many bytes the first piece of a text has, which ends just behind a line end or with the text
+abbrev pub piece_length : CsvReadOptions → List ℕ → ℕ
+piece_length o text = length (cut_piece o.parse_options.eol_char o.chunk_size text).0
 
--- none of them ends within a quoted field
-abbrev pub pieces_close : CsvReadOptions → ℕ → List ℕ → Bool
-pieces_close o zero text = true
-pieces_close o (suc n) [] = true
-pieces_close o (suc n) (x ∷ text) =
-    let first = cut o.parse_options.quote_char o.parse_options.eol_char (x ∷ text) o.chunk_size in
-    not (ends_open (marks_of o.parse_options) (comment_of o.parse_options) (take first (x ∷ text))) && pieces_close o n (drop first (x ∷ text))
+-- the state behind the first piece of a text, by the state in front of it
+abbrev pub behind_first : CsvReadOptions → LineState → List ℕ → LineState
+behind_first o state text = after (marks_of o.parse_options) (comment_of o.parse_options) state (take (piece_length o text) text)
 
--- what the batches of a call are read of: so many pieces of what is left, or all of it where one of them ends within a quoted field
+-- so many bytes more where a quoted field is open, and none at the start of an item
+abbrev pub more_if_open : LineState → ℕ → ℕ
+more_if_open Start more = 0
+more_if_open Open more = more
+
+-- how many bytes the pieces of a text have up to and with the first one behind which the state is Start, or all of them where there is
+-- none, by the state in front of the text and as long as k lasts
+abbrev pub to_start_within : CsvReadOptions → ℕ → LineState → List ℕ → ℕ
+to_start_within o zero state text = 0
+to_start_within o (suc k) state [] = 0
+to_start_within o (suc k) state (x ∷ text) =
+    let first = piece_length o (x ∷ text) in
+    first + more_if_open (behind_first o state (x ∷ text)) (to_start_within o k Open (drop first (x ∷ text)))
+
+-- how many bytes the first range of a text has: its pieces up to and with the first one behind which the state is Start, or all
+abbrev pub range_length : CsvReadOptions → List ℕ → ℕ
+range_length o text = to_start_within o (length text) Start text
+
+-- how many bytes the first so many ranges of a text have, each of which is the first range of what the ones before it leave
+abbrev pub ranges_length : CsvReadOptions → ℕ → List ℕ → ℕ
+ranges_length o zero text = 0
+ranges_length o (suc n) [] = 0
+ranges_length o (suc n) (x ∷ text) = let first = range_length o (x ∷ text) in first + ranges_length o n (drop first (x ∷ text))
+
+-- what the batches of a call are read of: so many ranges of what is left, or all of it where there are fewer
 abbrev pub batch_text : CsvReadOptions → ℕ → List ℕ → List ℕ
-batch_text o n rest = if pieces_close o n rest then take (pieces_length o n rest) rest else rest
+batch_text o n rest = take (ranges_length o n rest) rest
 
 -- the rows of a text behind so many others: its records, or as many of them as the limit of rows leaves
 abbrev pub rows_behind : CsvReadOptions → ℕ → List ℕ → List Row

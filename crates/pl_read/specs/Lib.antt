@@ -15,6 +15,7 @@ pub mod Chunk
 pub mod Batches
 pub mod BatchSteps
 pub mod BatchJoining
+pub mod BatchRanges
 pub mod NextFrames
 pub mod RowTest
 pub mod Workers

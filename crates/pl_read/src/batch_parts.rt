@@ -1,19 +1,15 @@
 //! The text of the next batches, cut into parts that are read on their own.
-ghost use Rattle.std.specs.Prelude.{◌≡◌, ◌<◌, not, length, IfOk, IfSome, None, [], ◌∷◌};
-ghost use Rattle.pl_frame.specs.Dialect.{AreDistinct, IsDialect};
+ghost use Rattle.std.specs.Prelude.{◌≡◌, ◌<◌, length, IfOk, IfSome, None, [], ◌∷◌};
+ghost use Rattle.pl_frame.specs.Dialect.{IsDialect};
 ghost use Rattle.pl_options.specs.Text.{marks_of, comment_of};
 ghost use Rattle.pl_rows.specs.Ranges.{IsRangeRead};
-ghost use Rattle.pl_scan.specs.Closing.{ends_open};
-ghost use Rattle.pl_read.specs.NextFrames.{AreParts, CanReadPart, texts_of};
+ghost use Rattle.pl_read.specs.NextFrames.{AreParts, CanReadPart};
 
-use pl_board::cutting::piece_end;
+use crate::batch_ranges::range_len;
 use pl_frame::schema::Schema;
-use pl_options::parse_options::CsvParseOptions;
 use pl_options::read_options::CsvReadOptions;
 use pl_rows::columns::{RangeColumns, read_columns};
 use pl_rows::plan::RangePlan;
-use pl_scan::closes::closes;
-use pl_scan::line_ends::CountLines;
 use std::alloc::{AllocError, Global};
 
 /// A part of a text, and its columns; none before it is read, and where memory was wanting.
@@ -58,21 +54,6 @@ pub(crate) struct Parts<'a> {
     pub(crate) end: usize,
 }
 
-// Whether a piece does not end within a quoted field.
-fn is_closed(piece: &[u8], parse_options: &CsvParseOptions) -> bool
-    requires { AreDistinct (marks_of parse_options.now) }
-    ensures { result ≡ not (ends_open (marks_of parse_options.now) (comment_of parse_options.now) piece.now) }
-{
-    let dialect = parse_options.dialect();
-    closes(
-        piece,
-        dialect.separator,
-        dialect.quote_char,
-        dialect.eol_char,
-        dialect.comment_prefix,
-    )
-}
-
 /// All of a text as one part.
 pub(crate) fn whole_part<'a>(
     alloc: Global,
@@ -86,19 +67,8 @@ pub(crate) fn whole_part<'a>(
     Ok(parts)
 }
 
-// All that is left as one part.
-fn all_left<'a>(alloc: Global, rest: &'a [u8]) -> Result<Parts<'a>, AllocError>
-    ensures { IfOk result (λ cut. (length cut.parts.items ≡ 1) × (cut.end ≡ length rest.now) × (texts_of cut.parts.items ≡ rest.now ∷ [])) }
-{
-    let parts = whole_part(alloc, rest, None)?;
-    Ok(Parts {
-        parts,
-        end: rest.len(),
-    })
-}
-
-/// The parts of the text of the next batches, which are not read: `n` pieces of what is left, or fewer where it ends, or all of
-/// it as one where a piece of them ends within a quoted field. Refuses only want of memory.
+/// The parts of the text of the next batches, which are not read: the first `n` ranges of what is left, or all where there are fewer.
+/// Refuses only want of memory.
 pub(crate) fn parts_of<'a>(
     alloc: Global,
     rest: &'a [u8],
@@ -111,16 +81,11 @@ pub(crate) fn parts_of<'a>(
     requires bytes { 0 < length rest.now }
     ensures { IfOk result (AreParts options.now n rest.now) }
 {
-    let parse_options = &options.parse_options;
-    let lines = CountLines::new(parse_options.quote_char, parse_options.eol_char);
     let mut parts = Vec::new(alloc);
     let mut left = n;
     let mut end = 0;
     while left > 0 && end < rest.len() {
-        let to = piece_end(rest, end, options.chunk_size, &lines);
-        if !is_closed(&rest[end..to], parse_options) {
-            return all_left(alloc, rest);
-        }
+        let to = end + range_len(&rest[end..], options);
         parts.push(Part::unread(&rest[end..to]))?;
         left -= 1;
         end = to;

@@ -90,9 +90,8 @@ impl<'a> BatchedCsvReader<'a> {
         }
     }
 
-    /// The frames of the next rows, in order: one or more, and so many at most. They are the rows of so many pieces of what is left,
-    /// or of all of it where a piece of them ends within a quoted field. `None` where none is asked for, the limit of rows is
-    /// reached, or nothing is left.
+    /// The frames of the next rows, in order: one or more, and so many at most. They are the rows of so many ranges of what is left,
+    /// or of all of it where there are fewer. `None` where none is asked for, the limit of rows is reached, or nothing is left.
     ///
     /// Refuses the least of these rows that has a fault (`Record`); then, of the row index, the last number up to the end of
     /// these rows that does not fit 32 bits, or else the last code of a category in one of the frames (`Index`). Every later call

@@ -1,8 +1,12 @@
-//! What holds of every input, as contracts of functions that do nothing.
+//! What holds of every input, as contracts of functions that do nothing, and a call whose contract speaks of any text that is cut
+//! into pieces.
 ghost use Rattle.pl_read.specs.Slices.{PartsAreTheSlice};
 ghost use Rattle.pl_read.specs.BatchJoining.{BatchesJoinToTheWholeRead};
+ghost use Rattle.pl_read.specs.BatchRanges.{BatchesAreReadOfRanges};
 ghost use Rattle.pl_read.specs.RoundTrip.{FramesReturn};
 ghost use Rattle.pl_read.specs.Laws.{LimitTakesFirstRows, ProjectionSelects, LimitedReadDependsOnPrefix, SchemaIsEmptyWithoutRecord};
+
+pub use pl_board::line_states::line_states;
 
 /// However the rows are divided into files: the parts that `split_slice_at_file` tells, joined, are the slice of all rows.
 pub fn parts_are_the_slice<T>()
@@ -34,6 +38,12 @@ pub fn schema_is_empty_without_record()
 /// and the last call gives no batch.
 pub fn batches_join_to_the_whole_read()
     ensures { BatchesJoinToTheWholeRead }
+{}
+
+/// The batches of a call are read of the first ranges of what is left, whose ends are those that `cut_into_ranges` tells of the pieces
+/// that `line_cuts` tells.
+pub fn batches_are_read_of_ranges()
+    ensures { BatchesAreReadOfRanges }
 {}
 
 /// What is written is read again: the text of a frame that fits the way in which it was written means that frame, under options that

@@ -2,6 +2,7 @@
 #![tactic(auto)]
 
 mod batch_parts;
+mod batch_ranges;
 pub mod batched_reader;
 pub mod bytes_reader;
 pub mod checks;

@@ -199,10 +199,9 @@ impl<'b> Behind<'b> {
     }
 }
 
-/// The frames of the next rows in what is left, behind so many rows: one or more, and `n` at most. They are the rows of `n`
-/// pieces of it, or of all of it where a piece of them ends within a quoted field. Refuses the least of these rows that has a
-/// fault, then the last number up to their end, and then the last code of a column, that does not fit 32 bits; and want of
-/// memory.
+/// The frames of the next rows in what is left, behind so many rows: one or more, and `n` at most. They are the rows of its first
+/// `n` ranges, or of all of it where there are fewer. Refuses the least of these rows that has a fault, then the last number up to
+/// their end, and then the last code of a column, that does not fit 32 bits; and want of memory.
 pub(crate) fn next_frames<W: Threads + Wait + Sync>(
     rt: &W,
     alloc: Global,

@@ -3,6 +3,7 @@ ghost use Rattle.std.specs.Prelude.{◌≡◌, ◌<◌, ◌+◌, ◌-◌, ◌*�
 ghost use Rattle.std.specs.List.{AllByRecursion};
 ghost use Rattle.pl_frame.specs.Dialect.{IsDialect};
 ghost use Rattle.pl_scan.specs.Dialect.{marks_of, comment_of};
+ghost use Rattle.pl_scan.specs.LineCuts.{RiseTo};
 ghost use Rattle.pl_board.specs.Seats.{IsBlankOf};
 ghost use Rattle.pl_cells.specs.BufferValue.{BufferValue};
 ghost use Rattle.pl_cells.specs.InitBuffers.{empty_buffers, first_unreadable, state_of};
@@ -17,6 +18,7 @@ use pl_board::board::Board;
 use pl_board::books::Blanks;
 use pl_board::gate::Gate;
 use pl_board::piece::Posted;
+use pl_board::ranges::cut_into_ranges;
 use pl_board::seat::Seat;
 use pl_board::state::BoardState;
 use pl_board::task::Task;
@@ -241,11 +243,11 @@ fn read_on_board<
     schema: &Schema,
     range: &[u8],
     plan: &RangePlan<'_>,
-    piece_size: usize,
+    ends: Vec<usize>,
 ) -> Result<RangeColumns, AllocError>
     requires workers { 0 < workers }
-    requires size { 0 < piece_size }
-    requires task { T.setup ≡ record { bytes = range.now; piece_size = piece_size; quote = plan.now.dialect.quote_char; line_end = plan.now.dialect.eol_char; limit = plan.now.limit } }
+    requires rise { RiseTo (length range.now) 0 ends.items }
+    requires task { T.setup ≡ record { bytes = range.now; ends = ends.items; limit = plan.now.limit } }
     requires handed_out { IsBlankOf blanks.handed_out T.name T.parts workers }
     requires posts { IsBlankOf blanks.posts P.name P.parts workers }
     requires seats { IsBlankOf blanks.seats S.name S.parts workers }
@@ -265,15 +267,7 @@ fn read_on_board<
         → ReadsApart plan.now (empty_buffers plan.now.dialect.quote_char plan.now.options.encoding schema.now plan.now.projection.places.now) text now rows }
     ensures { IfOk result (IsRangeRead plan.now schema.now range.now) }
 {
-    let dialect = plan.dialect;
-    let state = BoardState::new(
-        alloc,
-        range,
-        piece_size,
-        dialect.quote_char,
-        dialect.eol_char,
-        plan.limit,
-    );
+    let state = BoardState::new(range, ends, plan.limit);
     let Ok((board, seats)) = Board::<PieceColumns<K>, T, P, S, R, C>::new(
         alloc, state, workers, blanks,
     ) else {
@@ -307,8 +301,9 @@ pub fn piece_size_for(piece_size: usize, columns: usize) -> usize
     piece_size.saturating_mul(columns / COLUMNS + 1)
 }
 
-/// Reads the records of a range by so many workers into columns of a schema: what one pass over the range gives, however
-/// many there are and however the range is cut. Refuses only want of memory, of a worker too.
+/// Reads the records of a text by so many workers into columns of a schema: what one pass over it gives, however many there are and
+/// wherever it is cut. It is cut into ranges that begin and end where items do (docs/pieces.md, "States"). Refuses only want of
+/// memory, of a worker too.
 pub fn read_by_workers<W: Threads + Wait + Sync, G: Gate + Sync>(
     rt: &W,
     alloc: Global,
@@ -330,8 +325,11 @@ pub fn read_by_workers<W: Threads + Wait + Sync, G: Gate + Sync>(
 {
     let piece_size = piece_size_for(piece_size, plan.projection.places.len());
     let workers = workers.min((range.len() / piece_size).saturating_add(1));
+    let Ok(ends) = cut_into_ranges(rt, alloc, range, &plan.dialect, piece_size, workers) else {
+        return Err(AllocError);
+    };
     if workers == 1 {
-        return read_columns_in_pieces(alloc, schema, range, plan, piece_size, gate);
+        return read_columns_in_pieces(alloc, schema, range, plan, ends, gate);
     }
     read_on_board::<Brand, Brand, Brand, Brand, Brand, Brand, W, G>(
         rt,
@@ -342,6 +340,6 @@ pub fn read_by_workers<W: Threads + Wait + Sync, G: Gate + Sync>(
         schema,
         range,
         plan,
-        piece_size,
+        ends,
     )
 }

@@ -114,3 +114,28 @@ fn borrowing_readers_give_all_rows(rt: HostRuntime) {
     assert!(rt; borrowing_gives_two_rows(&rt, rt.alloc(), MemSource::new(TWO_ROWS)));
     assert!(rt; borrowing_gives_two_rows(&rt, rt.alloc(), PipeSource::new(TWO_ROWS, 3, &[])));
 }
+
+// Whether there are so many frames, of which the last one is this row.
+fn end_with(frames: &[DataFrame], count: usize, number: i128, text: Value<'_>) -> bool {
+    match frames {
+        [.., last] => frames.len() == count && is_row(last, number, text),
+        [] => false,
+    }
+}
+
+// A quote in a plain field, and then a line end within quotes.
+const ODD_QUOTE: &[u8] = b"a,b\n1,x\n2,y\"z\n3,\"c\nd\"\n";
+
+#[test]
+fn a_quote_in_a_plain_field_leaves_batches_short(rt: HostRuntime) {
+    let mut reader = reader_of(&rt, rt.alloc(), MemSource::new(ODD_QUOTE));
+    let mut batches = reader.batched_borrowed().expect(&rt, "a reader");
+    let given = batches.next_batches(&rt, 2).expect(&rt, "an answer");
+    let frames = given.expect(&rt, "batches");
+    assert!(rt; end_with(&frames, 2, 2, Value::Text("y\"z")));
+    let given = batches.next_batches(&rt, 2).expect(&rt, "an answer");
+    let frames = given.expect(&rt, "batches");
+    assert!(rt; end_with(&frames, 1, 3, Value::Text("c\nd")));
+    drop(batches);
+    drop(reader);
+}

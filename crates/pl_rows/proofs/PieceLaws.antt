@@ -1,11 +1,11 @@
 -- A range read piece by piece.
-use Rattle.std.proofs.Common.{◌≡◌, ℕ, ◌+◌, ◌-◌, ◌<◌, ◌≤◌, ◌^◌, Bool, true, false, cond, not, ◌||◌, ◌&&◌, ◌==◌, ltb, List, [], ◌∷◌, ◌++◌, length, take, drop, refl, sym, ◌∙◌, ap, subst, inl, inr, eqb-true, arith}
+use Rattle.std.proofs.Common.{◌≡◌, ℕ, suc, ◌+◌, ◌-◌, ◌<◌, ◌≤◌, ◌^◌, Bool, true, false, cond, not, ◌||◌, ◌&&◌, ◌==◌, ltb, List, [], ◌∷◌, ◌++◌, length, take, drop, refl, sym, ◌∙◌, ap, subst, inl, inr, eqb-true, arith}
 use Rattle.std.specs.Prelude.{Option, None, Some, filter, MatchBool, slice_range}
 use Rattle.std.specs.List.{list_any, last_or, AllByRecursion}
 use Rattle.std.specs.Option.{option_map_or}
 use Rattle.std.proofs.lemmas.Bool.{cases_lt}
 use Rattle.std.proofs.lemmas.Bool.Decides.{nat_tests}
-use Rattle.std.proofs.lemmas.List.{length-take-le, take_all, drop-drop, take-append-drop}
+use Rattle.std.proofs.lemmas.List.{length_push, length-take-le, take_all, drop-drop, take-append-drop}
 use Rattle.pl_frame.specs.declared.error.FaultKind.{FaultKind}
 use Rattle.pl_frame.specs.Dialect.{IsDialect, AreDistinct}
 use Rattle.pl_scan.specs.Closing.{have_open_end, ends_open}
@@ -14,10 +14,11 @@ use Rattle.pl_scan.specs.declared.dialect.Dialect.{Dialect}
 use Rattle.pl_scan.specs.Laws.{IsEnded}
 use Rattle.pl_board.specs.declared.event.Event.{Event}
 use Rattle.pl_board.specs.declared.event.Mark.{Mark}
-use Rattle.pl_board.specs.Log.{Setup, hand_outs, reached}
-use Rattle.pl_board.specs.Pieces.{Cut}
+use Rattle.pl_board.specs.declared.event.Event.TheVariants.{Take}
+use Rattle.pl_board.specs.Log.{Setup, hand_outs}
+use Rattle.pl_board.specs.Pieces.{Cut, piece_from}
 use Rattle.pl_board.specs.States.{Snapshot, next_piece, after_take, after_post}
-use Rattle.pl_board.proofs.LogLaws.{reached-take, reached-post}
+use Rattle.pl_board.proofs.LogLaws.{hand_outs-take, hand_outs-post}
 use Rattle.pl_cells.specs.BufferValue.{BufferValue}
 use Rattle.pl_rows.specs.declared.plan.RangePlan.{RangePlan}
 use Rattle.pl_rows.specs.declared.range.RangeEnd.{RangeEnd}
@@ -211,33 +212,43 @@ HasReadRows-piece plan range before now after left piece rest n k can dialect re
 pub CanRead-behind : (plan : RangePlan) (n : ℕ) (last : Bool) (buffers : List BufferValue) → CanRead plan buffers → CanRead (plan_behind plan n last) buffers
 CanRead-behind plan n last buffers can = record { apart = can.apart; rising = can.rising; count = can.count; rules = can.rules; texts = can.texts }
 
+-- where the next piece of a board begins
+abbrev pub next_begin : Setup → List Event → ℕ
+next_begin setup log = piece_from setup.ends (length (hand_outs log))
+
 -- how far a range was read, where a board handed out all pieces up to there
 pub record IsFrontRead (plan : RangePlan) (range : List ℕ) (before now : List BufferValue) (setup : Setup) (log : List Event) (rows end : ℕ) : Type 0 where
   pub read : HasReadRows plan range before now (drop end range) rows
   pub end_within : end ≤ length range
   pub bytes_are : setup.bytes ≡ range
-  pub reached_is : reached log ≡ end
+  pub begin_is : next_begin setup log ≡ end
 
 -- nothing was handed out
-pub reached-none : reached [] ≡ 0
-unfolding reached hand_outs
-reached-none = refl
+pub begin-none : (setup : Setup) → next_begin setup [] ≡ 0
+unfolding hand_outs
+begin-none setup = refl
 
 -- a hand-out goes on where the one before it ended
-pub reached-taken : {D : Type 0} (old new : Snapshot D) → new ≡ after_take old → (new.setup ≡ old.setup) × (reached new.log ≡ (next_piece old.setup old.log).to)
-reached-taken old new taken = (ap (λ s. s.setup) taken, ap (λ s. reached s.log) taken ∙ reached-take old.log (next_piece old.setup old.log).from (next_piece old.setup old.log).to)
+pub begin-taken : {D : Type 0} (old new : Snapshot D) → new ≡ after_take old → (new.setup ≡ old.setup) × (next_begin new.setup new.log ≡ (next_piece old.setup old.log).to)
+begin-taken old new taken =
+    let piece = next_piece old.setup old.log in
+    let one : length (hand_outs old.log) + 1 ≡ suc (length (hand_outs old.log)) = omega arith in
+    let count : length (hand_outs (old.log ++ Take piece.from piece.to ∷ [])) ≡ suc (length (hand_outs old.log)) =
+    ap length (hand_outs-take old.log piece.from piece.to) ∙ length_push (hand_outs old.log) (piece.from, piece.to) ∙ one in
+    (ap (λ s. s.setup) taken, ap (λ s. next_begin s.setup s.log) taken ∙ ap (piece_from old.setup.ends) count)
 
 -- and a post hands out nothing
-pub reached-posted : {D : Type 0} (mark : D → Mark) (old new : Snapshot D) (posted : Cut × D) (stored : Bool) → MatchBool stored (new ≡ after_post mark old posted) (new ≡ old)
-    → (new.setup ≡ old.setup) × (reached new.log ≡ reached old.log)
-reached-posted mark old new posted true is = (ap (λ s. s.setup) is, ap (λ s. reached s.log) is ∙ reached-post old.log posted.0.number (mark posted.1))
-reached-posted mark old new posted false is = (ap (λ s. s.setup) is, ap (λ s. reached s.log) is)
+pub begin-posted : {D : Type 0} (mark : D → Mark) (old new : Snapshot D) (posted : Cut × D) (stored : Bool) → MatchBool stored (new ≡ after_post mark old posted) (new ≡ old)
+    → (new.setup ≡ old.setup) × (next_begin new.setup new.log ≡ next_begin old.setup old.log)
+begin-posted mark old new posted true is =
+    (ap (λ s. s.setup) is, ap (λ s. next_begin s.setup s.log) is ∙ ap (λ l. piece_from old.setup.ends (length l)) (hand_outs-post old.log posted.0.number (mark posted.1)))
+begin-posted mark old new posted false is = (ap (λ s. s.setup) is, ap (λ s. next_begin s.setup s.log) is)
 
 -- a piece stands at the front of what was left when it was handed out
-pub piece-front : (range : List ℕ) (setup : Setup) (log : List Event) (piece : Cut) (end : ℕ) → setup.bytes ≡ range → reached log ≡ end → piece ≡ next_piece setup log → piece.from < piece.to
+pub piece-front : (range : List ℕ) (setup : Setup) (log : List Event) (piece : Cut) (end : ℕ) → setup.bytes ≡ range → next_begin setup log ≡ end → piece ≡ next_piece setup log → piece.from < piece.to
     → drop end range ≡ piece.text ++ drop piece.to range
-piece-front range setup log piece end bytes_are reached_is is some =
-    let from_is : piece.from ≡ end = ap (λ (p : Cut). p.from) is ∙ reached_is in
+piece-front range setup log piece end bytes_are begin_is is some =
+    let from_is : piece.from ≡ end = ap (λ (p : Cut). p.from) is ∙ begin_is in
     let size = piece.to - piece.from in
     let text_is : piece.text ≡ take size (drop end range) =
     ap (λ (p : Cut). p.text) is ∙ ap (λ (p : Cut). slice_range setup.bytes p.from p.to) (sym is) ∙ ap (λ b. slice_range b piece.from piece.to) bytes_are ∙ ap (λ k. take size (drop k range)) from_is in

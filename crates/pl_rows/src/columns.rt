@@ -5,6 +5,7 @@ ghost use Rattle.pl_cells.specs.InitBuffers.{empty_buffers, first_unreadable, Is
 ghost use Rattle.pl_cells.specs.NullValues.{HaveTexts};
 ghost use Rattle.pl_frame.specs.Dialect.{AreDistinct, IsDialect};
 ghost use Rattle.pl_scan.specs.Dialect.{marks_of, comment_of};
+ghost use Rattle.pl_scan.specs.LineCuts.{RiseTo};
 ghost use Rattle.pl_rows.specs.Plan.{states, AreRising};
 ghost use Rattle.pl_rows.specs.Columns.{columns_of};
 ghost use Rattle.pl_rows.specs.Ranges.{IsRangeRead};
@@ -105,13 +106,13 @@ pub fn read_columns(
 }
 
 /// Reads the records of a range piece by piece, as `read_pieces` does, into columns of a schema: the same columns and the same
-/// end as `read_columns` gives, whatever the piece size. Refuses only want of memory.
+/// end as `read_columns` gives, wherever the pieces end. Refuses only want of memory.
 pub fn read_columns_in_pieces<G: Gate>(
     alloc: Global,
     schema: &Schema,
     range: &[u8],
     plan: &RangePlan<'_>,
-    piece_size: usize,
+    ends: Vec<usize>,
     gate: &G,
 ) -> Result<RangeColumns, AllocError>
     requires dialect { IsDialect (marks_of plan.now.dialect) (comment_of plan.now.dialect) }
@@ -119,13 +120,13 @@ pub fn read_columns_in_pieces<G: Gate>(
     requires rising { AreRising 0 (length schema.now) plan.now.projection.places.now }
     requires readable { first_unreadable schema.now plan.now.projection.places.now ≡ None }
     requires texts { HaveTexts plan.now.options.null_values (length schema.now) }
-    requires size { 0 < piece_size }
+    requires rise { RiseTo (length range.now) 0 ends.items }
     ensures { IfOk result (IsRangeRead plan.now schema.now range.now) }
 {
     let places = plan.projection.places;
     let quote_char = plan.dialect.quote_char;
     let mut buffers = empty_buffers(alloc, schema, places, quote_char, plan.options.encoding)?;
-    let end = read_pieces(alloc, &mut buffers, range, plan, piece_size, gate)?;
+    let end = read_pieces(alloc, &mut buffers, range, plan, ends, gate)?;
     let columns = into_columns(alloc, buffers)?;
     Ok(RangeColumns { columns, end })
 }

@@ -1,7 +1,8 @@
-//! A range read piece by piece: pieces of guessed size, as far as each ends where an item does, and the rest as one range.
+//! A range read piece by piece, as far as each piece ends where an item does, and the rest as one range.
 ghost use Rattle.std.specs.Prelude.{◌≡◌, ◌<◌, ◌≤◌, ◌&&◌, true, false, Some, None, IfOk, OnOk, OnErr, length, drop};
 ghost use Rattle.pl_frame.specs.Dialect.{IsDialect, AreDistinct};
 ghost use Rattle.pl_scan.specs.Dialect.{marks_of, comment_of};
+ghost use Rattle.pl_scan.specs.LineCuts.{RiseTo};
 ghost use Rattle.pl_rows.specs.declared.range.RangeEnd.TheVariants as end;
 ghost use Rattle.pl_rows.specs.Blocks.{HasReadRows};
 ghost use Rattle.pl_rows.specs.Pieces.{is_ended, ends_item, is_closed, is_fault, IsWhole, IsRowFit, plan_behind, end_behind, IsPieceRead};
@@ -155,24 +156,17 @@ fn read_front<G: Gate>(
     buffers: &mut [Buffer],
     range: &[u8],
     plan: &RangePlan<'_>,
-    piece_size: usize,
+    ends: Vec<usize>,
     gate: &G,
 ) -> Front
     requires can { CanRead plan.now (states buffers.old) }
     requires dialect { IsDialect (marks_of plan.now.dialect) (comment_of plan.now.dialect) }
-    requires size { 0 < piece_size }
+    requires rise { RiseTo (length range.now) 0 ends.items }
     ensures read { HasReadRows plan.now range.now (states buffers.old) (states buffers.new) (drop result.end range.now) result.rows }
     ensures end { result.end ≤ length range.now }
 {
     let dialect = plan.dialect;
-    let mut board = BoardState::new(
-        alloc,
-        range,
-        piece_size,
-        dialect.quote_char,
-        dialect.eol_char,
-        plan.limit,
-    );
+    let mut board = BoardState::new(range, ends, plan.limit);
     let mut front = Front { rows: 0, end: 0 };
     for _ in 0..usize::MAX {
         let Ok(Some(piece)) = board.take() else {
@@ -217,25 +211,25 @@ pub fn end_behind(rows: usize, end: RangeEnd) -> RangeEnd
     }
 }
 
-/// Reads the records of a range into the buffers, as `read_range` does, but piece by piece: each piece has about `piece_size` bytes
-/// and ends by a guess, and where a guess was wrong, all from that piece's start on is read as one range (docs/pieces.md). The
-/// answer is where the reading ended. Refuses only want of memory; the buffers are then as they were.
+/// Reads the records of a range into the buffers, as `read_range` does, but in pieces that end at these places: where a piece does not
+/// end where an item does, all from its start on is read as one range (docs/pieces.md). The answer is where the reading ended.
+/// Refuses only want of memory; the buffers are then as they were.
 pub fn read_pieces<G: Gate>(
     alloc: Global,
     buffers: &mut [Buffer],
     range: &[u8],
     plan: &RangePlan<'_>,
-    piece_size: usize,
+    ends: Vec<usize>,
     gate: &G,
 ) -> Result<RangeEnd, AllocError>
     requires can { CanRead plan.now (states buffers.old) }
     requires dialect { IsDialect (marks_of plan.now.dialect) (comment_of plan.now.dialect) }
-    requires size { 0 < piece_size }
+    requires rise { RiseTo (length range.now) 0 ends.items }
     ensures end { IfOk result (λ end. end ≡ range_end plan.now (plan_columns plan.now (states buffers.old)) range.now) }
     ensures added { OnOk result (states buffers.new ≡ with_range plan.now range.now (states buffers.old)) }
     ensures kept { OnErr result (states buffers.new ≡ states buffers.old) }
 {
-    let front = read_front(alloc, buffers, range, plan, piece_size, gate);
+    let front = read_front(alloc, buffers, range, plan, ends, gate);
     let last = plan_behind(plan, front.rows, plan.last);
     match read_range(alloc, buffers, &range[front.end..], &last) {
         Ok(end) => Ok(end_behind(front.rows, end)),

@@ -13,6 +13,8 @@ use pl_rows::pieces::read_pieces;
 use pl_rows::plan::{Projection, RangePlan, RowOptions};
 use pl_rows::range::RangeEnd;
 use pl_scan::dialect::Dialect;
+use pl_scan::laws::piece_ends_cut_the_text;
+use pl_scan::line_cuts::line_cuts;
 use std::alloc::Global;
 use std::process::Abort;
 
@@ -51,9 +53,9 @@ fn read(
     assert!(rt; plan.dialect.is_valid() && plan.projection.is_valid());
     let buffers = init_buffers(alloc, &[0], 0, schema, Some(b'"'), CsvEncoding::Utf8);
     let mut buffers = buffers.expect(rt, "buffers");
-    let end = read_pieces(alloc, &mut buffers, range, &plan, piece_size, &OpenGate).expect(
-        rt, "memory",
-    );
+    let ends = line_cuts(alloc, range, piece_size, b'\n').expect(rt, "memory");
+    piece_ends_cut_the_text();
+    let end = read_pieces(alloc, &mut buffers, range, &plan, ends, &OpenGate).expect(rt, "memory");
     let columns = into_columns(alloc, buffers).expect(rt, "columns");
     (columns, end)
 }

@@ -45,7 +45,7 @@ unwrap_or-find-map g p (x ∷ xs) d = by_test (p (g x)) (unwrap_or-find-map g p 
     by_test true e = refl
     by_test false e = e
 
-unwrap_or-cond : {X : Type 0} (t : Bool) (x : X) → unwrap_or (cond t (Some x) None) x ≡ x
+pub unwrap_or-cond : {X : Type 0} (t : Bool) (x : X) → unwrap_or (cond t (Some x) None) x ≡ x
 unwrap_or-cond true x = refl
 unwrap_or-cond false x = refl
 

@@ -17,3 +17,5 @@ mod row_counter;
 mod rows;
 #[cfg(test)]
 mod start;
+#[cfg(test)]
+mod summary;

@@ -10,7 +10,7 @@ ghosts-read_on_board-K-Reading g a = record {
 
 abbrev pub ghosts-read_on_board-T-Task : goal.ghosts-read_on_board-T-Task
 ghosts-read_on_board-T-Task g a = record {
-  setup = record { bytes = a.range.now; piece_size = a.piece_size; quote = a.plan.now.dialect.quote_char; line_end = a.plan.now.dialect.eol_char; limit = a.plan.now.limit };
+  setup = record { bytes = a.range.now; ends = a.ends.items; limit = a.plan.now.limit };
 }
 
 abbrev pub ghosts-read_on_board-T-Ledger : goal.ghosts-read_on_board-T-Ledger

@@ -1,5 +1,5 @@
 use Rattle.std.proofs.Common.{◌≡◌, ◌+◌, ◌<◌, ◌≤◌, ◌++◌, drop, false, length, sym, ◌∙◌, ap, subst, arith}
-use Rattle.pl_board.specs.Log.{Setup, reached}
+use Rattle.pl_board.specs.Log.{Setup}
 use Rattle.pl_board.specs.Pieces.{Cut}
 use Rattle.pl_board.specs.States.{Snapshot, next_piece}
 use Rattle.pl_rows.specs.contracts.pieces.PieceDoneDone.TheImpl.{ghosts}
@@ -7,7 +7,7 @@ use Rattle.pl_rows.specs.declared.pieces.PieceDone.{PieceDone}
 use Rattle.pl_rows.specs.Blocks.{HasReadRows}
 use Rattle.pl_rows.specs.Pieces.{HasReadPiece, plan_behind}
 use Rattle.pl_rows.specs.Plan.{states, CanRead}
-use Rattle.pl_rows.proofs.PieceLaws.{HasReadRows-piece, CanRead-behind, reached-none, reached-taken, reached-posted, piece-front}
+use Rattle.pl_rows.proofs.PieceLaws.{HasReadRows-piece, CanRead-behind, next_begin, begin-none, begin-taken, begin-posted, piece-front}
 use Rattle.pl_rows.proofs.PlanLaws.{CanRead-more}
 use Rattle.pl_rows.proofs.RangeLaws.{HasReadRows-start}
 use Rattle.pl_rows.proofs.pieces.read_front.Given.{Over}
@@ -18,7 +18,7 @@ loop-init g c = record {
   read = HasReadRows-start c.args.plan.now c.args.range.now (states c.args.buffers.now) c.requires.can;
   end_within = omega arith;
   bytes_are = ap (λ (s : Snapshot PieceDone). s.setup.bytes) c.new-board.ensures;
-  reached_is = ap (λ (s : Snapshot PieceDone). reached s.log) c.new-board.ensures ∙ reached-none;
+  begin_is = ap (λ (s : Snapshot PieceDone). next_begin s.setup s.log) c.new-board.ensures ∙ begin-none (record { bytes = c.args.range.now; ends = c.args.ends.items; limit = c.args.plan.now.limit });
 }
 
 pub read_piece-requires-clause-can : goal.read_piece-requires-clause-can
@@ -35,7 +35,7 @@ taken g c =
     let piece = c.in-Ok-Some.piece in
     let some : piece.from < piece.to = rw c.in-Ok-Some.field-0-is at c.in-Ok-Some.ensures.some in
     let is : piece ≡ next_piece c.loop.board.setup c.loop.board.log = rw c.in-Ok-Some.field-0-is at c.in-Ok-Some.ensures.piece in
-    piece-front c.args.range.now c.loop.board.setup c.loop.board.log piece c.loop.front.end c.loop.invariant.bytes_are c.loop.invariant.reached_is is some
+    piece-front c.args.range.now c.loop.board.setup c.loop.board.log piece c.loop.front.end c.loop.invariant.bytes_are c.loop.invariant.begin_is is some
     ∙ ap (λ k. piece.text ++ drop k c.args.range.now) (sym c.to-end.ensures)
 
 -- it was read behind the others
@@ -59,12 +59,12 @@ loop-preserved g c =
     let piece = c.in-Ok-Some.piece in
     let within : piece.to ≤ length c.loop.board.setup.bytes = rw c.in-Ok-Some.field-0-is at c.in-Ok-Some.ensures.within in
     let is : piece ≡ next_piece c.loop.board.setup c.loop.board.log = rw c.in-Ok-Some.field-0-is at c.in-Ok-Some.ensures.piece in
-    let handed_out = reached-taken c.loop.board c.take.new.self (rw c.in-Ok-Some.field-0-is at c.in-Ok-Some.ensures.taken) in
-    let posted = reached-posted ghosts.mark c.take.new.self c.post.new.self c.new.result c.post.result c.post.ensures.stored in
+    let handed_out = begin-taken c.loop.board c.take.new.self (rw c.in-Ok-Some.field-0-is at c.in-Ok-Some.ensures.taken) in
+    let posted = begin-posted ghosts.mark c.take.new.self c.post.new.self c.new.result c.post.result c.post.ensures.stored in
     let inside : c.to-end.result ≤ length c.args.range.now = omega (arith, within, ap length c.loop.invariant.bytes_are, c.to-end.ensures) in
     record {
       read = more g c;
       end_within = inside;
       bytes_are = ap (λ (s : Setup). s.bytes) (posted.0 ∙ handed_out.0) ∙ c.loop.invariant.bytes_are;
-      reached_is = posted.1 ∙ handed_out.1 ∙ ap (λ (p : Cut). p.to) (sym is) ∙ sym c.to-end.ensures;
+      begin_is = posted.1 ∙ handed_out.1 ∙ ap (λ (p : Cut). p.to) (sym is) ∙ sym c.to-end.ensures;
     }

@@ -25,19 +25,19 @@ row_cells offset count numbers is = ap number_cells is ∙ cells_are offset coun
 
 -- the column of them
 pub numbered : (column : ColumnValue) (name : List ℕ) (offset count : ℕ) (numbers : List (Option ℤ)) →
-    column ≡ record { name = name; dtype = dtype.UInt32; values = number_cells numbers } → numbers ≡ map (λ n. Some (pos n)) (range_with_len offset count) →
+    column ≡ record { name = name; dtype = dtype.UInt64; values = number_cells numbers } → numbers ≡ map (λ n. Some (pos n)) (range_with_len offset count) →
     column ≡ row_index_column name offset count
-numbered column name offset count numbers column_is is = column_is ∙ (λ j. record { name = name; dtype = dtype.UInt32; values = row_cells offset count numbers is j })
+numbered column name offset count numbers column_is is = column_is ∙ (λ j. record { name = name; dtype = dtype.UInt64; values = row_cells offset count numbers is j })
 
-fits : (n : ℕ) → n < 2 ^ 32 → misfits dtype.UInt32 (option_map Number (Some (pos n))) ≡ false
+fits : (n : ℕ) → n < 2 ^ 64 → misfits dtype.UInt64 (option_map Number (Some (pos n))) ≡ false
 fits n l = grind arith
 
--- they fit 32 bits
-pub row_numbers_hold : (offset count : ℕ) (numbers : List (Option ℤ)) → offset + count ≤ 2 ^ 32 → numbers ≡ map (λ n. Some (pos n)) (range_with_len offset count) →
-    HoldsType dtype.UInt32 (number_cells numbers)
+-- they fit 64 bits
+pub row_numbers_hold : (offset count : ℕ) (numbers : List (Option ℤ)) → offset + count ≤ 2 ^ 64 → numbers ≡ map (λ n. Some (pos n)) (range_with_len offset count) →
+    HoldsType dtype.UInt64 (number_cells numbers)
 row_numbers_hold offset count numbers small is =
-    subst (λ xs. HoldsType dtype.UInt32 (number_cells xs)) (sym is)
-    (all_hold Number dtype.UInt32 (map (λ n. Some (pos n)) (range_with_len offset count))
+    subst (λ xs. HoldsType dtype.UInt64 (number_cells xs)) (sym is)
+    (all_hold Number dtype.UInt64 (map (λ n. Some (pos n)) (range_with_len offset count))
     (λ k l. let within : k < count = let size = length-map-range_with_len (λ n. Some (pos n)) offset count in omega (arith, l, size) in
-    ap (λ o. misfits dtype.UInt32 (option_map Number o)) (get_or-map-range_with_len (λ n. Some (pos n)) offset count k (offset + k) None within refl)
+    ap (λ o. misfits dtype.UInt64 (option_map Number o)) (get_or-map-range_with_len (λ n. Some (pos n)) offset count k (offset + k) None within refl)
     ∙ fits (offset + k) (omega arith)))

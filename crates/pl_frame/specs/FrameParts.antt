@@ -71,11 +71,11 @@ AreDistinctPlaces (place ∷ places) = AllByRecursion (λ other. place ≢ other
 abbrev pub has_name : List ColumnValue → List ℕ → Bool
 has_name columns name = list_any (λ column. bytes_eq column.name name) columns
 
--- the last number of the rows passes 2 ^ 32 - 1
+-- the last number of the rows passes 2 ^ 64 - 1
 abbrev pub IsTooLong : ℕ → List ColumnValue → Type 0
-IsTooLong offset columns = 2 ^ 32 < offset + height_of columns
+IsTooLong offset columns = 2 ^ 64 < offset + height_of columns
 
--- A column has the name, or, where none has, the last number passes 2 ^ 32 - 1. Want of memory may come at any time.
+-- A column has the name, or, where none has, the last number passes 2 ^ 64 - 1. Want of memory may come at any time.
 abbrev pub IsRowIndexFault : List ℕ → ℕ → List ColumnValue → PolarsError → Type 0
 IsRowIndexFault name offset columns (error.Duplicate repeated place.Projection) = (repeated ≡ name) × (has_name columns name ≡ true)
 IsRowIndexFault name offset columns (error.ComputeError (fault.Index start rows)) =

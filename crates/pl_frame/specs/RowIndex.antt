@@ -10,4 +10,4 @@ row_numbers offset count = map (λ n. Some (Number (pos n))) (range_with_len off
 
 -- the column of this name that numbers this many rows, from one number on
 abbrev pub row_index_column : List ℕ → ℕ → ℕ → ColumnValue
-row_index_column name offset count = record { name = name; dtype = dtype.UInt32; values = row_numbers offset count }
+row_index_column name offset count = record { name = name; dtype = dtype.UInt64; values = row_numbers offset count }

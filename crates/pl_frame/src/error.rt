@@ -45,7 +45,7 @@ pub enum ComputeFault {
         column: usize,
         kind: FaultKind,
     },
-    /// The last number of a row or code of a category does not fit 32 bits.
+    /// The last number of a row does not fit 64 bits, or the last code of a category 32.
     Index {
         offset: u64,
         rows: u64,

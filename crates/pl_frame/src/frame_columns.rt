@@ -25,14 +25,14 @@ impl DataFrame {
         Ok(DataFrame::of_distinct(columns))
     }
 
-    /// Puts a column of type `UInt32` in front, in which row r has the number offset + r. Refuses `Duplicate` at a projection
-    /// where a column has the name, then `Index` where the last number passes 2^32 - 1, and want of memory. It is then as
+    /// Puts a column of type `UInt64` in front, in which row r has the number offset + r. Refuses `Duplicate` at a projection
+    /// where a column has the name, then `Index` where the last number passes 2^64 - 1, and want of memory. It is then as
     /// it was.
-    pub fn with_row_index(&mut self, name: PlSmallStr, offset: u32) -> PolarsResult<()>
+    pub fn with_row_index(&mut self, name: PlSmallStr, offset: u64) -> PolarsResult<()>
         requires columns { 0 < length self.old }
         ensures numbered { OnOk result (self.new ≡ row_index_column name offset (height_of self.old) ∷ self.old) }
         ensures distinct { OnOk result (has_name self.old name ≡ false) }
-        ensures fits { OnOk result (offset + height_of self.old ≤ 2 ^ 32) }
+        ensures fits { OnOk result (offset + height_of self.old ≤ 2 ^ 64) }
         ensures refused { IfErr result (IsRowIndexFault name offset self.old) }
         ensures unchanged { OnErr result (self.new ≡ self.old) }
     {
@@ -43,9 +43,9 @@ impl DataFrame {
             });
         }
         let rows = self.height();
-        if rows > (1 << 32) - offset as usize {
+        if u128::from(offset) + rows as u128 > 1 << 64 {
             return Err(PolarsError::ComputeError(ComputeFault::Index {
-                offset: u64::from(offset),
+                offset,
                 rows: rows as u64,
             }));
         }

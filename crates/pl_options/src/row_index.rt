@@ -12,7 +12,7 @@ pub struct RowIndex {
     /// The name of the column.
     pub name: PlSmallStr,
     /// The number of the first row.
-    pub offset: u32,
+    pub offset: u64,
 }
 
 impl RowIndex {

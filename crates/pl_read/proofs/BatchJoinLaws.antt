@@ -45,7 +45,7 @@ frame_in o schema given = with_index o.row_index (length given) (frame_of_rows (
 
 -- columns behind numbers
 abbrev with_numbers : RowIndex → List (Option Scalar) → List ColumnValue → List ColumnValue
-with_numbers index values others = record { name = index.name; dtype = dtype.UInt32; values = values } ∷ others
+with_numbers index values others = record { name = index.name; dtype = dtype.UInt64; values = values } ∷ others
 
 -- with the frame of the next rows
 frame-stacked : (o : CsvReadOptions) (schema : List Entry) (xs ys : List Row) → stacked (frame_in o schema xs) (frame_behind o schema (length xs) ys) ≡ frame_in o schema (xs ++ ys)

@@ -61,9 +61,9 @@ frame-fewer : (index : Option RowIndex) (rules : RowRules) (n : ℕ) (given : Li
     → with_index index (length (take n given)) (frame_of_rows rules columns (take n given)) ≡ sliced 0 n (with_index index (length given) (frame_of_rows rules columns given))
 frame-fewer None rules n given columns = columns-fewer rules n given columns
 frame-fewer (Some index) rules n given columns =
-    ap (λ (values : List (Option Scalar)). record { name = index.name; dtype = dtype.UInt32; values = values } ∷ frame_of_rows rules columns (take n given))
+    ap (λ (values : List (Option Scalar)). record { name = index.name; dtype = dtype.UInt64; values = values } ∷ frame_of_rows rules columns (take n given))
     (numbers-fewer (λ k. Some (Number (pos k))) index.offset n given)
-    ∙ ap (λ (others : List ColumnValue). record { name = index.name; dtype = dtype.UInt32; values = take n (row_numbers index.offset (length given)) } ∷ others) (columns-fewer rules n given columns)
+    ∙ ap (λ (others : List ColumnValue). record { name = index.name; dtype = dtype.UInt64; values = take n (row_numbers index.offset (length given)) } ∷ others) (columns-fewer rules n given columns)
 
 -- ---- the causes against fewer rows
 
@@ -93,7 +93,7 @@ when-less true limit a b one other less none = by (nat_lt limit a) refl none
 pub numbers_past-fewer : (index : Option RowIndex) (a b : ℕ) → b ≤ a → numbers_past index a ≡ None → numbers_past index b ≡ None
 numbers_past-fewer None a b less none = refl
 numbers_past-fewer (Some index) a b less none =
-    when-less true (2 ^ 32) (index.offset + a) (index.offset + b) (error.ComputeError (compute_fault.Index index.offset a)) (error.ComputeError (compute_fault.Index index.offset b)) (omega arith) none
+    when-less true (2 ^ 64) (index.offset + a) (index.offset + b) (error.ComputeError (compute_fault.Index index.offset a)) (error.ComputeError (compute_fault.Index index.offset b)) (omega arith) none
 
 -- one value more makes a dictionary no shorter
 text-more : (texts : List (List ℕ)) (value : Option (List ℕ)) → length texts ≤ length (with_text texts value)

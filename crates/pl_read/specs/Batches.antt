@@ -158,8 +158,8 @@ abbrev pub faulty_behind : CsvReadOptions → List Entry → ℕ → List Row �
 faulty_behind o schema before given =
     option_map (λ found. error.ComputeError (compute_fault.Record found.0 found.1.0 found.1.1)) (first_faulty (rules_of o schema) (columns_read o schema) before given)
 
--- Why rows behind so many others are no batches: one of them has a fault; or else a number up to their end does not fit 32 bits;
--- or else a code in a frame of some of them does not.
+-- Why rows behind so many others are no batches: one of them has a fault; or else a number up to their end does not fit 64 bits;
+-- or else a code in a frame of some of them does not fit 32.
 abbrev pub IsCauseBehind : CsvReadOptions → List Entry → ℕ → List Row → PolarsError → Type 0
 IsCauseBehind o schema before given fault =
     (faulty_behind o schema before given ≡ Some fault)

@@ -81,10 +81,10 @@ abbrev pub faulty_record : CsvReadOptions → List Entry → List ℕ → Option
 faulty_record o schema records =
     option_map (λ found. error.ComputeError (compute_fault.Record found.0 found.1.0 found.1.1)) (first_faulty (rules_of o schema) (columns_read o schema) 0 (rows_in o records))
 
--- the last of so many numbers of a row index does not fit 32 bits
+-- the last of so many numbers of a row index does not fit 64 bits
 abbrev pub numbers_past : Option RowIndex → ℕ → Option PolarsError
 numbers_past None count = None
-numbers_past (Some index) count = when (nat_lt (2 ^ 32) (index.offset + count)) (error.ComputeError (compute_fault.Index index.offset count))
+numbers_past (Some index) count = when (nat_lt (2 ^ 64) (index.offset + count)) (error.ComputeError (compute_fault.Index index.offset count))
 
 -- the last code of a category of the column does not fit 32 bits
 abbrev pub codes_past : ColumnValue → Option PolarsError

@@ -94,8 +94,9 @@ impl<'a> BatchedCsvReader<'a> {
     /// or of all of it where there are fewer. `None` where none is asked for, the limit of rows is reached, or nothing is left.
     ///
     /// Refuses the least of these rows that has a fault (`Record`); then, of the row index, the last number up to the end of
-    /// these rows that does not fit 32 bits, or else the last code of a category in one of the frames (`Index`). Every later call
-    /// answers such a fault again, whatever it asks for. Refuses also want of memory, and then the reader is as it was.
+    /// these rows that does not fit 64 bits, or else the last code of a category in one of the frames that does not fit 32
+    /// (`Index`). Every later call answers such a fault again, whatever it asks for. Refuses also want of memory, and then the
+    /// reader is as it was.
     pub fn next_batches<W: Threads + Wait + Sync>(
         &mut self,
         rt: &W,

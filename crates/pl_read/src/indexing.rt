@@ -1,4 +1,4 @@
-//! The row index before the columns, and numbers that do not fit 32 bits.
+//! The row index before the columns, numbers that do not fit 64 bits, and codes that do not fit 32.
 ghost use Rattle.std.specs.Prelude.{◌≡◌, ◌<◌, ◌≤◌, ◌+◌, ◌^◌, nat_lt, IfOk, OnOk, IfErr, None, map};
 ghost use Rattle.std.specs.Option.{option_copied};
 ghost use Rattle.pl_frame.specs.Frame.{IsFrame, height_of};
@@ -18,26 +18,41 @@ use pl_frame::frame::DataFrame;
 use pl_options::row_index::RowIndex;
 use std::alloc::Global;
 
-// So many numbers are there of 32 bits.
-const NUMBERS: u64 = 1 << 32;
+// So many numbers are there of 64 bits.
+const NUMBERS: u128 = 1 << 64;
 
-// The refusal of a row index whose last number does not fit 32 bits.
+// So many codes are there of 32 bits.
+const CODES: u64 = 1 << 32;
+
+// The refusal of a row index whose last number does not fit 64 bits.
 pub(crate) fn numbers_past(index: Option<&RowIndex>, rows: usize) -> Option<PolarsError>
     ensures { result ≡ numbers_past (option_copied index.entry) rows }
 {
     match index {
-        Some(index) => past(u64::from(index.offset), rows as u64),
+        Some(index) => rows_past(index.offset, rows as u64),
         None => None,
     }
 }
 
-// The refusal of so many numbers from one of 32 bits on, where the last does not fit 32 bits.
-fn past(offset: u64, rows: u64) -> Option<PolarsError>
-    requires { offset < 2 ^ 32 }
-    ensures { result ≡ when (nat_lt (2 ^ 32) (offset + rows)) (error.ComputeError (compute_fault.Index offset rows)) }
+// The refusal of so many numbers from one on, where the last does not fit 64 bits.
+fn rows_past(offset: u64, rows: u64) -> Option<PolarsError>
+    ensures { result ≡ when (nat_lt (2 ^ 64) (offset + rows)) (error.ComputeError (compute_fault.Index offset rows)) }
 {
-    if rows > NUMBERS - offset {
+    if u128::from(offset) + u128::from(rows) > NUMBERS {
         return Some(PolarsError::ComputeError(ComputeFault::Index { offset, rows }));
+    }
+    None
+}
+
+// The refusal of so many texts, where the last code of one does not fit 32 bits.
+fn texts_past(texts: u64) -> Option<PolarsError>
+    ensures { result ≡ when (nat_lt (2 ^ 32) texts) (error.ComputeError (compute_fault.Index 0 texts)) }
+{
+    if texts > CODES {
+        return Some(PolarsError::ComputeError(ComputeFault::Index {
+            offset: 0,
+            rows: texts,
+        }));
     }
     None
 }
@@ -56,7 +71,7 @@ fn codes_past(column: &Column) -> Option<PolarsError>
     if !is_categorical(column.dtype()) {
         return None;
     }
-    past(0, column.categories().len() as u64)
+    texts_past(column.categories().len() as u64)
 }
 
 // The refusal of the first column whose last code does not fit 32 bits.
@@ -71,7 +86,7 @@ fn find_codes_past(columns: &[Column]) -> Option<PolarsError>
     None
 }
 
-// The refusal of numbers that do not fit 32 bits.
+// The refusal of the last number of a row index that does not fit 64 bits, or else of a code that does not fit 32.
 fn index_past(index: Option<&RowIndex>, rows: usize, columns: &[Column]) -> Option<PolarsError>
     ensures { result ≡ index_past (option_copied index.entry) rows columns.now }
 {
@@ -92,8 +107,8 @@ pub(crate) fn rows_of(columns: &[Column]) -> usize
 }
 
 /// The frame of columns of one height behind their row index, where one is asked; with it their names are distinct. Refuses
-/// the last number of the row index, or else the last code of the first column, that does not fit 32 bits (`Index`), and want
-/// of memory.
+/// the last number of the row index that does not fit 64 bits, or else the last code of the first column that does not fit 32
+/// (`Index`), and want of memory.
 pub fn with_index(
     alloc: Global,
     index: Option<&RowIndex>,
@@ -120,17 +135,17 @@ pub fn with_index(
 }
 
 // The number so many behind another, of so many rows; where there are none it may be any.
-fn number_behind(offset: u32, before: usize, rows: usize) -> u32
-    requires fits { offset + (before + rows) ≤ 2 ^ 32 }
+fn number_behind(offset: u64, before: usize, rows: usize) -> u64
+    requires fits { offset + (before + rows) ≤ 2 ^ 64 }
     ensures numbers { row_numbers result rows ≡ row_numbers (offset + before) rows }
-    ensures within { result + rows ≤ 2 ^ 32 }
+    ensures within { result + rows ≤ 2 ^ 64 }
 {
-    if rows == 0 { 0 } else { offset + before as u32 }
+    if rows == 0 { 0 } else { offset + before as u64 }
 }
 
 /// The frame of columns of one height behind their row index, where one is asked, whose numbers begin so many later; with it
-/// their names are distinct. Refuses the last number of the row index up to their end, or else the last code of the first
-/// column, that does not fit 32 bits (`Index`), and want of memory.
+/// their names are distinct. Refuses the last number of the row index up to their end that does not fit 64 bits, or else the
+/// last code of the first column that does not fit 32 (`Index`), and want of memory.
 pub(crate) fn with_index_behind(
     alloc: Global,
     index: Option<&RowIndex>,

@@ -142,8 +142,8 @@ impl<'b> Behind<'b> {
         Ok(count)
     }
 
-    // The frames of the parts, in which the numbers fit 32 bits. Refuses the last code of a column that does not, and want of
-    // memory.
+    // The frames of the parts, in which the numbers fit 64 bits. Refuses the last code of a column that does not fit 32, and want
+    // of memory.
     fn frames(&self, alloc: Global, parts: Vec<Part<'_>>) -> PolarsResult<Vec<DataFrame>>
         requires can { CanReadBehind self.now }
         requires read { HaveRead self.now parts.items }
@@ -177,7 +177,7 @@ impl<'b> Behind<'b> {
     }
 
     // The frames of the parts, and how many rows they have. Refuses the least of their rows that has a fault, then the last number
-    // up to their end, and then the last code of a column, that does not fit 32 bits; and want of memory.
+    // up to their end that does not fit 64 bits, and then the last code of a column that does not fit 32; and want of memory.
     fn finish(&self, alloc: Global, parts: Vec<Part<'_>>, end: usize) -> PolarsResult<NextFrames>
         requires can { CanReadBehind self.now }
         requires read { HaveRead self.now parts.items }
@@ -201,7 +201,7 @@ impl<'b> Behind<'b> {
 
 /// The frames of the next rows in what is left, behind so many rows: one or more, and `n` at most. They are the rows of its first
 /// `n` ranges, or of all of it where there are fewer. Refuses the least of these rows that has a fault, then the last number up to
-/// their end, and then the last code of a column, that does not fit 32 bits; and want of memory.
+/// their end that does not fit 64 bits, and then the last code of a column that does not fit 32; and want of memory.
 pub(crate) fn next_frames<W: Threads + Wait + Sync>(
     rt: &W,
     alloc: Global,

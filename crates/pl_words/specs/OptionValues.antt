@@ -1,8 +1,8 @@
 -- What the values of options write (docs/command-line.md, "Words").
-use Rattle.std.specs.Prelude.{ℕ, ◌+◌, ◌-◌, ◌*◌, ◌&&◌, ◌==◌, nat_lt, nat_le, if◌then◌else◌, List, [], ◌∷◌, length, codes, Option, None, Some}
+use Rattle.std.specs.Prelude.{ℕ, ◌+◌, ◌-◌, ◌*◌, ◌^◌, ◌&&◌, ◌==◌, nat_lt, nat_le, if◌then◌else◌, List, [], ◌∷◌, length, codes, Option, None, Some}
 use Rattle.std.specs.Option.{option_map, option_and_then}
 use Rattle.std.specs.Str.{bytes_eq}
-use Rattle.pl_cells.specs.Integers.{is_digits, number_of}
+use Rattle.pl_cells.specs.Integers.{is_digits, number_below, number_of}
 use Rattle.pl_write.specs.declared.options.QuoteStyle.{QuoteStyle}
 use Rattle.pl_write.specs.declared.options.QuoteStyle.TheVariants as style
 
@@ -38,9 +38,9 @@ count_of text = if is_digits text && nat_le (length text) 18 then Some (number_o
 abbrev pub sample_of : List ℕ → Option (Option ℕ)
 sample_of text = if bytes_eq text (codes "all") then Some None else option_map (λ n. Some n) (count_of text)
 
--- NUM up to 4294967295
+-- the number of a first row: 1 to 20 decimal digits, up to 18446744073709551615
 abbrev pub offset_of : List ℕ → Option ℕ
-offset_of text = option_and_then (λ n. if nat_lt n 4294967296 then Some n else None) (count_of text)
+offset_of text = if nat_le (length text) 20 then number_below (2 ^ 64) text else None
 
 -- what ends a line of the output: `lf` or `crlf`
 abbrev pub terminator_named : List ℕ → Option (List ℕ)

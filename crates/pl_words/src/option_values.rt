@@ -82,15 +82,14 @@ pub(crate) fn parse_sample(text: &str) -> Option<Option<usize>>
     }
 }
 
-/// The number up to 4294967295 that 1 to 18 digits write.
-pub(crate) fn parse_offset(text: &str) -> Option<u32>
+/// The number up to 18446744073709551615 that 1 to 20 digits write.
+pub(crate) fn parse_offset(text: &str) -> Option<u64>
     ensures { result ≡ offset_of text.now }
 {
-    let number = parse_count(text)?;
-    match u32::try_from(number) {
-        Ok(offset) => Some(offset),
-        Err(_) => None,
+    if text.len() > 20 {
+        return None;
     }
+    number_of(text.as_bytes())
 }
 
 /// The line end that a text names.

@@ -79,6 +79,20 @@ def column_of(r):
     return "decimal/%d/%d" % (wide, scale), False, True, lambda: digits(near(r, 1 - 10 ** wide, 10 ** wide - 1), scale)
 
 
+def null_text(way):
+    """What is written of a null."""
+    return way["quote"] + way["null"] + way["quote"] if way["style"] == "always" else way["null"]
+
+
+def cell_text(way, cell, is_text, is_number):
+    """What is written of a value, given its printed text."""
+    quoted = way["quote"] + cell.replace(way["quote"], 2 * way["quote"]) + way["quote"]
+    if way["style"] == "always" or way["style"] == "nonnumeric" and not is_number:
+        return quoted
+    needs_quotes = cell == "" or set(cell) & {way["sep"], way["quote"], "\r", "\n"}
+    return quoted if way["style"] == "necessary" and is_text and needs_quotes else cell
+
+
 def fits(way, types, names, rows):
     separator, quote, null, style = way["sep"], way["quote"], way["null"], way["style"]
     special = {separator, quote, "\r", "\n"}
@@ -87,10 +101,8 @@ def fits(way, types, names, rows):
     if style == "never" and way["header"] and any(set(name) & special for name in names):
         return False
     for row in rows:
-        for (_, is_text, _, _), cell in zip(types, row):
-            if cell is None and style == "always" and null == "" and is_text:
-                return False
-            if cell is not None and null != "" and cell == null:
+        for (_, is_text, is_number, _), cell in zip(types, row):
+            if cell is not None and cell_text(way, cell, is_text, is_number) == null_text(way):
                 return False
             if cell is not None and style == "never" and is_text and (cell == "" or set(cell) & special):
                 return False
@@ -147,11 +159,11 @@ def main():
         out = ["--style=" + way["style"], "--out-sep=" + byte(way["sep"]), "--out-quote=" + byte(way["quote"]), "--out-eol=" + way["eol"]]
         out += ["--out-null=" + way["null"]] if way["null"] else []
         out += ([] if way["header"] else ["--out-no-header"]) + (["--out-bom"] if way["bom"] else [])
-        written = run(program, schema + ["--null=" + NULL] + out, told)
+        written = run(program, schema + ['--null="' + NULL + '"'] + out, told)
         if begins_with_mark(written, way):
             continue
         back = ["--sep=" + byte(way["sep"]), "--quote=" + byte(way["quote"]), "--workers=%d" % r.choice([1, 2, 3, 8]), "--piece=%d" % r.choice([1, 7, 100, 262144])]
-        back += ["--null=" + way["null"]] if way["null"] else []
+        back += ["--null=" + null_text(way)] if null_text(way) else []
         back += [] if way["header"] else ["--no-header"]
         again = run(program, schema + back + ["--style=always", "--out-null=" + NULL], written)
         done += 1

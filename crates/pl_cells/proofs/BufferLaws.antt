@@ -1,5 +1,5 @@
 -- Laws of cells by the kind of their type.
-use Rattle.std.proofs.Common.{◌≡◌, ℕ, ◌==◌, Bool, true, false, not, ◌&&◌, if◌then◌else◌, List, [], ◌∷◌, ◌++◌, length, Option, Some, None, Result, Ok, Err, refl, sym, ◌∙◌, ap, subst}
+use Rattle.std.proofs.Common.{◌≡◌, ℕ, ◌==◌, Bool, true, false, not, if◌then◌else◌, List, [], ◌∷◌, ◌++◌, length, Option, Some, None, Result, Ok, Err, refl, sym, ◌∙◌, ap, subst}
 use Rattle.pl_frame.specs.declared.data_type.DataType.{DataType}
 use Rattle.pl_frame.specs.declared.data_type.DataType.TheVariants as dtype
 use Rattle.pl_frame.specs.Types.{is_text}
@@ -18,7 +18,7 @@ use Rattle.pl_cells.specs.declared.utf8.CsvEncoding.{CsvEncoding}
 use Rattle.pl_cells.specs.declared.utf8.CsvEncoding.TheVariants as encodings
 use Rattle.pl_cells.specs.BufferValue.{BufferValue, Answers, Adds, ListAnswers, IsCellFault, is_ignored, reading_of, reading_with}
 use Rattle.pl_cells.specs.NullTest.{nothing_is_null}
-use Rattle.pl_cells.specs.Cells.{missing_value, Cell, Reading, plain_cell, quoted_cell, stripped_cell, is_missing, softened, value_or_null, value_text, string_cell, text_cell}
+use Rattle.pl_cells.specs.Cells.{missing_value, Cell, Reading, plain_cell, quoted_cell, stripped_cell, softened, value_or_null, value_text, string_cell, text_cell}
 
 abbrev pub push_value : List (Option Scalar) → Option Scalar → List (Option Scalar)
 push_value values value = values ++ value ∷ []
@@ -171,9 +171,7 @@ quoted_same view old missing ignore q text t is same texts =
 
 -- the cell of a field that begins with the quote, by whether it is well quoted
 abbrev pub by_quoting : Reading → ℕ → DataType → List ℕ → Bool → Cell
-by_quoting reading q type text well =
-    if not well then Err fault.Escape
-    else (if (well && false) && not (is_missing (Some q) text) then Ok None else softened reading.ignore_errors (quoted_cell reading q type (inside text)))
+by_quoting reading q type text well = if not well then Err fault.Escape else softened reading.ignore_errors (quoted_cell reading q type (inside text))
 
 pub quoted_inside : {T : Type 0} (old new : BufferValue) (ignore : Bool) (q : ℕ) (field text : List ℕ) (r : Result T CellFault) → is_well_quoted q field ≡ true → text ≡ inside field
     → Answers old new (softened ignore (quoted_cell (reading_of old true ignore) q old.dtype text)) r

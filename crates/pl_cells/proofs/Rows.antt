@@ -122,15 +122,28 @@ in_column_b = is_null_text (compiled_for (values.Named ((codes "a", codes "NA") 
 null_of_a : cell plain in_column_a (Some 34) dtype.String (codes "NA\r") ≡ Ok None
 null_of_a = refl
 
-null_in_quotes : cell plain in_column_a (Some 34) dtype.String (codes "\"NA\"") ≡ Ok None
+text_in_quotes : cell plain in_column_a (Some 34) dtype.String (codes "\"NA\"") ≡ Ok (Some (Letters (codes "NA")))
+unfolding is_utf8 chars encode_utf8
+text_in_quotes = refl
+
+-- `"NA"`, with its quotes, means null in the column `a`
+abbrev with_quotes : List ℕ → Bool
+with_quotes = is_null_text (compiled_for (values.Named ((codes "a", codes "\"NA\"") ∷ [])) ((codes "a", dtype.String) ∷ [])) 0
+
+null_in_quotes : cell plain with_quotes (Some 34) dtype.String (codes "\"NA\"") ≡ Ok None
 null_in_quotes = refl
+
+plain_text : cell plain with_quotes (Some 34) dtype.String (codes "NA") ≡ Ok (Some (Letters (codes "NA")))
+unfolding is_utf8 chars encode_utf8
+plain_text = refl
 
 earlier_entry : cell plain in_column_a (Some 34) dtype.String (codes "-") ≡ Ok (Some (Letters (codes "-")))
 unfolding is_utf8 chars encode_utf8
 earlier_entry = refl
 
-empty_means_null : cell plain in_column_b (Some 34) dtype.String (codes "\"\"") ≡ Ok None
-empty_means_null = refl
+quoted_stays_empty : cell plain in_column_b (Some 34) dtype.String (codes "\"\"") ≡ Ok (Some (Letters []))
+unfolding is_utf8 chars encode_utf8
+quoted_stays_empty = refl
 
 missing_stays_empty : cell keeping in_column_b (Some 34) dtype.String [] ≡ Ok (Some (Letters []))
 missing_stays_empty = refl

@@ -10,8 +10,8 @@ ghost use Rattle.pl_cells.specs.NullValues.{HasColumns, HaveTexts, is_null_text,
 use crate::null_values::NullValuesCompiled;
 use crate::quoting::{between_quotes, quote_of, without_return};
 
-/// Whether a field without its carriage return means null in a column, given the quote that it begins with. Of one between
-/// quotes what stands between them is tested.
+/// Whether a field without its carriage return means null in a column, given the quote that it begins with. It is compared as it
+/// stands, with its quotes; one that is not well quoted does not mean null.
 pub fn is_null_in(
     null_values: &NullValuesCompiled,
     text: &[u8],
@@ -23,10 +23,9 @@ pub fn is_null_in(
 {
     match quote {
         None => null_values.is_null(text, column),
-        Some(quote) => match between_quotes(text, quote) {
-            Some(inside) => null_values.is_null(inside, column),
-            None => false,
-        },
+        Some(quote) => {
+            null_values.is_null(text, column) && between_quotes(text, quote).is_some()
+        }
     }
 }
 

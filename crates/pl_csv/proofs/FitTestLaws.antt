@@ -79,16 +79,24 @@ bare-text o type (Letters text) never = let is : (o.style == 3) ≡ true = grind
 bare-text o type (Number n) never = value-bare o (is_numeric type) (printed type (Number n)) never
 bare-text o type (Truth b) never = value-bare o (is_numeric type) (printed type (Truth b)) never
 
+-- a cell that is no null, as it was written
+pub cell-written : (o : WriteOptions) (type : DataType) (s : Option Scalar) (column : ColumnValue) (row : ℕ) (left : CellsLeft) (text before : List ℕ)
+    → type ≡ column.dtype → s ≡ cell_at column row → left ≡ cells_from column row → before ≡ [] → text ≡ before ++ written_cell o left.dtype (next_cell left)
+    → IfSome s (λ v. text ≡ written_cell o type (Some v))
+cell-written o type None column row left text before same is here empty written = tt
+cell-written o type (Some v) column row left text before same is here empty written =
+    written ∙ ap (λ b. b ++ written_cell o left.dtype (next_cell left)) empty
+    ∙ ap (λ (l : CellsLeft). written_cell o l.dtype (next_cell l)) here
+    ∙ ap (written_cell o column.dtype) (first-behind column.values row ∙ sym is)
+    ∙ ap (λ (t : DataType). written_cell o t (Some v)) (sym same)
+
+-- and as it is printed
 pub cell-printed : (bare : WriteOptions) (type : DataType) (s : Option Scalar) (column : ColumnValue) (row : ℕ) (left : CellsLeft) (text before : List ℕ)
     → bare.style ≡ 3 → type ≡ column.dtype → s ≡ cell_at column row → left ≡ cells_from column row → before ≡ [] → text ≡ before ++ written_cell bare left.dtype (next_cell left)
     → IfSome s (λ v. text ≡ printed type v)
 cell-printed bare type None column row left text before never same is here empty written = tt
 cell-printed bare type (Some v) column row left text before never same is here empty written =
-    written ∙ ap (λ b. b ++ written_cell bare left.dtype (next_cell left)) empty
-    ∙ ap (λ (l : CellsLeft). written_cell bare l.dtype (next_cell l)) here
-    ∙ ap (written_cell bare column.dtype) (first-behind column.values row ∙ sym is)
-    ∙ bare-text bare column.dtype v never
-    ∙ ap (λ (t : DataType). printed t v) (sym same)
+    cell-written bare type (Some v) column row left text before same is here empty written ∙ bare-text bare type v never
 
 -- ---- all of them
 

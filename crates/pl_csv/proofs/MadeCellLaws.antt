@@ -60,7 +60,6 @@ writable type value readable = record {
   no_return = λ e. omega (arith, e);
   bare = λ style text. absurd (omega (arith, style));
   meant = refl;
-  meant_doubled = refl;
 }
 
 -- the fields of a row are sound

@@ -1,5 +1,5 @@
 //! Whether a frame that is written comes back as it is.
-ghost use Rattle.std.specs.Prelude.{◌≡◌, ◌≢◌, ◌≤◌, ◌↔◌, ◌^◌, IsTrue, IfOk, IfSome, IsOkUnless, length, false, true, []};
+ghost use Rattle.std.specs.Prelude.{◌≡◌, ◌≢◌, ◌≤◌, ◌↔◌, ◌^◌, IsTrue, IfOk, IfSome, IsOkUnless, length, false, true, Some};
 ghost use Rattle.std.specs.List.{AllByRecursion};
 ghost use Rattle.pl_frame.specs.declared.data_type.DataType.TheVariants as dtype;
 ghost use Rattle.pl_frame.specs.declared.error.PolarsError.TheVariants as error;
@@ -7,7 +7,7 @@ ghost use Rattle.pl_frame.specs.Columns.{dictionary, misfits, scalar_of};
 ghost use Rattle.pl_frame.specs.Compression.{is_compressed};
 ghost use Rattle.pl_frame.specs.Frame.{HaveHeight, height_of, names_of};
 ghost use Rattle.pl_text.specs.ValueText.{printed};
-ghost use Rattle.pl_text.specs.FrameText.{needs_quotes, text_of_frame};
+ghost use Rattle.pl_text.specs.FrameText.{needs_quotes, written_null, written_cell, text_of_frame};
 ghost use Rattle.pl_frame.specs.Types.{is_text};
 ghost use Rattle.pl_round_trip.specs.Fits.{has_special, IsLineEnding, FitsOptions, FitsValue, FitsCell, FitsColumn, FitsName, IsUnmarked, Fits};
 ghost use Rattle.pl_round_trip.specs.RoundTrip.{fits_count, is_printed_byte};
@@ -100,12 +100,11 @@ fn is_counted(dtype: &DataType, value: Value<'_>) -> bool
     }
 }
 
-// Whether a printed text is told apart from the null text.
-fn is_apart(options: &CsvWriterOptions, text: &[u8]) -> bool
-    ensures { IsTrue result ↔ ((frame_options options.now).null ≢ [] → text.now ≢ (frame_options options.now).null) }
+// Whether what is written of a value is told apart from what is written of a null.
+fn is_apart(written: &[u8], null: &[u8]) -> bool
+    ensures { IsTrue result ↔ (written.now ≢ null.now) }
 {
-    let null = options.serialize_options.null.as_str().as_bytes();
-    null.is_empty() || text != null
+    written != null
 }
 
 // Whether the printed text of a value of a type needs no quotes, where texts get none.
@@ -117,36 +116,62 @@ fn is_bare(options: &CsvWriterOptions, dtype: &DataType, text: &[u8]) -> bool
         || !(text.is_empty() || has_special(options, text))
 }
 
-// Whether a null of a type is told apart from the empty text.
-fn is_null_apart(options: &CsvWriterOptions, dtype: &DataType) -> bool
-    ensures { IsTrue result ↔ ((frame_options options.now).style ≡ 1 → (frame_options options.now).null ≡ [] → is_text dtype.now ≡ false) }
-{
-    options.serialize_options.quote_style != QuoteStyle::Always
-        || !options.serialize_options.null.as_str().is_empty()
-        || !dtype.is_text()
-}
-
-// Whether a value of a type comes back, given its printed text.
-fn value_fits(options: &CsvWriterOptions, dtype: &DataType, value: Value<'_>, text: &[u8]) -> bool
+// Whether a value of a type comes back, given its printed text, what is written of it and what is written of a null.
+fn value_fits(
+    options: &CsvWriterOptions,
+    dtype: &DataType,
+    value: Value<'_>,
+    text: &[u8],
+    written: &[u8],
+    null: &[u8],
+) -> bool
     requires held { misfits dtype.now (scalar_of value) ≡ false }
     requires printed { IfSome (scalar_of value) (λ v. text.now ≡ printed dtype.now v) }
+    requires written { IfSome (scalar_of value) (λ v. written.now ≡ written_cell (frame_options options.now) dtype.now (Some v)) }
+    requires null { null.now ≡ written_null (frame_options options.now) }
     ensures { IfSome (scalar_of value.entry) (λ v. IsTrue result ↔ FitsValue (frame_options options.now) dtype.now v) }
 {
-    is_counted(dtype, value) && is_apart(options, text) && is_bare(options, dtype, text)
+    is_counted(dtype, value) && is_apart(written, null) && is_bare(options, dtype, text)
 }
 
-// Whether a cell of a type comes back, given its printed text, if it is no null.
-fn cell_fits(options: &CsvWriterOptions, dtype: &DataType, value: Value<'_>, text: &[u8]) -> bool
+// Whether a cell of a type comes back, given its printed text and what is written of it, if it is no null, and what is written of a null.
+fn cell_fits(
+    options: &CsvWriterOptions,
+    dtype: &DataType,
+    value: Value<'_>,
+    text: &[u8],
+    written: &[u8],
+    null: &[u8],
+) -> bool
     requires held { misfits dtype.now (scalar_of value) ≡ false }
     requires printed { IfSome (scalar_of value) (λ v. text.now ≡ printed dtype.now v) }
+    requires written { IfSome (scalar_of value) (λ v. written.now ≡ written_cell (frame_options options.now) dtype.now (Some v)) }
+    requires null { null.now ≡ written_null (frame_options options.now) }
     ensures { IsTrue result ↔ FitsCell (frame_options options.now) dtype.now (scalar_of value.entry) }
 {
     match value {
-        Value::Null => is_null_apart(options, dtype),
-        Value::Boolean(_) => value_fits(options, dtype, value, text),
-        Value::Whole(_) => value_fits(options, dtype, value, text),
-        Value::Text(_) => value_fits(options, dtype, value, text),
+        Value::Null => true,
+        Value::Boolean(_) => value_fits(options, dtype, value, text, written, null),
+        Value::Whole(_) => value_fits(options, dtype, value, text, written, null),
+        Value::Text(_) => value_fits(options, dtype, value, text, written, null),
     }
+}
+
+// What is written of a null. Refuses only want of memory.
+fn written_null(alloc: Global, cells: &SerializeOptions) -> PolarsResult<Vec<u8>>
+    ensures null { IfOk result (λ null. null.items ≡ written_null (cell_options cells.now)) }
+    ensures refused { IsOkUnless result error.OutOfMemory }
+{
+    let null = cells.null.as_str().as_bytes();
+    let mut written = Vec::new(alloc);
+    if cells.quote_style == QuoteStyle::Always {
+        written.push(cells.quote_char)?;
+        written.extend_from_slice(null)?;
+        written.push(cells.quote_char)?;
+    } else {
+        written.extend_from_slice(null)?;
+    }
+    Ok(written)
 }
 
 // Whether the categories of a column have codes of 32 bits.
@@ -159,7 +184,7 @@ fn has_few_codes(column: &Column) -> bool
     }
 }
 
-// Whether each cell of a column comes back; texts are printed as they are, without quotes.
+// Whether each cell of a column comes back, given options under which texts are printed as they are, without quotes.
 fn cells_fit(
     alloc: Global,
     options: &CsvWriterOptions,
@@ -170,13 +195,19 @@ fn cells_fit(
     ensures fits { IfOk result (λ fits. IsTrue fits ↔ AllByRecursion (FitsCell (frame_options options.now) column.now.dtype) column.now.values) }
     ensures refused { IsOkUnless result error.OutOfMemory }
 {
+    let cells = &options.serialize_options;
     let dtype = column.dtype();
+    let null = written_null(alloc, cells)?;
     let mut left = Serializer::new(column);
+    let mut unwritten = Serializer::new(column);
     let mut text = Vec::new(alloc);
+    let mut written = Vec::new(alloc);
     for row in 0..column.len() {
         text.clear();
         left.serialize(&mut text, bare)?;
-        if !cell_fits(options, dtype, column.get(row), &text) {
+        written.clear();
+        unwritten.serialize(&mut written, cells)?;
+        if !cell_fits(options, dtype, column.get(row), &text, &written, &null) {
             return Ok(false);
         }
     }

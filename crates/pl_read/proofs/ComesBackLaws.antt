@@ -19,7 +19,7 @@ use Rattle.pl_frame.specs.Columns.{dictionary}
 use Rattle.pl_frame.specs.Frame.{ColumnValue, IsFrame, height_of}
 use Rattle.pl_frame.specs.FrameParts.{schema_of}
 use Rattle.pl_frame.specs.Schema.{Entry}
-use Rattle.pl_text.specs.FrameText.{WriteOptions, row_lines, text_of_frame}
+use Rattle.pl_text.specs.FrameText.{WriteOptions, written_null, row_lines, text_of_frame}
 use Rattle.pl_frame.specs.Types.{is_readable}
 use Rattle.pl_scan.specs.Start.{skips, data_left}
 use Rattle.pl_cells.specs.InitBuffers.{entry_at}
@@ -131,7 +131,7 @@ module _ (read : CsvReadOptions) (write : WriteOptions) (columns : List ColumnVa
   rows-are = (fitting-rows write columns frame fits).2
 
   reads : ReadsWritten (rules_of o schema) write
-  reads = record { quote = refl; nulls = nulls-are write.null schema; missing = refl }
+  reads = record { quote = refl; nulls = nulls-are (written_null write) schema; missing = refl }
 
   frame-is : data_columns o schema data_lines ≡ columns
   frame-is =
@@ -149,7 +149,7 @@ module _ (read : CsvReadOptions) (write : WriteOptions) (columns : List ColumnVa
       ap (λ (e : Entry). not (is_readable e.1)) (entry-is columns k found.0 found.1) ∙ ap not (all-at (FitsColumn write) columns k found.0 fits.each found.1).readable))
 
   known : unknown o schema ≡ None
-  known = ap (λ (name : Option (List ℕ)). option_map error.ColumnNotFound (first_some (name ∷ None ∷ []))) (all-known write.null schema)
+  known = ap (λ (name : Option (List ℕ)). option_map error.ColumnNotFound (first_some (name ∷ None ∷ []))) (all-known (written_null write) schema)
 
   within : out_of_bounds o schema ≡ None
   within = ap (λ (places : List ℕ). option_map (λ place. error.OutOfBounds place (length schema)) (greatest places)) (none-past (length schema) 0 (length schema) (omega arith))

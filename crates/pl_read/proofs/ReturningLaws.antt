@@ -11,7 +11,7 @@ use Rattle.pl_frame.specs.declared.error.FaultKind.TheVariants as fault
 use Rattle.pl_frame.specs.Frame.{Scalar, ColumnValue, IsFrame, cell_at, height_of}
 use Rattle.pl_frame.specs.FrameParts.{schema_of}
 use Rattle.pl_frame.specs.Schema.{Entry}
-use Rattle.pl_text.specs.FrameText.{WriteOptions, written_cell}
+use Rattle.pl_text.specs.FrameText.{WriteOptions, written_null, written_cell}
 use Rattle.pl_cells.specs.declared.null_values.NullValuesCompiled.{NullValuesCompiled}
 use Rattle.pl_cells.specs.Cells.{Cell, fault_of, value_of}
 use Rattle.pl_cells.specs.Cells as cells
@@ -113,7 +113,7 @@ next number others found none = rw none refl
 -- rules by which the cells of a way of writing are read
 pub record ReadsWritten (rules : RowRules) (write : WriteOptions) : Type 0 where
   pub quote : rules.quote_char ≡ Some write.quote
-  pub nulls : rules.nulls ≡ nulls_of write.null
+  pub nulls : rules.nulls ≡ nulls_of (written_null write)
   pub missing : rules.reading.missing_is_null ≡ true
 
 module _ (rules : RowRules) (write : WriteOptions) (columns : List ColumnValue) (tail : List ℕ) (reads : ReadsWritten rules write) (frame : IsFrame columns) (fits : Fits write columns) (ends : IsLineTail tail) where
@@ -129,7 +129,7 @@ module _ (rules : RowRules) (write : WriteOptions) (columns : List ColumnValue) 
       let field = fields-at tail (written_texts write columns row) k ends (omega (arith, below, long)) in
       ap (cell rules k column.dtype) (field.2 ∙ ap (λ t. t ++ field.0) (text-at write columns row k column at))
       ∙ ap (λ (n : Option NullValuesCompiled). cells.cell rules.reading (means_null n k) rules.quote_char column.dtype (written_cell write column.dtype (cell_at column row) ++ field.0)) reads.nulls
-      ∙ ap (λ (q : Option ℕ). cells.cell rules.reading (means_null (nulls_of write.null) k) q column.dtype (written_cell write column.dtype (cell_at column row) ++ field.0)) reads.quote
+      ∙ ap (λ (q : Option ℕ). cells.cell rules.reading (means_null (nulls_of (written_null write)) k) q column.dtype (written_cell write column.dtype (cell_at column row) ++ field.0)) reads.quote
       ∙ cell-returns write rules.reading k column.dtype (cell_at column row) field.0 fits.options own.readable
       (fits-at write column.dtype column.values row own.cells (omega (arith, short, height))) reads.missing field.1
 

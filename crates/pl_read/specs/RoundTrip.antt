@@ -3,7 +3,7 @@ use Rattle.std.specs.Prelude.{◌≡◌, ◌≢◌, ℕ, ◌<◌, true, List, []
 use Rattle.pl_frame.specs.declared.error.PolarsError.{PolarsError}
 use Rattle.pl_frame.specs.Frame.{ColumnValue, IsFrame}
 use Rattle.pl_frame.specs.FrameParts.{schema_of}
-use Rattle.pl_text.specs.FrameText.{WriteOptions, text_of_frame}
+use Rattle.pl_text.specs.FrameText.{WriteOptions, written_null, text_of_frame}
 use Rattle.pl_cells.specs.declared.null_values.NullValues.{NullValues}
 use Rattle.pl_cells.specs.declared.null_values.NullValues.TheVariants as values
 use Rattle.pl_options.specs.declared.parse_options.CsvParseOptions.{CsvParseOptions}
@@ -13,19 +13,19 @@ use Rattle.pl_read.specs.CsvReader.{AnswersUnlessFailed}
 use Rattle.pl_read.specs.Options.{settled_schema}
 use Rattle.pl_read.specs.Reading.{IsRead}
 
--- the null text alone means null, in all columns; none does where it is empty
+-- what is written of a null alone means null, in all columns; no text does where that is empty
 abbrev pub null_values_of : List ℕ → Option NullValues
 null_values_of [] = None
 null_values_of (x ∷ null) = Some (values.AllColumnsSingle (x ∷ null))
 
--- fields are cut by the separator and the quote that are written, and records by the line feed; there are no comments; the null text
--- and missing texts mean null
+-- fields are cut by the separator and the quote that are written, and records by the line feed; there are no comments; what is written
+-- of a null and missing texts mean null
 abbrev pub matching_parse : CsvParseOptions → WriteOptions → CsvParseOptions
 matching_parse parse write = record parse {
   separator = write.separator;
   quote_char = Some write.quote;
   eol_char = 10;
-  null_values = null_values_of write.null;
+  null_values = null_values_of (written_null write);
   missing_is_null = true;
   comment_prefix = None;
 }

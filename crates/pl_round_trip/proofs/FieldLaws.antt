@@ -122,24 +122,24 @@ read-on false false missing own value e f k = k
 read-on true null missing own value e f k = cc
 read-on false true missing own value e f k = cc
 
-second-false : (a b : Bool) → b ≡ false → (a && b) ≡ false
-second-false true b e = e
-second-false false b e = refl
+first-false : (a b : Bool) → a ≡ false → (a && b) ≡ false
+first-false true b e = cc
+first-false false b e = refl
 
-tested-quoted : (reading : Reading) (is_null : NullTest) (q : ℕ) (type : DataType) (body : List ℕ) (value : Scalar) → is_null body ≡ false
+tested-quoted : (reading : Reading) (is_null : NullTest) (q : ℕ) (type : DataType) (body : List ℕ) (value : Scalar) → is_null (q ∷ (body ++ q ∷ [])) ≡ false
     → quoted_cell reading q type body ≡ Ok (Some value) → stripped_cell reading is_null (Some q) type (q ∷ (body ++ q ∷ [])) ≡ Ok (Some value)
 tested-quoted reading is_null q type body value meant h =
     let field = q ∷ (body ++ q ∷ []) in
-    read-on (not (is_well_quoted q field)) (is_well_quoted q field && is_null (inside field)) false
+    read-on (not (is_well_quoted q field)) (is_null field && is_well_quoted q field) false
     (softened reading.ignore_errors (quoted_cell reading q type (inside field))) (Some value) (ap not (well-quoted q body))
-    (second-false (is_well_quoted q field) (is_null (inside field)) (ap is_null (inside-quotes q body) ∙ meant))
+    (first-false (is_null field) (is_well_quoted q field) meant)
     (ap (λ l. softened reading.ignore_errors (quoted_cell reading q type l)) (inside-quotes q body) ∙ ap (softened reading.ignore_errors) h ∙ softened-ok reading.ignore_errors (Some value))
 
 pub same_byte : (q : ℕ) → (q == q) ≡ true
 same_byte q = grind (arith, nat_tests)
 
 quoted-field : (reading : Reading) (is_null : NullTest) (q : ℕ) (type : DataType) (value : Scalar) → IsReadable type value → is_printed_byte q ≡ false → q ≢ 13
-    → is_null (doubled q (printed type value)) ≡ false → cell reading is_null (Some q) type (quoted q (printed type value)) ≡ Ok (Some value)
+    → is_null (quoted q (printed type value)) ≡ false → cell reading is_null (Some q) type (quoted q (printed type value)) ≡ Ok (Some value)
 quoted-field reading is_null q type value h mark other meant =
     let body = doubled q (printed type value) in
     let field = q ∷ (body ++ q ∷ []) in
@@ -170,56 +170,55 @@ plain-field reading is_null q type value h meant long quote return =
     ∙ ap (softened reading.ignore_errors) (plain-text reading type p long ∙ cell-returns reading type value h)
     ∙ softened-ok reading.ignore_errors (Some value)
 
+-- a field of a way of writing is read as the value, where it does not mean null
+abbrev ReturnsUnlessNull : Reading → NullTest → WriteOptions → DataType → Scalar → List ℕ → Type 0
+ReturnsUnlessNull reading is_null o type value field = is_null field ≡ false → cell reading is_null (Some o.quote) type field ≡ Ok (Some value)
+
 quoted-returns : (reading : Reading) (is_null : NullTest) (o : WriteOptions) (type : DataType) (value : Scalar) → IsWritable o is_null type value
-    → cell reading is_null (Some o.quote) type (quoted o.quote (printed type value)) ≡ Ok (Some value)
-quoted-returns reading is_null o type value h = quoted-field reading is_null o.quote type value h.readable h.mark h.no_return h.meant_doubled
+    → ReturnsUnlessNull reading is_null o type value (quoted o.quote (printed type value))
+quoted-returns reading is_null o type value h meant = quoted-field reading is_null o.quote type value h.readable h.mark h.no_return meant
 
 -- a text that needs no quotes
 bare-returns : (reading : Reading) (is_null : NullTest) (o : WriteOptions) (type : DataType) (value : Scalar) → IsWritable o is_null type value
-    → needs_quotes o.separator o.quote (printed type value) ≡ false → cell reading is_null (Some o.quote) type (printed type value) ≡ Ok (Some value)
-bare-returns reading is_null o type value h bare =
+    → needs_quotes o.separator o.quote (printed type value) ≡ false → ReturnsUnlessNull reading is_null o type value (printed type value)
+bare-returns reading is_null o type value h bare meant =
     let p = printed type value in
     let parts = neither (length p == 0) (list_any (is_special o.separator o.quote) p) bare in
     let none = bare-lacks o.separator o.quote p parts.1 in
-    plain-field reading is_null o.quote type value h.readable h.meant (some p parts.0) none.0 none.1
+    plain-field reading is_null o.quote type value h.readable meant (some p parts.0) none.0 none.1
 
 -- what is no text, without quotes
 other-returns : (reading : Reading) (is_null : NullTest) (o : WriteOptions) (type : DataType) (value : Scalar) → is_text type ≡ false → IsWritable o is_null type value
-    → cell reading is_null (Some o.quote) type (printed type value) ≡ Ok (Some value)
-other-returns reading is_null o type value e h =
+    → ReturnsUnlessNull reading is_null o type value (printed type value)
+other-returns reading is_null o type value e h meant =
     let p = printed type value in
     let plain = printed-plain type value e h.readable in
-    plain-field reading is_null o.quote type value h.readable h.meant plain.0 (lacks-plain o.quote p h.mark plain.1) (lacks-plain 13 p refl plain.1)
+    plain-field reading is_null o.quote type value h.readable meant plain.0 (lacks-plain o.quote p h.mark plain.1) (lacks-plain 13 p refl plain.1)
 
 -- a text under each style
 text-field : (reading : Reading) (is_null : NullTest) (o : WriteOptions) (type : DataType) (text : List ℕ) → is_text type ≡ true → IsWritable o is_null type (Letters text)
-    → cell reading is_null (Some o.quote) type (written_text o text) ≡ Ok (Some (Letters text))
+    → ReturnsUnlessNull reading is_null o type (Letters text) (written_text o text)
 text-field reading is_null o type text e h = by (o.style == 3) refl
   where
-    P : List ℕ → Type 0
-    P field = cell reading is_null (Some o.quote) type field ≡ Ok (Some (Letters text))
-
-    by_need : (t : Bool) → needs_quotes o.separator o.quote text ≡ t
-        → cell reading is_null (Some o.quote) type (if t then quoted o.quote text else text) ≡ Ok (Some (Letters text))
+    by_need : (t : Bool) → needs_quotes o.separator o.quote text ≡ t → ReturnsUnlessNull reading is_null o type (Letters text) (if t then quoted o.quote text else text)
     by_need true k = quoted-returns reading is_null o type (Letters text) h
     by_need false k = bare-returns reading is_null o type (Letters text) h k
 
-    by_style : (t : Bool)
-        → cell reading is_null (Some o.quote) type (if t then (if needs_quotes o.separator o.quote text then quoted o.quote text else text) else quoted o.quote text) ≡ Ok (Some (Letters text))
+    by_style : (t : Bool) → ReturnsUnlessNull reading is_null o type (Letters text) (if t then (if needs_quotes o.separator o.quote text then quoted o.quote text else text) else quoted o.quote text)
     by_style true = by_need (needs_quotes o.separator o.quote text) refl
     by_style false = quoted-returns reading is_null o type (Letters text) h
 
     by : (t : Bool) → (o.style == 3) ≡ t
-        → cell reading is_null (Some o.quote) type (if t then text else (if o.style == 0 then (if needs_quotes o.separator o.quote text then quoted o.quote text else text) else quoted o.quote text)) ≡ Ok (Some (Letters text))
+        → ReturnsUnlessNull reading is_null o type (Letters text) (if t then text else (if o.style == 0 then (if needs_quotes o.separator o.quote text then quoted o.quote text else text) else quoted o.quote text))
     by true k = let is : o.style ≡ 3 = grind (arith, nat_tests, k) in bare-returns reading is_null o type (Letters text) h (h.bare is e)
     by false k = by_style (o.style == 0)
 
 -- what is no text, under each style
 value-field : (reading : Reading) (is_null : NullTest) (o : WriteOptions) (numeric : Bool) (type : DataType) (value : Scalar) → is_text type ≡ false → IsWritable o is_null type value
-    → cell reading is_null (Some o.quote) type (written_value o numeric (printed type value)) ≡ Ok (Some value)
+    → ReturnsUnlessNull reading is_null o type value (written_value o numeric (printed type value))
 value-field reading is_null o numeric type value e h = by (is_bare o.style numeric)
   where
-    by : (t : Bool) → cell reading is_null (Some o.quote) type (if t then printed type value else quoted o.quote (printed type value)) ≡ Ok (Some value)
+    by : (t : Bool) → ReturnsUnlessNull reading is_null o type value (if t then printed type value else quoted o.quote (printed type value))
     by true = other-returns reading is_null o type value e h
     by false = quoted-returns reading is_null o type value h
 
@@ -244,6 +243,6 @@ truth_type type b h = refl
 
 pub field-returns : (reading : Reading) (is_null : NullTest) (o : WriteOptions) (type : DataType) (value : Scalar) → IsWritable o is_null type value
     → cell reading is_null (Some o.quote) type (written_cell o type (Some value)) ≡ Ok (Some value)
-field-returns reading is_null o type (Letters text) h = text-field reading is_null o type text (text_type type text h.readable) h
-field-returns reading is_null o type (Number n) h = value-field reading is_null o (is_numeric type) type (Number n) (number_type type n h.readable) h
-field-returns reading is_null o type (Truth b) h = value-field reading is_null o (is_numeric type) type (Truth b) (truth_type type b h.readable) h
+field-returns reading is_null o type (Letters text) h = text-field reading is_null o type text (text_type type text h.readable) h h.meant
+field-returns reading is_null o type (Number n) h = value-field reading is_null o (is_numeric type) type (Number n) (number_type type n h.readable) h h.meant
+field-returns reading is_null o type (Truth b) h = value-field reading is_null o (is_numeric type) type (Truth b) (truth_type type b h.readable) h h.meant

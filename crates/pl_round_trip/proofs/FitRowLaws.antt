@@ -4,7 +4,7 @@ use Rattle.std.specs.Prelude.{unwrap_or, slice_get}
 use Rattle.std.specs.List.{AllByRecursion, range_with_len}
 use Rattle.pl_frame.specs.declared.data_type.DataType.{DataType}
 use Rattle.pl_frame.specs.Frame.{Scalar, ColumnValue, HaveHeight, IsFrame, cell_at, height_of}
-use Rattle.pl_text.specs.FrameText.{WriteOptions, row_lines}
+use Rattle.pl_text.specs.FrameText.{WriteOptions, written_null, row_lines}
 use Rattle.pl_frame.specs.Types.{is_readable}
 use Rattle.pl_table.specs.Rows.{rows, ended_row}
 use Rattle.pl_cells.specs.NullValues.{means_null}
@@ -35,12 +35,12 @@ fits-at o type (value ∷ values) zero all below = all.0
 fits-at o type (value ∷ values) (suc row) all below = fits-at o type values row all.1 (omega (arith, below))
 
 cell-writable : (o : WriteOptions) (type : DataType) (value : Option Scalar) → FitsOptions o → is_readable type ≡ true → FitsCell o type value
-    → IsCellWritable o (means_null (nulls_of o.null) 0) type value
+    → IsCellWritable o (means_null (nulls_of (written_null o)) 0) type value
 cell-writable o type None h can fits = needless o (are-apart o h) o.null h.null
 cell-writable o type (Some value) h can fits = value-writable o 0 type value h can fits
 
 row-writable : (o : WriteOptions) (n row : ℕ) (columns : List ColumnValue) → FitsOptions o → AllByRecursion (FitsColumn o) columns → HaveHeight n columns → row < n
-    → AllByRecursion (λ column. IsCellWritable o (means_null (nulls_of o.null) 0) column.dtype (cell_at column row)) columns
+    → AllByRecursion (λ column. IsCellWritable o (means_null (nulls_of (written_null o)) 0) column.dtype (cell_at column row)) columns
 row-writable o n row [] h all height below = tt
 row-writable o n row (column ∷ columns) h all height below = (
   cell-writable o column.dtype (cell_at column row) h all.0.readable (fits-at o column.dtype column.values row all.0.cells (omega (arith, below, height.0))),
@@ -52,7 +52,7 @@ pub rows-are : (o : WriteOptions) (columns : List ColumnValue) (t : Tail o) → 
 rows-are o [] t frame fits = rows-nil (line_marks o)
 rows-are o (column ∷ columns) t frame fits =
     let all : List ColumnValue = column ∷ columns in
-    frame-rows-return o (λ _. means_null (nulls_of o.null) 0) all 0 (height_of all) t.tail (are-apart o fits.options) t.ends t.is (omega arith)
+    frame-rows-return o (λ _. means_null (nulls_of (written_null o)) 0) all 0 (height_of all) t.tail (are-apart o fits.options) t.ends t.is (omega arith)
     (λ row low high. row-writable o (height_of all) row all fits.options fits.each frame.one_height (omega (arith, high)))
 
 pub fitting-rows : (o : WriteOptions) (columns : List ColumnValue) → IsFrame columns → Fits o columns

@@ -12,22 +12,22 @@ use Rattle.pl_cells.specs.NullTest.{NullTest}
 use Rattle.pl_cells.specs.Quoting.{quote_of, is_well_quoted, inside}
 use Rattle.pl_round_trip.specs.RoundTrip.{IsNullWritable}
 use Rattle.pl_round_trip.proofs.FieldLaws.{stripped, quoted-end, same_byte, softened-ok}
-use Rattle.pl_round_trip.proofs.UndoubleLaws.{inside-quotes, well-quoted}
+use Rattle.pl_round_trip.proofs.UndoubleLaws.{well-quoted}
 
 -- what is well quoted and means null is null
-null-here : (ill well null : Bool) (own : Cell) → ill ≡ false → well ≡ true → null ≡ true → (if ill then Err fault.Escape else (if (well && null) && not false then Ok None else own)) ≡ Ok None
+null-here : (ill well null : Bool) (own : Cell) → ill ≡ false → well ≡ true → null ≡ true → (if ill then Err fault.Escape else (if (null && well) && not false then Ok None else own)) ≡ Ok None
 null-here false true true own e f g = refl
 null-here true well null own e f g = cc
 null-here false false null own e f g = cc
 null-here false true false own e f g = cc
 
-quoted-returns : (reading : Reading) (is_null : NullTest) (q : ℕ) (type : DataType) (null : List ℕ) → q ≢ 13 → is_null null ≡ true → cell reading is_null (Some q) type (quoted_null q null) ≡ Ok None
+quoted-returns : (reading : Reading) (is_null : NullTest) (q : ℕ) (type : DataType) (null : List ℕ) → q ≢ 13 → is_null (quoted_null q null) ≡ true → cell reading is_null (Some q) type (quoted_null q null) ≡ Ok None
 quoted-returns reading is_null q type null other meant =
     let field = q ∷ (null ++ q ∷ []) in
     ap (stripped_cell reading is_null (quote_of (Some q) field) type) (stripped field (quoted-end q null other))
     ∙ ap (λ (t : Bool). stripped_cell reading is_null (if t then Some q else None) type field) (same_byte q)
-    ∙ null-here (not (is_well_quoted q field)) (is_well_quoted q field) (is_null (inside field)) (softened reading.ignore_errors (quoted_cell reading q type (inside field)))
-    (ap not (well-quoted q null)) (well-quoted q null) (ap is_null (inside-quotes q null) ∙ meant)
+    ∙ null-here (not (is_well_quoted q field)) (is_well_quoted q field) (is_null field) (softened reading.ignore_errors (quoted_cell reading q type (inside field)))
+    (ap not (well-quoted q null)) (well-quoted q null) meant
 
 null-there : (null empty : Bool) (own : Cell) → null ≡ true → empty ≡ false → (if null && not (true && empty) then Ok None else own) ≡ Ok None
 null-there true false own e f = refl
@@ -62,8 +62,10 @@ bare-returns reading is_null q type null bare whole missing meant =
 
 pub null-returns : (reading : Reading) (is_null : NullTest) (o : WriteOptions) (type : DataType) → IsNullWritable o reading is_null type
     → cell reading is_null (Some o.quote) type (written_cell o type None) ≡ Ok None
-null-returns reading is_null o type h = by (o.style == 1) (λ e. grind (arith, nat_tests, e))
+null-returns reading is_null o type h = by (o.style == 1) h.missing h.meant
   where
-    by : (t : Bool) → (t ≡ true → o.style ≡ 1) → cell reading is_null (Some o.quote) type (if t then quoted_null o.quote o.null else o.null) ≡ Ok None
-    by true is = quoted-returns reading is_null o.quote type o.null h.no_return (h.between (is refl))
-    by false is = bare-returns reading is_null o.quote type o.null h.bare h.whole h.missing h.meant
+    by : (t : Bool) → ((if t then quoted_null o.quote o.null else o.null) ≡ [] → missing_value reading.missing_is_null type ≡ None)
+        → (0 < length (if t then quoted_null o.quote o.null else o.null) → is_null (if t then quoted_null o.quote o.null else o.null) ≡ true)
+        → cell reading is_null (Some o.quote) type (if t then quoted_null o.quote o.null else o.null) ≡ Ok None
+    by true missing meant = quoted-returns reading is_null o.quote type o.null h.no_return (meant (omega arith))
+    by false missing meant = bare-returns reading is_null o.quote type o.null h.bare h.whole missing meant

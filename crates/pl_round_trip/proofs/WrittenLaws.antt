@@ -1,16 +1,16 @@
 -- What is written of cells and names that come back: a text between quotes, or one without marks.
-use Rattle.std.proofs.Common.{◌≡◌, ℕ, ◌-◌, Bool, true, false, ◌||◌, ◌==◌, if◌then◌else◌, List, [], ◌∷◌, ◌++◌, length, None, Some, Option, nat_eq, refl, sym, ◌∙◌, ap, subst, inl, inr, arith}
+use Rattle.std.proofs.Common.{◌≡◌, ◌≢◌, ℕ, ◌-◌, ◌<◌, Bool, true, false, ◌||◌, ◌==◌, if◌then◌else◌, List, [], ◌∷◌, ◌++◌, length, None, Some, Option, nat_eq, refl, sym, ◌∙◌, ap, subst, inl, inr, arith}
 use Rattle.std.specs.Prelude.{◌⊎◌}
 use Rattle.std.specs.List.{list_any, ends_with}
 use Rattle.std.proofs.lemmas.Bool.Decides.{nat_tests}
 use Rattle.pl_frame.specs.declared.data_type.DataType.{DataType}
 use Rattle.pl_frame.specs.Frame.{Scalar, Truth, Number, Letters}
 use Rattle.pl_text.specs.ValueText.{printed}
-use Rattle.pl_text.specs.FrameText.{WriteOptions, is_special, is_bare, doubled, quoted, quoted_null, needs_quotes, written_text, written_value, written_cell}
+use Rattle.pl_text.specs.FrameText.{WriteOptions, is_special, is_bare, doubled, quoted, quoted_null, needs_quotes, written_text, written_value, written_null, written_cell}
 use Rattle.pl_frame.specs.Types.{is_numeric, is_text, is_readable}
 use Rattle.pl_round_trip.specs.RoundTrip.{IsReadable, AreApart, IsFieldText, IsLineTail, line_marks, are_plain}
 use Rattle.pl_round_trip.specs.Fits.{has_special, FitsOptions, FitsValue, FitsCell}
-use Rattle.pl_round_trip.proofs.FieldLaws.{lacks, lacks-first, lacks-plain, neither, doubled-lacks, bare-lacks, no_end, quoted-end, text_type, number_type, truth_type}
+use Rattle.pl_round_trip.proofs.FieldLaws.{lacks, lacks-first, lacks-plain, neither, doubled-lacks, bare-lacks, no_end, quoted-end, some, text_type, number_type, truth_type}
 use Rattle.pl_round_trip.proofs.CellTextLaws.{bare-field, quoted-field, needless}
 use Rattle.pl_round_trip.proofs.PlainLaws.{printed-plain}
 
@@ -80,6 +80,40 @@ plain-value o type value h e is = plain-bare o (printed type value) h (printed-p
 
 written-letters : (o : WriteOptions) (type : DataType) (text : List ℕ) → is_text type ≡ true → FitsValue o type (Letters text) → IsWritten o (written_text o text)
 written-letters o type text e h = written-text o text (λ is. (neither (length text == 0) (has_special o text) (h.bare is e)).1)
+
+-- of a value it is not empty
+filled-text : (o : WriteOptions) (text : List ℕ) → (o.style ≡ 3 → needs_quotes o.separator o.quote text ≡ false) → 0 < length (written_text o text)
+filled-text o text bare = by (o.style == 3) refl
+  where
+    by_need : (t : Bool) → needs_quotes o.separator o.quote text ≡ t → 0 < length (if t then quoted o.quote text else text)
+    by_need true k = omega arith
+    by_need false k = some text (neither (length text == 0) (list_any (is_special o.separator o.quote) text) k).0
+
+    by_style : (t : Bool) → 0 < length (if t then (if needs_quotes o.separator o.quote text then quoted o.quote text else text) else quoted o.quote text)
+    by_style true = by_need (needs_quotes o.separator o.quote text) refl
+    by_style false = omega arith
+
+    by : (t : Bool) → (o.style == 3) ≡ t → 0 < length (if t then text else (if o.style == 0 then (if needs_quotes o.separator o.quote text then quoted o.quote text else text) else quoted o.quote text))
+    by true k = let is : o.style ≡ 3 = grind (arith, nat_tests, k) in by_need false (bare is)
+    by false k = by_style (o.style == 0)
+
+filled-value : (o : WriteOptions) (numeric : Bool) (text : List ℕ) → 0 < length text → 0 < length (written_value o numeric text)
+filled-value o numeric text long = by (is_bare o.style numeric)
+  where
+    by : (t : Bool) → 0 < length (if t then text else quoted o.quote text)
+    by true = long
+    by false = omega arith
+
+pub filled-cell : (o : WriteOptions) (type : DataType) (value : Scalar) → IsReadable type value
+    → (o.style ≡ 3 → is_text type ≡ true → needs_quotes o.separator o.quote (printed type value) ≡ false) → 0 < length (written_cell o type (Some value))
+filled-cell o type (Letters text) is bare = filled-text o text (λ never. bare never (text_type type text is))
+filled-cell o type (Number n) is bare = filled-value o (is_numeric type) (printed type (Number n)) (printed-plain type (Number n) (number_type type n is) is).0
+filled-cell o type (Truth b) is bare = filled-value o (is_numeric type) (printed type (Truth b)) (printed-plain type (Truth b) (truth_type type b is) is).0
+
+-- so where nothing is written of a null, it is told apart
+pub filled-apart : (o : WriteOptions) (type : DataType) (value : Scalar) → IsReadable type value
+    → (o.style ≡ 3 → is_text type ≡ true → needs_quotes o.separator o.quote (printed type value) ≡ false) → written_null o ≡ [] → written_cell o type (Some value) ≢ written_null o
+filled-apart o type value is bare none same = let long = filled-cell o type value is bare in omega (arith, long, ap length (same ∙ none))
 
 -- of a cell
 pub written-cell : (o : WriteOptions) (type : DataType) (cell : Option Scalar) → FitsOptions o → is_readable type ≡ true → FitsCell o type cell → IsWritten o (written_cell o type cell)

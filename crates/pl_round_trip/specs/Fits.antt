@@ -9,7 +9,7 @@ use Rattle.pl_frame.specs.Dialect.{IsDialect}
 use Rattle.pl_frame.specs.Frame.{Scalar, ColumnValue, names_of}
 use Rattle.pl_text.specs.ValueText.{printed}
 use Rattle.pl_frame.specs.ByteOrderMark.{byte_order_mark}
-use Rattle.pl_text.specs.FrameText.{WriteOptions, is_special, needs_quotes, text_of_frame}
+use Rattle.pl_text.specs.FrameText.{WriteOptions, is_special, needs_quotes, written_null, written_cell, text_of_frame}
 use Rattle.pl_frame.specs.Types.{is_readable, is_text}
 use Rattle.pl_round_trip.specs.RoundTrip.{fits_count, line_marks, is_printed_byte}
 
@@ -30,17 +30,17 @@ pub record FitsOptions (o : WriteOptions) : Type 0 where
   pub quote : is_printed_byte o.quote ≡ false
   pub null : has_special o o.null ≡ false
 
--- A value that comes back: it is one of its type, a datetime's count fits 64 bits, its printed text is not the null text, where that
--- is not empty, and under Never a text needs no quotes.
+-- A value that comes back: it is one of its type, a datetime's count fits 64 bits, what is written of it is not what is written of a
+-- null, and under Never a text needs no quotes.
 pub record FitsValue (o : WriteOptions) (type : DataType) (value : Scalar) : Type 0 where
   pub held : is_value_of type value ≡ true
   pub counted : fits_count type value ≡ true
-  pub apart : o.null ≢ [] → printed type value ≢ o.null
+  pub apart : written_cell o type (Some value) ≢ written_null o
   pub bare : o.style ≡ 3 → is_text type ≡ true → needs_quotes o.separator o.quote (printed type value) ≡ false
 
--- a cell that comes back: a null does, but under Always with an empty null text only where the type holds no texts
+-- a cell that comes back: each null does
 abbrev pub FitsCell : WriteOptions → DataType → Option Scalar → Type 0
-FitsCell o type None = o.style ≡ 1 → o.null ≡ [] → is_text type ≡ false
+FitsCell o type None = Unit {0}
 FitsCell o type (Some value) = FitsValue o type value
 
 -- a column that comes back: its type can be read, each cell comes back, and its categories have codes of 32 bits

@@ -3,7 +3,7 @@ use Rattle.std.specs.Prelude.{◌≡◌, ℕ, ◌++◌, true, nat_le, List, [], 
 use Rattle.std.specs.List.{range_with_len}
 use Rattle.pl_frame.specs.declared.data_type.DataType.{DataType}
 use Rattle.pl_frame.specs.Frame.{Scalar, ColumnValue, IsFrame, height_of}
-use Rattle.pl_text.specs.FrameText.{WriteOptions, written_cell, row_lines, text_of_frame}
+use Rattle.pl_text.specs.FrameText.{WriteOptions, written_null, written_cell, row_lines, text_of_frame}
 use Rattle.pl_frame.specs.Types.{is_readable}
 use Rattle.pl_scan.specs.Start.{skips, data_left}
 use Rattle.pl_table.specs.Rows.{rows, ended_row}
@@ -14,7 +14,7 @@ use Rattle.pl_cells.specs.NullValues.{means_null}
 use Rattle.pl_round_trip.specs.RoundTrip.{IsLineTail, line_marks, with_tail, written_texts}
 use Rattle.pl_round_trip.specs.Fits.{FitsOptions, FitsCell, Fits}
 
--- the texts that mean null where this one was written for nulls: it alone, or none where it is empty
+-- the texts that mean null where this is written for a null: it alone, or none where it is empty
 abbrev pub nulls_of : List ℕ → Option NullValuesCompiled
 nulls_of [] = None
 nulls_of (x ∷ null) = Some (compiled.AllColumnsSingle (x ∷ null))
@@ -24,7 +24,7 @@ abbrev pub CellsReturn : Type 0
 CellsReturn =
     (o : WriteOptions) (reading : Reading) (column : ℕ) (type : DataType) (value : Option Scalar) (tail : List ℕ)
     → FitsOptions o → is_readable type ≡ true → FitsCell o type value → reading.missing_is_null ≡ true → IsLineTail tail
-    → cell reading (means_null (nulls_of o.null) column) (Some o.quote) type (written_cell o type value ++ tail) ≡ Ok value
+    → cell reading (means_null (nulls_of (written_null o)) column) (Some o.quote) type (written_cell o type value ++ tail) ≡ Ok value
 
 -- The data of the text of a frame that fits begin behind the byte order mark and the header, where leading line ends are kept of a
 -- frame of at most one column.

@@ -9,7 +9,7 @@ use Rattle.pl_frame.specs.Dialect.{Marks, AreDistinct}
 use Rattle.pl_frame.specs.Columns.{is_value_of}
 use Rattle.pl_frame.specs.Frame.{Scalar, Truth, Number, Letters, ColumnValue, cell_at}
 use Rattle.pl_text.specs.ValueText.{printed}
-use Rattle.pl_text.specs.FrameText.{WriteOptions, doubled, quoted, needs_quotes, written_cell, row_lines}
+use Rattle.pl_text.specs.FrameText.{WriteOptions, doubled, quoted, needs_quotes, written_null, written_cell, row_lines}
 use Rattle.pl_frame.specs.Types.{is_readable, is_whole_number, is_text, is_within, signed_range}
 use Rattle.pl_scan.specs.Fields.{is_plain as is_plain_byte, begins_quoted, fields}
 use Rattle.pl_table.specs.Rows.{rows, ended_row}
@@ -98,14 +98,13 @@ PrintedArePlain =
 -- ---- fields
 
 -- How a value is written so that its field is read as the value: the quote is no byte of a printed number and no carriage
--- return, under Never a text needs no quotes, and neither the printed text nor it with its quotes doubled means null.
+-- return, under Never a text needs no quotes, and what is written does not mean null.
 pub record IsWritable (o : WriteOptions) (is_null : NullTest) (type : DataType) (value : Scalar) : Type 0 where
   pub readable : IsReadable type value
   pub mark : is_printed_byte o.quote ≡ false
   pub no_return : o.quote ≢ 13
   pub bare : o.style ≡ 3 → is_text type ≡ true → needs_quotes o.separator o.quote (printed type value) ≡ false
-  pub meant : is_null (printed type value) ≡ false
-  pub meant_doubled : is_null (doubled o.quote (printed type value)) ≡ false
+  pub meant : is_null (written_cell o type (Some value)) ≡ false
 
 -- the field that is written is read as the value
 abbrev pub FieldsReturn : Type 0
@@ -113,12 +112,11 @@ FieldsReturn =
     (reading : Reading) (is_null : NullTest) (o : WriteOptions) (type : DataType) (value : Scalar) → IsWritable o is_null type value
     → cell reading is_null (Some o.quote) type (written_cell o type (Some value)) ≡ Ok (Some value)
 
--- How a null is written so that its field is read as a null: under Always the null text means null; else it does too, unless it
--- is empty and what is missing is null; the null text is not taken for a quoted one, and has no carriage return at its end.
+-- How a null is written so that its field is read as a null: what is written means null, unless it is empty and what is missing is
+-- null; the null text is not taken for a quoted one, and has no carriage return at its end.
 pub record IsNullWritable (o : WriteOptions) (reading : Reading) (is_null : NullTest) (type : DataType) : Type 0 where
-  pub between : o.style ≡ 1 → is_null o.null ≡ true
-  pub missing : o.null ≡ [] → missing_value reading.missing_is_null type ≡ None
-  pub meant : 0 < length o.null → is_null o.null ≡ true
+  pub missing : written_null o ≡ [] → missing_value reading.missing_is_null type ≡ None
+  pub meant : 0 < length (written_null o) → is_null (written_null o) ≡ true
   pub bare : begins_quoted (Some o.quote) o.null ≡ false
   pub whole : ends_with nat_eq o.null (13 ∷ []) ≡ false
   pub no_return : o.quote ≢ 13

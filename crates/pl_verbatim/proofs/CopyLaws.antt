@@ -6,22 +6,22 @@ use Rattle.pl_frame.specs.declared.data_type.DataType.{DataType}
 use Rattle.pl_frame.specs.declared.data_type.DataType.TheVariants as dtype
 use Rattle.pl_frame.specs.Frame.{Scalar, Truth, Number, Letters}
 use Rattle.pl_text.specs.ValueText.{padded, date_text, clock_text, printed}
-use Rattle.pl_text.specs.FrameText.{WriteOptions, is_special, needs_quotes, doubled, quoted, written_text, written_value, written_cell}
+use Rattle.pl_text.specs.FrameText.{WriteOptions, is_special, needs_quotes, doubled, quoted, written_text, written_value, written_null, written_cell}
 use Rattle.pl_frame.specs.Types.{is_numeric, is_text, is_readable, is_whole_number}
 use Rattle.pl_cells.specs.Cells.{Reading, cell}
 use Rattle.pl_cells.specs.NullValues.{means_null}
 use Rattle.pl_round_trip.specs.RoundTrip.{IsFieldText, line_marks}
 use Rattle.pl_round_trip.specs.Fits.{FitsOptions, FitsValue, FitsCell}
 use Rattle.pl_round_trip.specs.Returning.{nulls_of}
-use Rattle.pl_round_trip.proofs.FieldLaws.{lacks, lacks-plain, neither, doubled-lacks, bare-lacks, text_type}
+use Rattle.pl_round_trip.proofs.FieldLaws.{lacks, lacks-plain, neither, doubled-lacks, bare-lacks, text_type, field-returns}
 use Rattle.pl_round_trip.proofs.FitCellLaws.{cell-returns}
 use Rattle.pl_round_trip.proofs.PlainLaws.{printed-plain}
-use Rattle.pl_round_trip.proofs.WrittenLaws.{readable, written-cell, written-field}
+use Rattle.pl_round_trip.proofs.WrittenLaws.{readable, filled-apart, written-cell, written-field}
 use Rattle.pl_verbatim.specs.declared.kinds.Kind.{Kind}
 use Rattle.pl_verbatim.specs.declared.kinds.Kind.TheVariants as kind
 use Rattle.pl_verbatim.specs.CellTexts.{IsWholeText, IsDecimalText, IsBooleanText, IsDateText, IsMomentText, IsBareText, IsCellOptions, IsCellOf, IsCopyOf}
 use Rattle.pl_verbatim.specs.Kinds.{IsKindOf}
-use Rattle.pl_verbatim.proofs.CellLaws.{IsCellOfKind, whole-kind, boolean-kind, date-kind, decimal-kind}
+use Rattle.pl_verbatim.proofs.CellLaws.{IsCellOfKind, no-written_null, whole-kind, boolean-kind, date-kind, decimal-kind}
 use Rattle.pl_verbatim.proofs.CellSizeLaws.{whole-longer, boolean-some, date-longer, decimal-longer}
 use Rattle.pl_verbatim.proofs.MomentCellLaws.{moment-kind}
 use Rattle.pl_verbatim.proofs.NumberLaws.{slice-cons, slice-parts}
@@ -29,11 +29,11 @@ use Rattle.pl_verbatim.proofs.NumberLaws.{slice-cons, slice-parts}
 -- ---- what is written of a cell
 
 -- it is read as the cell
-cell-read : (o : WriteOptions) (type : DataType) (field : List ℕ) → FitsOptions o → o.null ≡ [] → is_readable type ≡ true → (here : IsCellOf o type field)
+cell-read : (o : WriteOptions) (type : DataType) (field : List ℕ) → FitsOptions o → written_null o ≡ [] → is_readable type ≡ true → (here : IsCellOf o type field)
     → (reading : Reading) (column : ℕ) → reading.missing_is_null ≡ true → cell reading (means_null None column) (Some o.quote) type field ≡ Ok here.value
 cell-read o type field fits null can here reading column missing =
     ap (λ n. cell reading (means_null n column) (Some o.quote) type field) (sym (ap nulls_of null))
-    ∙ ap (cell reading (means_null (nulls_of o.null) column) (Some o.quote) type) (here.text_is ∙ sym (append-nil (written_cell o type here.value)))
+    ∙ ap (cell reading (means_null (nulls_of (written_null o)) column) (Some o.quote) type) (here.text_is ∙ sym (append-nil (written_cell o type here.value)))
     ∙ cell-returns o reading column type here.value [] fits can here.fits missing (inl refl)
 
 -- and it is the text of a field
@@ -43,7 +43,7 @@ cell-field o type field fits can here =
     (written-field o (written_cell o type here.value) [] fits (written-cell o type here.value fits can here.fits) (inl refl))
 
 -- so it is a copy of itself
-pub cell-copy : (o : WriteOptions) (type : DataType) (text : List ℕ) → FitsOptions o → o.null ≡ [] → is_readable type ≡ true → IsCellOf o type text → IsCopyOf o type text text
+pub cell-copy : (o : WriteOptions) (type : DataType) (text : List ℕ) → FitsOptions o → written_null o ≡ [] → is_readable type ≡ true → IsCellOf o type text → IsCopyOf o type text text
 cell-copy o type text fits null can here = record {
   value = here.value;
   cell_is = cell-read o type text fits null can here;
@@ -57,7 +57,7 @@ IsCopyOfKind separator quote kind field written =
     (o : WriteOptions) (type : DataType) → FitsOptions o → IsCellOptions o separator quote → is_readable type ≡ true → IsKindOf type kind → IsCopyOf o type field written
 
 pub cell-kind_copy : (separator quote : ℕ) (kind : Kind) (text : List ℕ) → IsCellOfKind separator quote kind text → IsCopyOfKind separator quote kind text text
-cell-kind_copy separator quote kind text cells o type fits options can holds = cell-copy o type text fits options.null_is can (cells o type options holds)
+cell-kind_copy separator quote kind text cells o type fits options can holds = cell-copy o type text fits (no-written_null o separator quote options) can (cells o type options holds)
 
 -- ---- the same between quotes
 
@@ -65,37 +65,35 @@ cell-kind_copy separator quote kind text cells o type fits options can holds = c
 abbrev always : WriteOptions → WriteOptions
 always o = record o { style = 1 }
 
-always-fits : (o : WriteOptions) → FitsOptions o → FitsOptions (always o)
-always-fits o h = record { terminator = h.terminator; dialect = h.dialect; separator = h.separator; quote = h.quote; null = h.null }
-
-always-value : (o : WriteOptions) (type : DataType) (value : Scalar) → FitsValue o type value → FitsValue (always o) type value
-always-value o type value h = record {
-  held = h.held;
-  counted = h.counted;
-  apart = h.apart;
-  bare = λ (never : 1 ≡ 3) texts. absurd (omega (arith, never));
-}
-
 always-written : (o : WriteOptions) (type : DataType) (value : Scalar) → quoted o.quote (printed type value) ≡ written_cell (always o) type (Some value)
 always-written o type (Letters text) = refl
 always-written o type (Number n) = refl
 always-written o type (Truth b) = refl
 
+-- so it is read as the value, where no text means null
+quoted-read : (o : WriteOptions) (type : DataType) (value : Scalar) → FitsOptions o → is_readable type ≡ true → FitsValue o type value
+    → (reading : Reading) (column : ℕ) → cell reading (means_null None column) (Some o.quote) type (quoted o.quote (printed type value)) ≡ Ok (Some value)
+quoted-read o type value fits can held reading column =
+    ap (cell reading (means_null None column) (Some o.quote) type) (always-written o type value)
+    ∙ field-returns reading (means_null None column) (always o) type value (record {
+      readable = readable o type value can held;
+      mark = fits.quote;
+      no_return = fits.dialect.quote.1;
+      bare = λ (never : 1 ≡ 3) texts. absurd (omega (arith, never));
+      meant = refl;
+    })
+
 -- a value whose printed text is written of it, and does not hold the quote, is written of that text between quotes too
-quotes-copy : (o : WriteOptions) (type : DataType) (value : Scalar) (text : List ℕ) → FitsOptions o → o.null ≡ [] → is_readable type ≡ true → FitsValue o type value
+quotes-copy : (o : WriteOptions) (type : DataType) (value : Scalar) (text : List ℕ) → FitsOptions o → is_readable type ≡ true → FitsValue o type value
     → text ≡ printed type value → text ≡ written_cell o type (Some value) → lacks o.quote (printed type value) ≡ true → IsCopyOf o type (o.quote ∷ (text ++ o.quote ∷ [])) text
-quotes-copy o type value text fits null can held is written lack =
-    let same : text ≡ doubled o.quote (printed type value) = is ∙ sym (doubled-lacks o.quote (printed type value) lack) in
-    let here : IsCellOf (always o) type (o.quote ∷ (text ++ o.quote ∷ [])) =
+quotes-copy o type value text fits can held is written lack =
+    let same : o.quote ∷ (text ++ o.quote ∷ []) ≡ quoted o.quote (printed type value) =
+    ap (λ (l : List ℕ). o.quote ∷ (l ++ o.quote ∷ [])) (is ∙ sym (doubled-lacks o.quote (printed type value) lack)) in
     record {
       value = Some value;
-      fits = always-value o type value held;
-      text_is = ap (λ (l : List ℕ). o.quote ∷ (l ++ o.quote ∷ [])) same ∙ always-written o type value;
-    } in
-    record {
-      value = Some value;
-      cell_is = cell-read (always o) type (o.quote ∷ (text ++ o.quote ∷ [])) (always-fits o fits) null can here;
-      field_text = cell-field (always o) type (o.quote ∷ (text ++ o.quote ∷ [])) (always-fits o fits) can here;
+      cell_is = λ reading column missing. ap (cell reading (means_null None column) (Some o.quote) type) same ∙ quoted-read o type value fits can held reading column;
+      field_text = subst (IsFieldText (line_marks o)) (append-nil (quoted o.quote (printed type value)) ∙ sym same)
+          (written-field o (quoted o.quote (printed type value)) [] fits (inl (printed type value, refl)) (inl refl));
       written_is = written;
     }
 
@@ -118,10 +116,10 @@ text-copy o separator quote text fits is b =
     record {
       held = rw b.utf8 refl;
       counted = refl;
-      apart = λ some. absurd (some is.null_is);
+      apart = filled-apart o dtype.String (Letters text) (record { can = refl; held = rw b.utf8 refl; counted = refl }) (λ never texts. bare) (no-written_null o separator quote is);
       bare = λ never texts. bare;
     } in
-    quotes-copy o dtype.String (Letters text) text fits is.null_is refl held refl (bare-written o text is.style_is bare) (bare-lacks o.separator o.quote text none).0
+    quotes-copy o dtype.String (Letters text) text fits refl held refl (bare-written o text is.style_is bare) (bare-lacks o.separator o.quote text none).0
 
 pub text-inner : (separator quote : ℕ) (own : Kind) (text : List ℕ) → own ≡ kind.Text → IsBareText separator quote text → IsInnerOfKind separator quote own text
 text-inner separator quote own text is b =
@@ -137,7 +135,7 @@ value-written o numeric text style = rw style refl
 value-copy : (o : WriteOptions) (separator quote : ℕ) (type : DataType) (value : Scalar) (text : List ℕ) → FitsOptions o → IsCellOptions o separator quote → is_readable type ≡ true → is_text type ≡ false
     → FitsValue o type value → text ≡ written_cell o type (Some value) → written_cell o type (Some value) ≡ printed type value → IsCopyOf o type (o.quote ∷ (text ++ o.quote ∷ [])) text
 value-copy o separator quote type value text fits is can other held written bare =
-    quotes-copy o type value text fits is.null_is can held (written ∙ bare) written
+    quotes-copy o type value text fits can held (written ∙ bare) written
     (lacks-plain o.quote (printed type value) fits.quote (printed-plain type value other (readable o type value can held)).1)
 
 no-null : (o : WriteOptions) (text : List ℕ) → o.style ≡ 0 → o.null ≡ [] → text ≡ written_cell o dtype.Date None → 0 < length text → ⊥

@@ -11,7 +11,7 @@ use Rattle.pl_frame.specs.declared.error.FaultKind.TheVariants as fault
 use Rattle.pl_frame.specs.Dialect.{AreDistinct}
 use Rattle.pl_frame.specs.Frame.{ColumnValue, cell_at, height_of}
 use Rattle.pl_frame.specs.Schema.{Entry}
-use Rattle.pl_text.specs.FrameText.{WriteOptions, written_cell, row_line}
+use Rattle.pl_text.specs.FrameText.{WriteOptions, written_null, written_cell, row_line}
 use Rattle.pl_frame.specs.Types.{is_readable}
 use Rattle.pl_scan.specs.Closing.{ends_open, have_open_end}
 use Rattle.pl_scan.specs.Comment.{prefix_of}
@@ -277,7 +277,10 @@ module _ (plan : RangePlan) (schema : List Entry) (o : WriteOptions) (can : CanP
 
 -- ---- a line that is written as it was read
 
-written-copies : (o : WriteOptions) (schema : List Entry) (fields : List (List ℕ)) → FitsOptions o → o.null ≡ [] → AreReadable schema → AreCellsOf o schema fields → AreCopiesOf o schema fields fields
+nothing-written : (o : WriteOptions) → o.style ≡ 0 → o.null ≡ [] → written_null o ≡ []
+nothing-written o style null = rw style null
+
+written-copies : (o : WriteOptions) (schema : List Entry) (fields : List (List ℕ)) → FitsOptions o → written_null o ≡ [] → AreReadable schema → AreCellsOf o schema fields → AreCopiesOf o schema fields fields
 written-copies o [] [] fits null can are = tt
 written-copies o [] (field ∷ fields) fits null can are = absurd are
 written-copies o (entry ∷ schema) [] fits null can are = absurd are
@@ -288,7 +291,7 @@ line-printed plan schema o can given returns line is =
     copy-printed plan schema o can given returns line line (record {
       fields = is.fields;
       written = is.fields;
-      copies = written-copies o schema is.fields given.fits given.null (are-readable schema plan.projection.places.now given.places can.readable) is.cells;
+      copies = written-copies o schema is.fields given.fits (nothing-written o given.style given.null) (are-readable schema plan.projection.places.now given.places can.readable) is.cells;
       line_is = is.line_is;
       copy_is = is.line_is;
     })

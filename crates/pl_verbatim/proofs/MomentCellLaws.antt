@@ -24,7 +24,7 @@ use Rattle.pl_cells.specs.Times.{clock_value, fraction_value, in_nanoseconds, ti
 use Rattle.pl_cells.specs.Values.{value_of_text}
 use Rattle.pl_cells.proofs.IntegerLaws.{and_true}
 use Rattle.pl_round_trip.specs.RoundTrip.{IsFieldText, are_plain, line_marks, is_printed_byte}
-use Rattle.pl_round_trip.specs.Fits.{FitsOptions, FitsValue, has_special}
+use Rattle.pl_round_trip.specs.Fits.{FitsOptions, has_special}
 use Rattle.pl_round_trip.proofs.ClockLaws.{clock-length, clock-returns}
 use Rattle.pl_round_trip.proofs.DayLaws.{date-length, date-returns}
 use Rattle.pl_round_trip.proofs.FieldLaws.{lacks, lacks-first, lacks-plain, no_end, not_quoted, softened-ok, stripped}
@@ -37,7 +37,7 @@ use Rattle.pl_verbatim.specs.declared.kinds.Kind.{Kind}
 use Rattle.pl_verbatim.specs.declared.kinds.Kind.TheVariants as kind
 use Rattle.pl_verbatim.specs.CellTexts.{IsSecondsText, IsMomentText, IsCellOptions, IsCellOf, IsCopyOf, zeros_text}
 use Rattle.pl_verbatim.specs.Kinds.{HoldsMoments, IsKindOf}
-use Rattle.pl_verbatim.proofs.CellLaws.{IsCellOfKind}
+use Rattle.pl_verbatim.proofs.CellLaws.{IsCellOfKind, value-fits}
 use Rattle.pl_verbatim.proofs.DateLaws.{padded-one}
 
 -- ---- the count of a datetime
@@ -112,15 +112,6 @@ bare o text e = rw e refl
 
 -- ---- cells
 
-value-fits : (o : WriteOptions) (separator quote : ℕ) (unit : TimeUnit) (n : ℤ) → IsCellOptions o separator quote → is_narrow (datetime_range (units_in_second unit)) ≡ true
-    → is_within (datetime_range (units_in_second unit)) n ≡ true → FitsValue o (dtype.Datetime unit) (Number n)
-value-fits o separator quote unit n is narrow within = record {
-  held = within;
-  counted = count-fits unit n narrow within;
-  apart = λ some. absurd (some is.null_is);
-  bare = λ never texts. absurd (cc);
-}
-
 -- a datetime with a fraction in as many digits as the unit has is printed so
 pub moment-cell : (o : WriteOptions) (separator quote places : ℕ) (type : DataType) (text : List ℕ) → IsCellOptions o separator quote → HoldsMoments places type → IsMomentText places text → IsCellOf o type text
 moment-cell o separator quote places type text is holds w =
@@ -130,7 +121,7 @@ moment-cell o separator quote places type text is holds w =
     let within = count-within holds.unit w.day w.second w.fraction w.within w.few small in
     subst (λ t. IsCellOf o t text) (sym holds.type_is) (record {
       value = Some (Number n);
-      fits = value-fits o separator quote holds.unit n is holds.fits within;
+      fits = value-fits o separator quote (dtype.Datetime holds.unit) (Number n) is refl within (count-fits holds.unit n holds.fits within);
       text_is =
           w.text_is ∙ ap (λ (k : ℕ). date_text w.day ++ 84 ∷ (clock_text w.second ++ 46 ∷ padded k w.fraction)) holds.places_is
           ∙ sym (bare o (datetime_text holds.unit n) is.style_is ∙ count-printed holds.unit w.day w.second w.fraction w.few small);

@@ -1,9 +1,10 @@
 //! Cases with known answers, in plain text.
 //!
 //! A case is a line `case NAME`, a line `word HEX` for each word of the command line, and lines `input HEX`, `status N`,
-//! `out HEX` and `err HEX`. HEX is bytes as hexadecimal digits, or `-` for no byte. Lines `source N ..`, `sink N ..` and
-//! `err-sink N ..` say how many bytes each call of the source, the sink or the sink of errors moves at most, and behind that
-//! which calls fail, the first one being 0; without them a call moves all, and none fails.
+//! `out HEX` and `err HEX`. HEX is bytes as hexadecimal digits, or `-` for no byte. In place of HEX an input or an output may be parts with
+//! a space between them, each of them HEX, or HEX*N for the same bytes N times. Lines `source N ..`, `sink N ..` and `err-sink N ..` say
+//! how many bytes each call of the source, the sink or the sink of errors moves at most, and behind that which calls fail, the first
+//! one being 0; without them a call moves all, and none fails.
 
 use crate::answer::Answer;
 use crate::device::Device;
@@ -34,22 +35,31 @@ pub enum Way {
     Plain,
     /// With a comment prefix that no line begins with: the input is read record by record.
     Comments,
-    /// In pieces of one byte, so that each ends with the first line end at even parity.
+    /// By one worker.
+    Caller,
+    /// In pieces of one byte, so that each ends with the first line end at even parity, by one worker.
     Pieces,
-    /// In such pieces, by three workers.
+    /// In such pieces, by four workers.
     Workers,
 }
 
 impl Way {
-    pub const ALL: [Way; 4] = [Way::Plain, Way::Comments, Way::Pieces, Way::Workers];
+    pub const ALL: [Way; 5] = [
+        Way::Plain,
+        Way::Comments,
+        Way::Caller,
+        Way::Pieces,
+        Way::Workers,
+    ];
 
     // The words that ask for it.
     fn words(self) -> &'static [&'static str] {
         match self {
             Way::Plain => &[],
             Way::Comments => &["--comment", "\u{1}\u{2}"],
+            Way::Caller => &["--workers", "1"],
             Way::Pieces => &["--piece", "1", "--workers", "1"],
-            Way::Workers => &["--workers", "3", "--piece", "1"],
+            Way::Workers => &["--workers", "4", "--piece", "1"],
         }
     }
 }
@@ -60,6 +70,28 @@ fn bytes_of(alloc: Global, text: &str) -> Result<Vec<u8>> {
         return Ok(Vec::new(alloc));
     }
     Ok(hex::decode(alloc, text)?)
+}
+
+// Adds the bytes of a part: HEX or HEX*N.
+fn add_part(bytes: &mut Vec<u8>, alloc: Global, part: &str) -> Result<()> {
+    let (text, times) = match part.split_once('*') {
+        Some((text, times)) => (text, times.parse::<u32>()?),
+        None => (part, 1),
+    };
+    let repeated = bytes_of(alloc, text)?;
+    for _ in 0..times {
+        bytes.extend_from_slice(&repeated)?;
+    }
+    Ok(())
+}
+
+// The bytes of parts with a space between them.
+fn bytes_of_parts(alloc: Global, parts: &str) -> Result<Vec<u8>> {
+    let mut bytes = Vec::new(alloc);
+    for part in parts.split(' ') {
+        add_part(&mut bytes, alloc, part)?;
+    }
+    Ok(bytes)
 }
 
 impl<'a> Case<'a> {
@@ -96,12 +128,12 @@ impl<'a> Case<'a> {
             "word" => self
                 .words
                 .push(String::from_utf8(bytes_of(alloc, value)?)?)?,
-            "input" => self.input = bytes_of(alloc, value)?,
+            "input" => self.input = bytes_of_parts(alloc, value)?,
             "source" => self.source = Device::from_numbers(alloc, value)?,
             "sink" => self.sink = Device::from_numbers(alloc, value)?,
             "err-sink" => self.err_sink = Device::from_numbers(alloc, value)?,
             "status" => self.wanted.status = value.parse::<u8>()?,
-            "out" => self.wanted.out = bytes_of(alloc, value)?,
+            "out" => self.wanted.out = bytes_of_parts(alloc, value)?,
             "err" => self.wanted.err = bytes_of(alloc, value)?,
             _ => bail!("no such line"),
         }

@@ -38,3 +38,14 @@ fn a_source_is_read_to_its_end_without_a_dialect(rt: HostRuntime) {
     let failed = count_rows(alloc, &mut opener, "f", b',', Some(b','), None, b'\n', true);
     assert!(rt; matches!(failed, Err(PolarsError::IO)));
 }
+
+#[test]
+fn sources_that_fail_and_paths_that_are_not_held(rt: HostRuntime) {
+    let held: [(&str, &[u8]); 1] = [("f", b"a\n1\n")];
+    let mut opener = PipeOpener::new(&held, 1, &[1]);
+    assert!(rt; matches!(count(rt.alloc(), &mut opener), Err(PolarsError::IO)));
+    assert!(rt; matches!(count(rt.alloc(), &mut opener), Err(PolarsError::IO)));
+    let other: [(&str, &[u8]); 1] = [("g", b"a\n1\n")];
+    let mut opener = PipeOpener::new(&other, 1, &[]);
+    assert!(rt; matches!(count(rt.alloc(), &mut opener), Err(PolarsError::IO)));
+}

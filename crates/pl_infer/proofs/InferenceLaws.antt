@@ -1,20 +1,20 @@
 -- The columns that are inferred, and the causes against them.
-use Rattle.std.proofs.Common.{◌≡◌, ℕ, ◌+◌, ◌<◌, Bool, true, false, ◌&&◌, List, [], ◌∷◌, ◌++◌, length, map, take, position, get_or, refl, sym, ◌∙◌, ap, arith}
-use Rattle.std.specs.Prelude.{Option, None, Some, is_none}
+use Rattle.std.proofs.Common.{◌≡◌, ℕ, ◌+◌, ◌<◌, Bool, true, false, List, [], ◌∷◌, ◌++◌, length, map, take, position, get_or, refl, sym, ◌∙◌, ap, arith}
+use Rattle.std.specs.Prelude.{Option, None, Some, is_some, slice_index_or}
 use Rattle.std.specs.List.{range_with_len, list_any}
 use Rattle.std.specs.Option.{option_map, option_copied}
 use Rattle.std.specs.Str.{bytes_eq}
-use Rattle.std.proofs.lemmas.List.{take-map, get_or_default, get_or-map, length-map}
+use Rattle.std.proofs.lemmas.List.{take-map, get_or_default, get_or-map}
+use Rattle.std.proofs.lemmas.Slice.Eq.{bytes_eq-Decides}
 use Rattle.std.proofs.lemmas.List.FromFn.{map-range_with_len_more, length-map-range_with_len}
 use Rattle.pl_frame.specs.declared.data_type.DataType.{DataType}
 use Rattle.pl_frame.specs.declared.data_type.DataType.TheVariants as dtype
-use Rattle.pl_frame.specs.declared.error.NoDataFault.TheVariants as no_data
 use Rattle.pl_frame.specs.declared.error.PolarsError.{PolarsError}
-use Rattle.pl_frame.specs.declared.error.PolarsError.TheVariants as error
 use Rattle.pl_frame.specs.Dialect.{Marks}
-use Rattle.pl_frame.specs.Names.{first_repeat}
+use Rattle.pl_frame.specs.Names.{is_repeat}
 use Rattle.pl_frame.specs.Schema.{Entry, names_in, place_of}
-use Rattle.pl_frame.proofs.NameLaws.{absent_before}
+use Rattle.pl_frame.proofs.CategoryLaws.{known}
+use Rattle.pl_frame.proofs.SchemaLaws.{none_passes}
 use Rattle.pl_scan.specs.Dialect as scan
 use Rattle.pl_scan.specs.Items.{items}
 use Rattle.pl_cells.specs.NullValues.{compiled_under, means_null}
@@ -26,7 +26,7 @@ use Rattle.pl_infer.specs.Sample.{has_long_text}
 use Rattle.pl_infer.specs.SampleSteps.{column_types, have_long_text, sample_in}
 use Rattle.pl_infer.specs.declared.evidence.EvidenceRules.{EvidenceRules}
 use Rattle.pl_infer.specs.declared.inference_result.SchemaInferenceResult.{SchemaInferenceResult}
-use Rattle.pl_infer.specs.Inference.{Inference, first_record, inferred, repeated, inference_causes, overwritten, overwritten_at, types_of_names, has_long_texts, names_of, data_in, sample_of, sampled_bytes, workers_left, overwritten_columns, inference_result}
+use Rattle.pl_infer.specs.Inference.{Inference, inferred, overwritten, overwritten_at, types_of_names, has_long_texts, names_of, data_in, sample_of, sampled_bytes, workers_left, overwritten_columns, inference_result}
 
 -- ---- columns
 
@@ -41,14 +41,35 @@ overwritten-more other names types k made name type few fits name_is type_is so_
     ∙ ap (λ l. l ++ overwritten_at other names types k ∷ []) so_far
     ∙ sym (map-range_with_len_more (overwritten_at other names types) 0 k k (omega arith))
 
--- among columns with distinct names, none has the name of one behind it
-pub absent-behind : (columns : List Entry) (k : ℕ) (column : Entry) → first_repeat (names_in columns) ≡ None → k < length columns → column ≡ get_or columns k column
-    → place_of column.0 (take k columns) ≡ None
-absent-behind columns k column none few at =
-    let name : Entry → List ℕ = λ entry. entry.0 in
-    let within : k < length (names_in columns) = omega (arith, length-map columns name) in
-    ap (position (bytes_eq column.0)) (sym (take-map name k columns))
-    ∙ absent_before (names_in columns) k column.0 none within (get_or-map name columns k column [] few ∙ ap name (sym at))
+turned : (a b : List ℕ) → bytes_eq a b ≡ bytes_eq b a
+turned a b = by (bytes_eq a b) (bytes_eq b a) refl refl
+  where
+    by : (s t : Bool) → bytes_eq a b ≡ s → bytes_eq b a ≡ t → s ≡ t
+    by true true e f = refl
+    by false false e f = refl
+    by true false e f = sym ((bytes_eq-Decides b a).1 (sym ((bytes_eq-Decides a b).0 e))) ∙ f
+    by false true e f = sym e ∙ (bytes_eq-Decides a b).1 (sym ((bytes_eq-Decides b a).0 f))
+
+any-turned : (name : List ℕ) (names : List (List ℕ)) → list_any (bytes_eq name) names ≡ list_any (λ other. bytes_eq other name) names
+any-turned name [] = refl
+any-turned name (other ∷ names) = rw (turned name other, any-turned name names) refl
+
+-- a name has a place among names if it is one of them
+stands : (name : List ℕ) (names : List (List ℕ)) (found : Option ℕ) → position (bytes_eq name) names ≡ found → list_any (λ other. bytes_eq other name) names ≡ is_some found
+stands name names None e = sym (any-turned name names) ∙ none_passes (bytes_eq name) names e
+stands name names (Some k) e = sym (any-turned name names) ∙ known names name k e
+
+-- the name at a place is that of the column there
+pub name-there : (columns : List Entry) (k : ℕ) (column : Entry) → k < length columns → column ≡ get_or columns k column → slice_index_or (names_in columns) k [] ≡ column.0
+name-there columns k column few at = get_or-map (λ (entry : Entry). entry.0) columns k column [] few ∙ ap (λ (entry : Entry). entry.0) (sym at)
+
+-- the name of a column stands before it if it has a place among the columns there
+pub repeat-found : (columns : List Entry) (k : ℕ) (column : Entry) (found : Option ℕ) → k < length columns → column ≡ get_or columns k column
+    → found ≡ place_of column.0 (take k columns) → is_repeat (names_in columns) k ≡ is_some found
+repeat-found columns k column found few at is =
+    ap (λ n. list_any (λ other. bytes_eq other n) (take k (names_in columns))) (name-there columns k column few at)
+    ∙ ap (list_any (λ other. bytes_eq other column.0)) (take-map (λ (entry : Entry). entry.0) k columns)
+    ∙ stands column.0 (names_in (take k columns)) found (sym is)
 
 -- ---- the sample
 

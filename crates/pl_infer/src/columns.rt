@@ -2,15 +2,14 @@
 ghost use Rattle.std.specs.Prelude.{◌≡◌, ◌<◌, ◌++◌, ◌∷◌, [], length, unwrap_or, None, IfOk, IfErr, OnOk, IsOkUnless};
 ghost use Rattle.std.specs.Option.{option_copied};
 ghost use Rattle.pl_frame.specs.declared.error.PolarsError.TheVariants as error;
-ghost use Rattle.pl_frame.specs.Names.{first_repeat};
-ghost use Rattle.pl_frame.specs.Schema.{names_in, place_of};
+ghost use Rattle.pl_frame.specs.Schema.{place_of};
 ghost use Rattle.pl_options.specs.FirstCause.{IsFault};
 ghost use Rattle.pl_infer.specs.Inference.{overwritten, overwritten_columns, repeated};
 
 use crate::schemas::find_type;
 use pl_frame::data_type::DataType;
 use pl_frame::error::{NamePlace, PolarsError, PolarsResult};
-use pl_frame::name::{Named, PlSmallStr, find_repeat};
+use pl_frame::name::PlSmallStr;
 use pl_frame::schema::Schema;
 use std::alloc::Global;
 use std::marker::Model;
@@ -28,14 +27,6 @@ impl Model for InferredColumn {
     ghost Value = { Entry };
 
     ghost view = { λ column. (column.name, column.dtype) };
-}
-
-impl Named for InferredColumn {
-    ghost name = { λ column. column.0 };
-
-    fn name_text(&self) -> &str {
-        self.name.as_str()
-    }
 }
 
 // A column of a name and a type. Refuses only want of memory.
@@ -125,14 +116,18 @@ pub(crate) fn schema_of(alloc: Global, columns: &[InferredColumn]) -> PolarsResu
     ensures distinct { OnOk result (repeated columns.now ≡ None) }
     ensures refused { IfErr result (IsFault (repeated columns.now)) }
 {
-    if let Some(place) = find_repeat(columns) {
+    let mut schema = Schema::new(alloc);
+    for place in 0..columns.len() {
         let column = &columns[place];
-        return Err(PolarsError::Duplicate {
-            name: column.name.try_clone()?,
-            at: NamePlace::Schema,
-        });
+        if schema.index_of(column.name.as_str()).is_some() {
+            return Err(PolarsError::Duplicate {
+                name: column.name.try_clone()?,
+                at: NamePlace::Schema,
+            });
+        }
+        add_column(&mut schema, column)?;
     }
-    distinct_schema(alloc, columns)
+    Ok(schema)
 }
 
 // Puts a column at the end of a schema that does not have its name. Refuses only want of memory.
@@ -145,17 +140,4 @@ fn add_column(schema: &mut Schema, column: &InferredColumn) -> PolarsResult<()>
     let dtype = column.dtype.try_clone()?;
     schema.with_column(name, dtype)?;
     Ok(())
-}
-
-// The schema of columns with distinct names. Refuses only want of memory.
-fn distinct_schema(alloc: Global, columns: &[InferredColumn]) -> PolarsResult<Schema>
-    requires { first_repeat (names_in columns.now) ≡ None }
-    ensures schema { IfOk result (λ schema. schema ≡ columns.now) }
-    ensures refused { IsOkUnless result error.OutOfMemory }
-{
-    let mut schema = Schema::new(alloc);
-    for place in 0..columns.len() {
-        add_column(&mut schema, &columns[place])?;
-    }
-    Ok(schema)
 }

@@ -2,6 +2,7 @@
 use crate::given::add;
 use pl_frame::column::Value;
 use pl_frame::data_type::DataType;
+use pl_frame::error::{ComputeFault, FaultKind, PolarsError, PolarsResult};
 use pl_frame::frame::DataFrame;
 use pl_frame::schema::Schema;
 use pl_frame::source::{MemSource, PipeSource};
@@ -136,6 +137,43 @@ fn a_quote_in_a_plain_field_leaves_batches_short(rt: HostRuntime) {
     let given = batches.next_batches(&rt, 2).expect(&rt, "an answer");
     let frames = given.expect(&rt, "batches");
     assert!(rt; end_with(&frames, 1, 3, Value::Text("c\nd")));
+    drop(batches);
+    drop(reader);
+}
+
+#[test]
+fn a_source_that_fails_has_no_batches(rt: HostRuntime) {
+    let mut reader = reader_of(&rt, rt.alloc(), PipeSource::new(TWO_ROWS, 1, &[0]));
+    let failed = reader.batched_borrowed();
+    assert!(rt; matches!(failed, Err(PolarsError::IO)));
+    drop(failed);
+    drop(reader);
+}
+
+// Whether this is the fault of the first cell of the second row.
+fn is_misfit(answer: &PolarsResult<Option<Vec<DataFrame>>>) -> bool {
+    matches!(
+        answer,
+        Err(PolarsError::ComputeError(ComputeFault::Record {
+            row: 1,
+            column: 0,
+            kind: FaultKind::Value,
+        }))
+    )
+}
+
+#[test]
+fn a_fault_is_answered_again_and_again(rt: HostRuntime) {
+    let mut reader = reader_of(&rt, rt.alloc(), MemSource::new(b"a,b\n5,x\ny,z\n"));
+    let mut batches = reader.batched_borrowed().expect(&rt, "a reader");
+    let given = batches.next_batches(&rt, 1).expect(&rt, "an answer");
+    let frames = given.expect(&rt, "batches");
+    assert!(rt; end_with(&frames, 1, 5, Value::Text("x")));
+    assert!(rt; is_misfit(&batches.next_batches(&rt, 1)));
+    for _ in 0..3 {
+        assert!(rt; is_misfit(&batches.next_batches(&rt, 0)));
+        assert!(rt; is_misfit(&batches.next_batches(&rt, 1)));
+    }
     drop(batches);
     drop(reader);
 }

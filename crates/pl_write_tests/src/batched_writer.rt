@@ -5,10 +5,10 @@ ghost use Rattle.pl_frame.specs.FrameParts.{stacked};
 use crate::given::{frame_of, name};
 use pl_frame::column::Column;
 use pl_frame::data_type::DataType;
-use pl_frame::error::PolarsResult;
+use pl_frame::error::{PolarsError, PolarsResult};
 use pl_frame::frame::DataFrame;
 use pl_frame::schema::Schema;
-use pl_frame::sink::MemSink;
+use pl_frame::sink::{MemSink, PipeSink};
 use pl_write::csv_writer::{CsvWriter, SerWriter};
 use pl_write::laws::batches_are_one_text;
 use std::alloc::Global;
@@ -47,6 +47,26 @@ fn a_batch_stands_behind_the_head(rt: HostRuntime) {
     let mut sink = MemSink::new(rt.alloc());
     write(&rt, rt.alloc(), &mut sink);
     assert!(rt; sink.received() == "\u{FEFF}a\n1\n".as_bytes());
+}
+
+// Writes two batches, of which the sink refuses the first one.
+fn write_again<W: Abort + Threads + Sync>(rt: &W, alloc: Global, sink: &mut PipeSink<'_>) {
+    let writer = CsvWriter::new(alloc, sink).expect(rt, "a writer");
+    let batched = writer.batched(&schema(rt, alloc));
+    let mut writer = batched.expect(rt, "a writer");
+    let batches = [batch(rt, alloc, 1), batch(rt, alloc, 2)];
+    assert!(rt; writer.fits(&batches[0]));
+    let failed = writer.write_batch(rt, &batches[0]);
+    assert!(rt; matches!(failed, Err(PolarsError::IO)));
+    assert!(rt; writer.fits(&batches[1]));
+    writer.write_batch(rt, &batches[1]).expect(rt, "a batch");
+}
+
+#[test]
+fn a_batch_stands_behind_one_that_failed(rt: HostRuntime) {
+    let mut sink = PipeSink::new(rt.alloc(), 1, &[0]);
+    write_again(&rt, rt.alloc(), &mut sink);
+    assert!(rt; sink.received() == b"2\n".as_slice());
 }
 
 // Puts the rows of a batch behind those of a frame.

@@ -4,7 +4,9 @@ use Rattle.std.specs.List.{AllByRecursion}
 use Rattle.pl_frame.specs.Dialect.{Marks}
 use Rattle.pl_scan.specs.declared.summary.LineState.{LineState}
 use Rattle.pl_scan.specs.declared.summary.LineState.TheVariants.{Start, Open}
+use Rattle.pl_scan.specs.LineCuts.{piece_ends}
 use Rattle.pl_scan.specs.PieceLaws.{IsRange}
+use Rattle.pl_board.specs.LineStates.{states_before}
 use Rattle.pl_board.specs.Pieces.{piece_texts}
 
 -- no piece comes next, or one that a scan comes to at the start of an item; by the states in front of the pieces to come
@@ -18,6 +20,12 @@ abbrev pub range_ends : List ℕ → List LineState → List ℕ
 range_ends [] states = []
 range_ends (end ∷ ends) [] = []
 range_ends (end ∷ ends) (state ∷ states) = if begins_item states then end ∷ range_ends ends states else range_ends ends states
+
+-- where the ranges of a text end that is cut into pieces of about a size
+abbrev pub cut_ranges : Marks → Option (List ℕ) → ℕ → List ℕ → List ℕ
+cut_ranges m comment size b =
+    let ends = piece_ends m.line_end size b in
+    range_ends ends (states_before m comment ends b)
 
 -- a list without its last item
 abbrev pub but_last : {A : Type 0} → List A → List A

@@ -4,7 +4,7 @@ ghost use Rattle.pl_frame.specs.Dialect.{IsDialect};
 ghost use Rattle.pl_frame.specs.declared.error.PolarsError.TheVariants as error;
 ghost use Rattle.pl_scan.specs.Dialect.{marks_of, comment_of};
 ghost use Rattle.pl_scan.specs.LineCuts.{RiseTo};
-ghost use Rattle.pl_board.specs.Ranges.{begins_item, range_ends, AreRanges};
+ghost use Rattle.pl_board.specs.Ranges.{begins_item, range_ends, cut_ranges, AreRanges};
 
 use crate::gate::OpenGate;
 use crate::line_states::{line_states, push};
@@ -44,8 +44,8 @@ fn range_ends(alloc: Global, ends: &[usize], states: &[LineState]) -> PolarsResu
     Ok(kept)
 }
 
-/// Where the ranges of a text end: pieces of about this size that begin at the start of an item, found by so many workers. Refuses
-/// only want of memory.
+/// Where the ranges of a text end that is cut into pieces of about this size: in front of each piece that begins at the start of an item, and
+/// at the end of the text. They are found by this number of workers. Refuses only want of memory.
 pub fn cut_into_ranges<W: Threads + Wait + Sync>(
     rt: &W,
     alloc: Global,
@@ -57,6 +57,7 @@ pub fn cut_into_ranges<W: Threads + Wait + Sync>(
     requires dialect { IsDialect (marks_of dialect.now) (comment_of dialect.now) }
     requires size { 0 < piece_size }
     requires workers { 0 < workers }
+    ensures ends { IfOk result (λ ends. ends.items ≡ cut_ranges (marks_of dialect.now) (comment_of dialect.now) piece_size bytes.now) }
     ensures rise { IfOk result (λ ends. RiseTo (length bytes.now) 0 ends.items) }
     ensures ranges { IfOk result (λ ends. AreRanges (marks_of dialect.now) (comment_of dialect.now) ends.items bytes.now) }
     ensures refused { IsOkUnless result error.OutOfMemory }

@@ -4,8 +4,6 @@
 #[cfg(test)]
 mod board;
 #[cfg(test)]
-mod cutting;
-#[cfg(test)]
 mod line_states;
 #[cfg(test)]
 mod rows;

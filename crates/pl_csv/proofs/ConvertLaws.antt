@@ -1,13 +1,11 @@
 -- What is printed of data piece by piece is the text of its frame.
-use Rattle.std.proofs.Common.{◌≡◌, ℕ, ◌+◌, ◌<◌, ◌^◌, Bool, true, false, ◌||◌, List, [], ◌∷◌, ◌++◌, map, length, take, drop, refl, sym, ◌∙◌, ap, subst, inl, inr}
-use Rattle.std.specs.Prelude.{◌⊎◌, Option, None, Some, Result, Ok, Err, IfOk, OnOk, IfErr, MatchResult}
+use Rattle.std.proofs.Common.{◌≡◌, ℕ, Bool, true, false, not, ◌||◌, List, [], ◌∷◌, map, length, filter, refl, sym, ◌∙◌, ap, subst, inl, inr, append-nil}
+use Rattle.std.specs.Prelude.{◌⊎◌, None, Some, Result, Ok, Err, IfOk, OnOk, IfErr, MatchResult}
 use Rattle.std.specs.Cow.{cow_slice_items}
-use Rattle.std.specs.Io.KnownBytes.{Appends}
 use Rattle.std.specs.List.{concat, list_any}
 use Rattle.std.specs.Option.{option_map}
-use Rattle.std.proofs.lemmas.List.{take-append-drop}
 use Rattle.pl_frame.specs.Dialect.{IsDialect}
-use Rattle.pl_frame.specs.Frame.{IsFrame, names_of}
+use Rattle.pl_frame.specs.Frame.{ColumnValue, IsFrame, names_of}
 use Rattle.pl_frame.specs.FrameParts.{HaveSameColumns, stacked}
 use Rattle.pl_frame.specs.Schema.{Entry}
 use Rattle.pl_text.specs.FrameText.{text_of_frame}
@@ -22,18 +20,20 @@ use Rattle.pl_options.specs.Text as infer
 use Rattle.pl_options.specs.declared.read_options.CsvReadOptions.{CsvReadOptions}
 use Rattle.pl_infer.specs.Schemas.{is_categorical}
 use Rattle.pl_table.specs.Rows.{Row}
-use Rattle.pl_regions.specs.declared.front.Front.{Front}
+use Rattle.pl_regions.specs.declared.printing.PrintedRows.{PrintedRows}
+use Rattle.pl_regions.proofs.PrintingLaws.{level-frame}
 use Rattle.pl_rows.specs.Cells.{RowRules}
 use Rattle.pl_rows.specs.Columns.{read_column, entries_in, columns_in, frame_of_rows}
-use Rattle.pl_rows.specs.Pieces.{end_behind, IsRowFit}
-use Rattle.pl_rows.specs.Plan.{AreRising}
-use Rattle.pl_rows.specs.Ranges.{range_end, range_frame, IsRangeRead}
-use Rattle.pl_rows.specs.WholePieces.{text_frame}
-use Rattle.pl_rows.specs.declared.columns.RangeColumns.{RangeColumns}
+use Rattle.pl_rows.specs.Pieces.{is_fault}
+use Rattle.pl_rows.specs.Plan.{AreRising, Columns}
+use Rattle.pl_rows.specs.Plan.{rules_of as plan_rules}
+use Rattle.pl_rows.specs.Ranges.{limited, rows_of, is_judged, judged_rows, has_unjudged, end_of, range_end, range_frame, rows_read, sound_rows}
+use Rattle.pl_rows.specs.Rows.{first_faulty}
 use Rattle.pl_rows.specs.declared.plan.RangePlan.{RangePlan}
 use Rattle.pl_rows.specs.declared.range.RangeEnd.{RangeEnd}
 use Rattle.pl_rows.specs.declared.range.RangeEnd.TheVariants as end
-use Rattle.pl_rows.proofs.SoundTextLaws.{range-behind, same-columns-range, row-fits}
+use Rattle.pl_rows.proofs.RangeLaws.{rows-nil}
+use Rattle.pl_rows.proofs.SoundTextLaws.{columns-stacked, same-rows}
 use Rattle.pl_read.specs.Options.{rules_of, settled_schema}
 use Rattle.pl_read.specs.Projection.{projected}
 use Rattle.pl_read.specs.Reading.{frame_of}
@@ -41,19 +41,17 @@ use Rattle.pl_read.specs.Refusals.{codes_past, index_past, faulty_record}
 use Rattle.pl_read.specs.Rows.{rows_in, data_columns, data_frame, with_index}
 use Rattle.pl_read.specs.Steps.{MayRead, late_cause, data_cause, IsPlanOf, CanReadData}
 use Rattle.pl_read.proofs.CauseLaws.{first_some-one, first_some-behind}
-use Rattle.pl_read.proofs.DataLaws.{fault-at, no-fault-at, columns-at, columns-are, IsFrame-columns, readable-places}
+use Rattle.pl_read.proofs.DataLaws.{fault-at, no-fault-at, columns-at, IsFrame-columns, readable-places}
 use Rattle.pl_read.proofs.ProjectionLaws.{projected-rises, projected-below}
 use Rattle.pl_write.specs.Batches.{all_lines}
-use Rattle.pl_write.specs.Options.{cell_options, frame_options}
+use Rattle.pl_write.specs.Options.{frame_options}
 use Rattle.pl_write.specs.Printed.{printed_text}
-use Rattle.pl_write.specs.Writing.{AppendsPrefix}
 use Rattle.pl_write.specs.declared.options.CsvWriterOptions.{CsvWriterOptions}
 use Rattle.pl_write.proofs.PrintedLaws.{lines-alone, printed-is-text}
-use Rattle.pl_verbatim.specs.PrintedTexts.{CanPrint, IsFrontPrinted}
-use Rattle.pl_verbatim.proofs.PrintingLaws.{level-text}
+use Rattle.pl_verbatim.specs.PrintedTexts.{CanPrint}
 use Rattle.pl_csv.specs.Converting.{IsPrintedRead, IsRowByRow}
-use Rattle.pl_csv.specs.Sources.{IsLeftOf}
-use Rattle.pl_csv.specs.Transcoding.{HasAsciiQuote, IsUnread, IsConverted, IsCutShort}
+use Rattle.pl_csv.specs.Sources.{ArePrintedOf}
+use Rattle.pl_csv.specs.Transcoding.{HasAsciiQuote, IsUnread}
 use Rattle.pl_csv.specs.declared.convert.Printed.{Printed}
 use Rattle.pl_csv.proofs.TranscodeLaws.{unread-late, valid-read}
 
@@ -106,88 +104,82 @@ index-none o schema records plain =
 frame-plain : (o : CsvReadOptions) (schema : List Entry) (records : List ℕ) → IsRowByRow o schema → data_frame o schema records ≡ data_columns o schema records
 frame-plain o schema records plain = ap (λ i. with_index i (length (rows_in o records)) (data_columns o schema records)) plain.unnumbered
 
--- ---- data whose front was printed, and what is left of it read
+-- ---- a range without bytes
 
--- where it ends
-whole-end : (plan : RangePlan) (o : CsvReadOptions) (schema : List Entry) (records : List ℕ) (write : CsvWriterOptions) (upto n : ℕ) (lines : List (List ℕ)) (e : RangeEnd) → CanReadData plan o schema records → IsRowByRow o schema
-    → IsFrontPrinted plan schema (cell_options write.serialize_options) records upto n (concat lines) → e ≡ range_end plan (columns_in schema plan.projection.places.now) (drop upto records)
-    → end_behind n e ≡ range_end plan (columns_in schema plan.projection.places.now) records
-whole-end plan o schema records write upto n lines e can plain front e_is =
-    let columns = columns_in schema plan.projection.places.now in
-    let rest = drop upto records in
-    let both = range-behind plan schema (take upto records) rest (plan-unlimited plan o schema can.plan_is plain) can.plan_is.is_last (plan-dialect plan o schema records can) front.front.sound in
-    ap (end_behind n) e_is
-    ∙ ap (λ k. end_behind k (range_end plan columns rest)) front.front.count_is
-    ∙ sym both.1
-    ∙ ap (range_end plan columns) (take-append-drop upto records)
+-- has no rows
+none-rows : (plan : RangePlan) → plan.limit ≡ None → rows_of plan [] ≡ []
+none-rows plan all = ap (limited plan.limit) (rows-nil (marks_of plan.dialect) (comment_of plan.dialect)) ∙ ap (λ limit. limited {X = Row} limit []) all
 
--- its columns
-whole-frame : (plan : RangePlan) (o : CsvReadOptions) (schema : List Entry) (records : List ℕ) (write : CsvWriterOptions) (upto n : ℕ) (lines : List (List ℕ)) → CanReadData plan o schema records → IsRowByRow o schema
-    → IsFrontPrinted plan schema (cell_options write.serialize_options) records upto n (concat lines)
-    → stacked (text_frame plan schema (take upto records)) (range_frame plan schema (drop upto records)) ≡ range_frame plan schema records
-whole-frame plan o schema records write upto n lines can plain front =
-    let both =
-    range-behind plan schema (take upto records) (drop upto records) (plan-unlimited plan o schema can.plan_is plain) can.plan_is.is_last (plan-dialect plan o schema records can) front.front.sound in
-    sym both.0 ∙ ap (range_frame plan schema) (take-append-drop upto records)
+none-judged : (plan : RangePlan) → plan.limit ≡ None → judged_rows plan [] ≡ []
+none-judged plan all = ap (filter (is_judged plan)) (none-rows plan all)
 
-still-ended : (n : ℕ) (e : RangeEnd) → (e ≡ end.Closed) ⊎ (e ≡ end.Open) → (end_behind n e ≡ end.Closed) ⊎ (end_behind n e ≡ end.Open)
-still-ended n e (inl closed) = inl (ap (end_behind n) closed)
-still-ended n e (inr opened) = inr (ap (end_behind n) opened)
+-- it is read to its end
+none-end : (plan : RangePlan) (columns : Columns) → plan.limit ≡ None → range_end plan columns [] ≡ end.Closed
+none-end plan columns all =
+    ap (λ rs. end_of (first_faulty (plan_rules plan) columns 0 rs) (has_unjudged plan [])) (none-judged plan all)
+    ∙ ap (λ rs. end_of None (list_any (λ row. not (is_judged plan row)) rs)) (none-rows plan all)
+
+-- and gives columns without cells
+none-frame : (plan : RangePlan) (schema : List Entry) → plan.limit ≡ None → range_frame plan schema [] ≡ frame_of_rows (plan_rules plan) (entries_in schema plan.projection.places.now) []
+none-frame plan schema all =
+    ap (λ rs. frame_of_rows (plan_rules plan) (entries_in schema plan.projection.places.now) (sound_rows (plan_rules plan) (columns_in schema plan.projection.places.now) rs)) (none-judged plan all)
+
+-- which add nothing to others
+behind-none : (plan : RangePlan) (schema : List Entry) (records : List ℕ) → plan.limit ≡ None → stacked (range_frame plan schema records) (range_frame plan schema []) ≡ range_frame plan schema records
+behind-none plan schema records all =
+    let rules = plan_rules plan in
+    let entries = entries_in schema plan.projection.places.now in
+    let given = rows_read plan (columns_in schema plan.projection.places.now) records in
+    ap (stacked (range_frame plan schema records)) (none-frame plan schema all) ∙ columns-stacked rules entries given [] ∙ ap (frame_of_rows rules entries) (append-nil given)
+
+-- ---- data whose rows were printed
+
+-- a plan without a limit, since rows are read one by one
+pub printed-unlimited : (plan : RangePlan) (o : CsvReadOptions) (schema : List Entry) (write : CsvWriterOptions) (records : List ℕ) (printed : PrintedRows) → ArePrintedOf plan o schema write records printed → plan.limit ≡ None
+printed-unlimited plan o schema write records printed is = plan-unlimited plan o schema is.can.plan_is is.plain
+
+-- the columns without rows are a frame
+pub none-is-frame : (plan : RangePlan) (o : CsvReadOptions) (schema : List Entry) (write : CsvWriterOptions) (records : List ℕ) (printed : PrintedRows) → ArePrintedOf plan o schema write records printed
+    → IsFrame (range_frame plan schema [])
+none-is-frame plan o schema write records printed is =
+    let all = printed-unlimited plan o schema write records printed is in
+    let ended = sym (none-end plan (columns_in schema plan.projection.places.now) all) in
+    subst IsFrame (sym (columns-at plan o schema [] end.Closed is.can.plan_is ended (inl refl))) (IsFrame-columns o schema [] is.can.distinct)
 
 -- the text
-pub data-text : (plan : RangePlan) (o : CsvReadOptions) (schema : List Entry) (records : List ℕ) (write : CsvWriterOptions) (upto n : ℕ) (lines : List (List ℕ)) (read : RangeColumns) → CanReadData plan o schema records → IsRowByRow o schema
-    → IsFrontPrinted plan schema (cell_options write.serialize_options) records upto n (concat lines) → IsRangeRead plan schema (drop upto records) read → (read.end ≡ end.Closed) ⊎ (read.end ≡ end.Open)
-    → printed_text (frame_options write) (names_of read.columns.items) lines read.columns.items ≡ text_of_frame (frame_options write) (data_frame o schema records)
-data-text plan o schema records write upto n lines read can plain front range ended =
-    let first = text_frame plan schema (take upto records) in
-    let rest = read.columns.items in
-    let same : HaveSameColumns first rest = subst (HaveSameColumns first) (sym range.columns) (same-columns-range plan schema (take upto records) (drop upto records)) in
-    let before : concat lines ≡ all_lines (frame_options write) first = front.front.lines_are ∙ lines-alone write first in
-    let frame : stacked first rest ≡ data_frame o schema records =
-    ap (stacked first) range.columns
-    ∙ whole-frame plan o schema records write upto n lines can plain front
-    ∙ columns-at plan o schema records (end_behind n read.end) can.plan_is (whole-end plan o schema records write upto n lines read.end can plain front range.end_is) (still-ended n read.end ended)
-    ∙ sym (frame-plain o schema records plain) in
-    printed-is-text (frame_options write) lines first rest same (level-text plan schema (take upto records)) before ∙ ap (text_of_frame (frame_options write)) frame
+pub data-text : (plan : RangePlan) (o : CsvReadOptions) (schema : List Entry) (write : CsvWriterOptions) (records : List ℕ) (printed : PrintedRows) (rest : List ColumnValue)
+    → ArePrintedOf plan o schema write records printed → (printed.end ≡ end.Closed) ⊎ (printed.end ≡ end.Open) → rest ≡ range_frame plan schema []
+    → printed_text (frame_options write) (names_of rest) (map cow_slice_items printed.lines.items) rest ≡ text_of_frame (frame_options write) (data_frame o schema records)
+data-text plan o schema write records printed rest is ended rest_is =
+    let frame = range_frame plan schema records in
+    let lines = map cow_slice_items printed.lines.items in
+    let none = range_frame plan schema [] in
+    let all = printed-unlimited plan o schema write records printed is in
+    let before : concat lines ≡ all_lines (frame_options write) frame = is.is.lines_are (no-fault-end printed.end ended) ∙ lines-alone write frame in
+    let same : HaveSameColumns frame none =
+    same-rows (plan_rules plan) (entries_in schema plan.projection.places.now) (rows_read plan (columns_in schema plan.projection.places.now) records) (rows_read plan (columns_in schema plan.projection.places.now) []) in
+    let whole : stacked frame none ≡ data_frame o schema records =
+    behind-none plan schema records all ∙ columns-at plan o schema records printed.end is.can.plan_is is.is.end_is ended ∙ sym (frame-plain o schema records is.plain) in
+    ap (λ columns. printed_text (frame_options write) (names_of columns) lines columns) rest_is
+    ∙ printed-is-text (frame_options write) lines frame none same (level-frame plan schema records) before
+    ∙ ap (text_of_frame (frame_options write)) whole
+  where
+    no-fault-end : (e : RangeEnd) → (e ≡ end.Closed) ⊎ (e ≡ end.Open) → is_fault e ≡ false
+    no-fault-end e (inl closed) = ap is_fault closed
+    no-fault-end e (inr opened) = ap is_fault opened
 
 -- no cause
-pub data-sound : (plan : RangePlan) (o : CsvReadOptions) (schema : List Entry) (records : List ℕ) (write : CsvWriterOptions) (upto n : ℕ) (lines : List (List ℕ)) (read : RangeColumns) → CanReadData plan o schema records → IsRowByRow o schema
-    → IsFrontPrinted plan schema (cell_options write.serialize_options) records upto n (concat lines) → IsRangeRead plan schema (drop upto records) read → (read.end ≡ end.Closed) ⊎ (read.end ≡ end.Open)
-    → data_cause o schema records ≡ None
-data-sound plan o schema records write upto n lines read can plain front range ended =
-    let none = no-fault-at plan o schema records (end_behind n read.end) can.plan_is (whole-end plan o schema records write upto n lines read.end can plain front range.end_is) (still-ended n read.end ended) in
+pub data-sound : (plan : RangePlan) (o : CsvReadOptions) (schema : List Entry) (write : CsvWriterOptions) (records : List ℕ) (printed : PrintedRows) → ArePrintedOf plan o schema write records printed
+    → (printed.end ≡ end.Closed) ⊎ (printed.end ≡ end.Open) → data_cause o schema records ≡ None
+data-sound plan o schema write records printed is ended =
+    let none = no-fault-at plan o schema records printed.end is.can.plan_is is.is.end_is ended in
     let sound : faulty_record o schema records ≡ None = ap (option_map (λ found. error.ComputeError (compute_fault.Record found.0 found.1.0 found.1.1))) none in
-    first_some-behind (faulty_record o schema records) _ sound ∙ first_some-one _ ∙ index-none o schema records plain
+    first_some-behind (faulty_record o schema records) _ sound ∙ first_some-one _ ∙ index-none o schema records is.plain
 
 -- the first cause
-pub data-fault : (plan : RangePlan) (o : CsvReadOptions) (schema : List Entry) (records : List ℕ) (write : CsvWriterOptions) (upto n : ℕ) (lines : List (List ℕ)) (read : RangeColumns) (row column : ℕ) (kind : FaultKind)
-    → CanReadData plan o schema records → IsRowByRow o schema → IsFrontPrinted plan schema (cell_options write.serialize_options) records upto n (concat lines) → IsRangeRead plan schema (drop upto records) read
-    → read.end ≡ end.Fault row column kind → data_cause o schema records ≡ Some (error.ComputeError (compute_fault.Record (n + row) column kind))
-data-fault plan o schema records write upto n lines read row column kind can plain front range ended =
-    fault-at plan o schema records (n + row) column kind can.plan_is
-    (sym (whole-end plan o schema records write upto n lines read.end can plain front range.end_is) ∙ ap (end_behind n) ended)
-
--- whose number is one of 64 bits
-pub data-fits : (plan : RangePlan) (o : CsvReadOptions) (schema : List Entry) (records : List ℕ) (write : CsvWriterOptions) (upto n : ℕ) (lines : List (List ℕ)) (read : RangeColumns) (row column : ℕ) (kind : FaultKind)
-    → CanReadData plan o schema records → IsFrontPrinted plan schema (cell_options write.serialize_options) records upto n (concat lines) → IsRangeRead plan schema (drop upto records) read
-    → read.end ≡ end.Fault row column kind → length records < 2 ^ 64 → n + row < 2 ^ 64
-data-fits plan o schema records write upto n lines read row column kind can front range ended small =
-    let columns = columns_in schema plan.projection.places.now in
-    let rest = drop upto records in
-    let whole : length (take upto records ++ rest) < 2 ^ 64 = subst (λ l. length l < 2 ^ 64) (sym (take-append-drop upto records)) small in
-    let fits : IsRowFit n (range_end plan columns rest) =
-    subst (λ k. IsRowFit k (range_end plan columns rest)) (sym front.front.count_is) (row-fits plan columns (take upto records) rest (plan-dialect plan o schema records can).distinct whole) in
-    subst (IsRowFit n) (sym range.end_is ∙ ended) fits
-
--- what is left is a frame
-pub left-frame : (plan : RangePlan) (o : CsvReadOptions) (schema : List Entry) (records left : List ℕ) (read : RangeColumns) → CanReadData plan o schema records → IsRangeRead plan schema left read
-    → (read.end ≡ end.Closed) ⊎ (read.end ≡ end.Open) → IsFrame read.columns.items
-left-frame plan o schema records left read can range ended = subst IsFrame (sym (columns-are plan o schema left read can.plan_is range ended)) (IsFrame-columns o schema left can.distinct)
-
--- a front of data that was printed, and what is left of it
-pub is-left-of : (plan : RangePlan) (o : CsvReadOptions) (schema : List Entry) (write : CsvWriterOptions) (records : List ℕ) (front : Front) (left : List ℕ) → CanReadData plan o schema records → IsRowByRow o schema → length records < 2 ^ 64
-    → IsFrontPrinted plan schema (cell_options write.serialize_options) records front.end front.rows (concat (map cow_slice_items front.lines.items)) → left ≡ drop front.end records → IsLeftOf plan o schema write records front left
-is-left-of plan o schema write records front left can plain small printed left_is = record { can = can; plain = plain; small = small; printed = printed; left_is = left_is }
+pub data-fault : (plan : RangePlan) (o : CsvReadOptions) (schema : List Entry) (write : CsvWriterOptions) (records : List ℕ) (printed : PrintedRows) (row column : ℕ) (kind : FaultKind)
+    → ArePrintedOf plan o schema write records printed → printed.end ≡ end.Fault row column kind → data_cause o schema records ≡ Some (error.ComputeError (compute_fault.Record row column kind))
+data-fault plan o schema write records printed row column kind is ended = fault-at plan o schema records row column kind is.can.plan_is (sym is.is.end_is ∙ ended)
 
 -- ---- what is printed of an input
 

@@ -1,5 +1,5 @@
 -- The test of whether the cells of a column come back.
-use Rattle.std.proofs.Common.{◌≡◌, ℕ, zero, suc, ◌+◌, ◌<◌, Bool, true, false, ◌||◌, ◌==◌, if◌then◌else◌, List, [], ◌∷◌, ◌++◌, length, drop, None, Some, Option, refl, sym, ◌∙◌, ap, subst, arith, add-one}
+use Rattle.std.proofs.Common.{◌≡◌, ℕ, zero, suc, ◌+◌, ◌<◌, Bool, true, false, ◌==◌, List, [], ◌∷◌, ◌++◌, length, drop, None, Some, Option, refl, sym, ◌∙◌, ap, subst, arith, add-one}
 use Rattle.std.specs.Prelude.{◌↔◌, IsTrue, IfSome, unwrap_or, slice_get}
 use Rattle.std.specs.List.{AllByRecursion, list_any}
 use Rattle.std.proofs.lemmas.Bool.Decides.{nat_tests}
@@ -8,7 +8,7 @@ use Rattle.pl_frame.specs.declared.data_type.DataType.{DataType}
 use Rattle.pl_frame.specs.Columns.{misfits, HoldsType}
 use Rattle.pl_frame.specs.Frame.{Scalar, Truth, Number, Letters, ColumnValue, cell_at}
 use Rattle.pl_text.specs.ValueText.{printed}
-use Rattle.pl_text.specs.FrameText.{WriteOptions, is_bare, quoted, written_value, written_cell}
+use Rattle.pl_text.specs.FrameText.{WriteOptions, written_value, written_cell}
 use Rattle.pl_frame.specs.Types.{is_numeric}
 use Rattle.pl_frame.proofs.CastLaws.{none_misfit}
 use Rattle.pl_write.specs.declared.serializer.Serializer.{Serializer}

@@ -1,8 +1,7 @@
 -- What came of a source, and what was converted of it.
-use Rattle.std.proofs.Common.{◌≡◌, ℕ, true, ◌+◌, ◌<◌, ◌≤◌, ◌^◌, List, [], ◌++◌, length, drop, map, refl, sym, ◌∙◌, ap, subst, inl, inr, arith, append_assoc, length-append, length-drop}
+use Rattle.std.proofs.Common.{◌≡◌, ℕ, true, ◌+◌, ◌≤◌, ◌^◌, List, [], ◌++◌, length, drop, map, refl, sym, ◌∙◌, ap, subst, inl, inr, arith, append_assoc, length-append}
 use Rattle.std.specs.Prelude.{Option, unwrap_or, None, Result, Ok, Err, IfOk, OnOk, IfErr, IsErrOf, MatchResult}
 use Rattle.std.specs.Cow.{cow_slice_items}
-use Rattle.std.specs.List.{concat}
 use Rattle.std.specs.Result.{is_ok}
 use Rattle.std.specs.Option.{option_copied}
 use Rattle.std.specs.Io.KnownBytes.{Consumes, IsAtEnd}
@@ -25,21 +24,21 @@ use Rattle.pl_read.specs.declared.preparing.Prepared.{Prepared}
 use Rattle.pl_read.proofs.PreparingLaws.{IsPrepared-own, can-read}
 use Rattle.pl_read.proofs.SettlingLaws.{late-data}
 use Rattle.pl_rows.specs.declared.plan.RangePlan.{RangePlan}
-use Rattle.pl_regions.specs.declared.front.Front.{Front}
-use Rattle.pl_verbatim.specs.PrintedTexts.{IsFrontPrinted}
+use Rattle.pl_regions.specs.declared.printing.PrintedRows.{PrintedRows}
+use Rattle.pl_regions.specs.Printing.{IsPrinted}
 use Rattle.pl_regions.specs.Intake as intake
 use Rattle.pl_regions.specs.declared.intake.Intake.{Intake}
 use Rattle.pl_write.specs.Options.{cell_options, frame_options}
 use Rattle.pl_write.specs.Printed.{printed_text}
 use Rattle.pl_write.specs.declared.options.CsvWriterOptions.{CsvWriterOptions}
 use Rattle.pl_csv.specs.Converting.{IsPrintedRead}
-use Rattle.pl_csv.specs.Sources.{HasCome, IsUnconverted, IsUnprinted, IsKept, MayReadAhead, IsReadBy, IsReadAhead, IsLeftOf, unread_of}
+use Rattle.pl_csv.specs.Sources.{HasCome, IsUnconverted, IsUnprinted, IsKept, MayReadAhead, IsReadBy, IsReadAhead, ArePrintedOf, unread_of}
 use Rattle.pl_csv.specs.Transcoding.{IsUnread, IsTranscodeFault}
 use Rattle.pl_csv.specs.Views.{SourceView, Views}
 use Rattle.pl_csv.specs.declared.convert.Printed.{Printed}
 use Rattle.pl_csv.specs.declared.convert_source.Unconverted.{Unconverted}
 use Rattle.pl_csv.specs.declared.convert_source.Unconverted.TheVariants as unconverted
-use Rattle.pl_csv.proofs.ConvertLaws.{is-left-of, printed-or-unread}
+use Rattle.pl_csv.proofs.ConvertLaws.{printed-or-unread}
 use Rattle.pl_csv.proofs.TranscodeLaws.{fault_unread}
 
 -- ---- what came
@@ -146,15 +145,12 @@ pub can-ahead : (read : CsvReadOptions) (input : List ℕ) (prepared : Prepared)
 can-ahead read input prepared plan may by is nulls distinct =
     can-read read input (drop prepared.start input) prepared plan may (IsPrepared-own read (settled_schema read input) input prepared by.is) is nulls distinct (omega arith)
 
--- and is left where its front was printed
-pub left-ahead : (read : CsvReadOptions) (write : CsvWriterOptions) (rest kept bytes left : List ℕ) (prepared : Prepared) (plan : RangePlan) (front : Front) → MayRead read → IsReadAhead read rest prepared
+-- and is printed where its rows are
+pub printed-ahead : (read : CsvReadOptions) (write : CsvWriterOptions) (rest kept bytes : List ℕ) (prepared : Prepared) (plan : RangePlan) (printed : PrintedRows) → MayRead read → IsReadAhead read rest prepared
     → IsPlanOf plan read prepared.schema → option_copied plan.options.null_values ≡ prepared.null_values → HaveDistinctNames prepared.schema → kept ≡ drop prepared.start rest
-    → length rest + length bytes ≤ 2 ^ 36
-    → IsFrontPrinted plan prepared.schema (cell_options write.serialize_options) (kept ++ bytes) front.end front.rows (concat (map cow_slice_items front.lines.items)) → left ≡ drop front.end (kept ++ bytes)
-    → IsLeftOf plan read prepared.schema write (kept ++ bytes) front left
-left-ahead read write rest kept bytes left prepared plan front may ahead is nulls distinct kept_is within printed left_is =
+    → IsPrinted plan prepared.schema (cell_options write.serialize_options) (kept ++ bytes) printed → ArePrintedOf plan read prepared.schema write (kept ++ bytes) printed
+printed-ahead read write rest kept bytes prepared plan printed may ahead is nulls distinct kept_is lines =
     let by = ahead.is bytes in
     let records = records-ahead prepared.start rest bytes kept ahead.within kept_is in
     let can = can-ahead read (rest ++ bytes) prepared plan may by is nulls distinct in
-    let small : length (kept ++ bytes) < 2 ^ 64 = omega (arith, ap length records, length-drop prepared.start (rest ++ bytes), length-append rest bytes, within) in
-    is-left-of plan read prepared.schema write (kept ++ bytes) front left (subst (CanReadData plan read prepared.schema) (sym records) can) by.plain small printed left_is
+    record { can = subst (CanReadData plan read prepared.schema) (sym records) can; plain = by.plain; is = lines }

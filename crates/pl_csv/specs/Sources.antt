@@ -1,8 +1,6 @@
 -- The input that a source gives, and what is converted of it as it comes (docs/workers.md, "From a source to regions").
-use Rattle.std.specs.Prelude.{◌≡◌, ◌⊎◌, ℕ, ◌^◌, ◌<◌, ◌≤◌, List, ◌++◌, length, drop, map, Option, IsSome, None}
-use Rattle.std.specs.Cow.{cow_slice_items}
+use Rattle.std.specs.Prelude.{◌≡◌, ◌⊎◌, ℕ, ◌^◌, ◌<◌, ◌≤◌, List, ◌++◌, length, Option, IsSome, None}
 use Rattle.std.specs.Io.KnownBytes.{Consumes, IsAtEnd}
-use Rattle.std.specs.List.{concat}
 use Rattle.pl_frame.specs.Came.{Came}
 use Rattle.pl_frame.specs.Causes.{Rose}
 use Rattle.pl_frame.specs.Schema.{Entry}
@@ -15,9 +13,9 @@ use Rattle.pl_read.specs.Options.{settled_schema}
 use Rattle.pl_read.specs.Preparing.{IsPrepared}
 use Rattle.pl_read.specs.Steps.{MayRead, opening_cause, CanReadData}
 use Rattle.pl_read.specs.declared.preparing.Prepared.{Prepared}
-use Rattle.pl_regions.specs.declared.front.Front.{Front}
+use Rattle.pl_regions.specs.declared.printing.PrintedRows.{PrintedRows}
+use Rattle.pl_regions.specs.Printing.{IsPrinted}
 use Rattle.pl_rows.specs.declared.plan.RangePlan.{RangePlan}
-use Rattle.pl_verbatim.specs.PrintedTexts.{IsFrontPrinted}
 use Rattle.pl_write.specs.Options.{cell_options}
 use Rattle.pl_write.specs.declared.options.CsvWriterOptions.{CsvWriterOptions}
 use Rattle.pl_csv.specs.Converting.{IsRowByRow}
@@ -102,12 +100,10 @@ pub record IsReadAhead (read : CsvReadOptions) (first : List ℕ) (prepared : Pr
   pub within : prepared.start ≤ length first
   pub is : (rest : List ℕ) → IsReadBy read (first ++ rest) prepared
 
--- ---- data whose front was printed
+-- ---- data whose rows were printed
 
--- the front of data was printed, and this is left of it
-pub record IsLeftOf (plan : RangePlan) (read : CsvReadOptions) (schema : List Entry) (write : CsvWriterOptions) (records : List ℕ) (front : Front) (left : List ℕ) : Type 0 where
+-- data can be read row by row, and its rows were printed
+pub record ArePrintedOf (plan : RangePlan) (read : CsvReadOptions) (schema : List Entry) (write : CsvWriterOptions) (records : List ℕ) (printed : PrintedRows) : Type 0 where
   pub can : CanReadData plan read schema records
   pub plain : IsRowByRow read schema
-  pub small : length records < 2 ^ 64
-  pub printed : IsFrontPrinted plan schema (cell_options write.serialize_options) records front.end front.rows (concat (map cow_slice_items front.lines.items))
-  pub left_is : left ≡ drop front.end records
+  pub is : IsPrinted plan schema (cell_options write.serialize_options) records printed

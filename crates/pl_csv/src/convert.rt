@@ -1,10 +1,10 @@
 //! From the bytes of an input to the text of its frame, each piece printed as soon as it is read.
-ghost use Rattle.std.specs.Prelude.{◌≡◌, ◌<◌, ◌≤◌, ℕ, List, None, map, drop, length, slice_index, IfOk, OnOk, IfErr, MatchResult};
+ghost use Rattle.std.specs.Prelude.{◌≡◌, ◌<◌, ◌≤◌, ℕ, List, [], None, map, drop, length, slice_index, IfOk, OnOk, IfErr, MatchResult};
 ghost use Rattle.std.specs.Bool.{OnTrue};
 ghost use Rattle.std.specs.Cow.{cow_slice_items};
 ghost use Rattle.std.specs.List.{list_any};
 ghost use Rattle.pl_cells.specs.InitBuffers.{entry_at};
-ghost use Rattle.pl_frame.specs.Frame.{names_of};
+ghost use Rattle.pl_frame.specs.Frame.{IsFrame, names_of};
 ghost use Rattle.pl_text.specs.FrameText.{text_of_frame};
 ghost use Rattle.pl_options.specs.FirstCause.{IsFault};
 ghost use Rattle.pl_infer.specs.Schemas.{is_categorical};
@@ -14,10 +14,12 @@ ghost use Rattle.pl_read.specs.Preparing.{IsPrepared};
 ghost use Rattle.pl_read.specs.Projection.{projected};
 ghost use Rattle.pl_read.specs.Rows.{data_frame};
 ghost use Rattle.pl_read.specs.Steps.{MayRead, late_cause, data_cause, CanReadData};
+ghost use Rattle.pl_rows.specs.Ranges.{range_frame};
+ghost use Rattle.pl_verbatim.specs.PrintedTexts.{CanPrint};
 ghost use Rattle.pl_write.specs.Options.{frame_options};
 ghost use Rattle.pl_write.specs.Printed.{printed_text};
 ghost use Rattle.pl_csv.specs.Converting.{IsPrintedRead, IsRowByRow};
-ghost use Rattle.pl_csv.specs.Sources.{IsLeftOf};
+ghost use Rattle.pl_csv.specs.Sources.{ArePrintedOf};
 ghost use Rattle.pl_csv.specs.Transcoding.{IsUnread, IsConverted, IsTranscodeFault};
 ghost use Rattle.pl_csv.specs.Views.{sink_view};
 
@@ -31,13 +33,14 @@ use pl_options::read_options::CsvReadOptions;
 use pl_read::checks::check_options;
 use pl_read::preparing::{Prepared, prepare};
 use pl_read::reading::{plan_of, read_prepared};
-use pl_read::workers::{piece_size_for, read_by_workers, worker_count};
-use pl_regions::front::{Front, print_front};
+use pl_read::workers::{piece_size_for, worker_count};
+use pl_regions::printing::{PrintedRows, print_front};
+use pl_rows::columns::read_columns;
 use pl_rows::plan::RangePlan;
 use pl_rows::range::RangeEnd;
 use pl_write::options::CsvWriterOptions;
 use pl_write::printed::write_behind;
-use std::alloc::Global;
+use std::alloc::{AllocError, Global};
 use std::borrow::CowSlice;
 use std::sync::Wait;
 use std::thread::Threads;
@@ -81,44 +84,54 @@ pub(crate) fn is_row_by_row(read: &CsvReadOptions, prepared: &Prepared) -> bool
         && !have_categories(&prepared.schema, &prepared.places)
 }
 
-/// What data is whose front was printed: what is left of it is read to columns. Refuses the first cause against it, and want of memory.
-pub(crate) fn read_left<'a, W: Threads + Wait + Sync>(
-    rt: &W,
+// A frame of no rows, with the columns that are read. Refuses only want of memory.
+fn frame_of_none(
     alloc: Global,
-    workers: usize,
-    front: Front<'a>,
-    left: &[u8],
+    schema: &Schema,
+    plan: &RangePlan<'_>,
+) -> Result<DataFrame, AllocError>
+    requires can { CanPrint plan.now schema.now }
+    requires frame { IsFrame (range_frame plan.now schema.now []) }
+    ensures { IfOk result (λ frame. frame ≡ range_frame plan.now schema.now []) }
+{
+    let read = read_columns(alloc, schema, &[], plan)?;
+    Ok(DataFrame::of_distinct(read.columns))
+}
+
+/// What data is whose rows were printed. Refuses the first cause against it, and want of memory.
+pub(crate) fn read_printed<'a>(
+    alloc: Global,
+    rows: PrintedRows<'a>,
     read: &CsvReadOptions,
     schema: &Schema,
     plan: &RangePlan<'_>,
     write: &CsvWriterOptions,
 ) -> PolarsResult<Printed<'a>>
-    requires workers { 0 < workers }
-    requires left { (records : List ℕ) × IsLeftOf plan.now read.now schema.now write.now records front left.now }
-    ensures text { (records : List ℕ) → IsLeftOf plan.now read.now schema.now write.now records front.entry left.now
+    requires printed { (records : List ℕ) × ArePrintedOf plan.now read.now schema.now write.now records rows }
+    ensures text { (records : List ℕ) → ArePrintedOf plan.now read.now schema.now write.now records rows.entry
         → IfOk result (λ printed. printed_text (frame_options write.now) (names_of printed.rest) (map cow_slice_items printed.lines.items) printed.rest
         ≡ text_of_frame (frame_options write.now) (data_frame read.now schema.now records)) }
-    ensures sound { (records : List ℕ) → IsLeftOf plan.now read.now schema.now write.now records front.entry left.now → OnOk result (data_cause read.now schema.now records ≡ None) }
-    ensures refused { (records : List ℕ) → IsLeftOf plan.now read.now schema.now write.now records front.entry left.now → IfErr result (IsFault (data_cause read.now schema.now records)) }
+    ensures sound { (records : List ℕ) → ArePrintedOf plan.now read.now schema.now write.now records rows.entry → OnOk result (data_cause read.now schema.now records ≡ None) }
+    ensures refused { (records : List ℕ) → ArePrintedOf plan.now read.now schema.now write.now records rows.entry → IfErr result (IsFault (data_cause read.now schema.now records)) }
 {
-    let size = read.chunk_size;
-    let Ok(rest) = read_by_workers(rt, alloc, &OpenGate, workers, schema, left, plan, size) else {
-        return Err(PolarsError::OutOfMemory);
-    };
-    match rest.end {
+    match rows.end {
         RangeEnd::Fault { row, column, kind } => {
-            let row = front.rows + row;
             Err(PolarsError::ComputeError(ComputeFault::Record { row, column, kind }))
         }
-        RangeEnd::Closed | RangeEnd::Open => Ok(Printed {
-            lines: front.lines,
-            rest: DataFrame::of_distinct(rest.columns),
-        }),
+        RangeEnd::Closed | RangeEnd::Open => {
+            let Ok(rest) = frame_of_none(alloc, schema, plan) else {
+                return Err(PolarsError::OutOfMemory);
+            };
+            Ok(Printed {
+                lines: rows.lines,
+                rest,
+            })
+        }
     }
 }
 
-// What data is, read and printed by workers: each prints the rows of the regions that it takes, and what is left behind the first row
-// that is not printed is read to columns. Refuses the first cause against it, and want of memory.
+// What data is, read and printed by workers, each of which prints the rows of the regions that it takes. Refuses the first cause against it, and
+// want of memory.
 fn print_data<'a, W: Threads + Wait + Sync>(
     rt: &W,
     alloc: Global,
@@ -139,11 +152,10 @@ fn print_data<'a, W: Threads + Wait + Sync>(
     let options = &write.serialize_options;
     let size = piece_size_for(read.chunk_size, plan.projection.places.len());
     let workers = worker_count(n_threads).min((records.len() / size).saturating_add(1));
-    let Ok(front) = print_front(rt, alloc, workers, records, schema, plan, options, size) else {
-        return Err(PolarsError::OutOfMemory);
-    };
-    let left = &records[front.end..];
-    read_left(rt, alloc, workers, front, left, read, schema, plan, write)
+    match print_front(rt, alloc, workers, records, schema, plan, options, size) {
+        Ok(rows) => read_printed(alloc, rows, read, schema, plan, write),
+        Err(_) => Err(PolarsError::OutOfMemory),
+    }
 }
 
 // What an input is, of which it is known what its rows are read by.

@@ -1,12 +1,12 @@
 //! From the bytes of a source to the text of the frame that they mean: where workers may begin before all bytes came, they do.
-ghost use Rattle.std.specs.Prelude.{◌≡◌, ℕ, ◌++◌, ◌^◌, ◌≤◌, List, length, true, IfOk, OnOk, IfErr, IfSome};
+ghost use Rattle.std.specs.Prelude.{◌≡◌, ℕ, ◌^◌, ◌≤◌, List, length, true, IfOk, OnOk, IfErr, IfSome};
 ghost use Rattle.std.specs.Bool.{OnTrue};
 ghost use Rattle.std.specs.Io.KnownBytes.{IsAtEnd};
 ghost use Rattle.pl_csv.specs.Converting.{IsPrintedRead};
 ghost use Rattle.pl_csv.specs.Sources.{HasCome, IsSourceConverted, IsUnconverted, MayReadAhead, IsReadAhead, IsKept, IsUnprinted, unread_of};
 ghost use Rattle.pl_csv.specs.Views.{SourceView, source_view, views};
 
-use crate::convert::{Printed, convert, is_row_by_row, read_left, write_printed};
+use crate::convert::{Printed, convert, is_row_by_row, read_printed, write_printed};
 use crate::read_all::{LIMIT, ReadAllFault};
 use pl_frame::error::PolarsError;
 use pl_frame::sink::Sink;
@@ -143,6 +143,7 @@ fn print_ahead<'a, W: Threads + Wait + Sync, So: Source>(
     rt: &W,
     alloc: Global,
     cells: &'a [OnceLock<Vec<u8>>],
+    last: &'a OnceLock<Vec<u8>>,
     intake: &mut Intake,
     prepared: &Prepared,
     source: &mut So,
@@ -168,23 +169,13 @@ fn print_ahead<'a, W: Threads + Wait + Sync, So: Source>(
     let options = &write.serialize_options;
     let workers = worker_count(prepared.n_threads);
     let size = piece_size_for(read.chunk_size, plan.projection.places.len());
-    let arrived = match print_arriving(
-        rt, alloc, workers, cells, intake, source, LIMIT, schema, &plan, options, size,
+    let rows = match print_arriving(
+        rt, alloc, workers, cells, last, intake, source, LIMIT, schema, &plan, options, size,
     ) {
-        Ok(arrived) => arrived,
+        Ok(rows) => rows,
         Err(fault) => return Err(unread(fault)),
     };
-    match read_left(
-        rt,
-        alloc,
-        workers,
-        arrived.front,
-        &arrived.left,
-        read,
-        schema,
-        &plan,
-        write,
-    ) {
+    match read_printed(alloc, rows, read, schema, &plan, write) {
         Ok(printed) => Ok(printed),
         Err(fault) => Err(Unconverted::Polars(fault)),
     }
@@ -219,7 +210,10 @@ fn convert_ahead<W: Threads + Wait + Sync, So: Source, S: Sink>(
     let Ok(cells) = make_cells(alloc) else {
         return Err(Unconverted::Polars(PolarsError::OutOfMemory));
     };
-    let printed = print_ahead(rt, alloc, &cells, intake, prepared, source, read, write)?;
+    let last = OnceLock::new();
+    let printed = print_ahead(
+        rt, alloc, &cells, &last, intake, prepared, source, read, write,
+    )?;
     match write_printed(rt, alloc, &printed, read, write, sink) {
         Ok(()) => Ok(()),
         Err(fault) => Err(Unconverted::Polars(fault)),

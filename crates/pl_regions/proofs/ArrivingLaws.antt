@@ -2,7 +2,6 @@
 use Rattle.std.proofs.Common.{◌≡◌, ℕ, ◌+◌, ◌-◌, ◌<◌, ◌≤◌, List, [], ◌∷◌, ◌++◌, length, take, drop, get_or, map, min, Option, Bor, Global, refl, sym, ◌∙◌, ap, subst, arith, add-one, length-append, length-take, length-drop, append_assoc, append-nil, drop-cons}
 use Rattle.std.specs.Prelude.{Vec, slice_range, true}
 use Rattle.std.specs.Io.KnownBytes.{IsAtEnd}
-use Rattle.std.specs.Cow.{cow_slice_items}
 use Rattle.std.specs.List.{concat}
 use Rattle.std.specs.Sync.OnceLock.{Named}
 use Rattle.std.specs.declared.sync.OnceToken.{OnceToken}
@@ -13,12 +12,12 @@ use Rattle.pl_frame.specs.Schema.{Entry}
 use Rattle.pl_text.specs.FrameText.{WriteOptions}
 use Rattle.pl_frame.proofs.Known.{Consumes-append}
 use Rattle.pl_rows.specs.declared.plan.RangePlan.{RangePlan}
-use Rattle.pl_verbatim.specs.PrintedTexts.{IsFrontPrinted}
 use Rattle.pl_regions.specs.Arriving.{AreSetIn, HasArrived}
 use Rattle.pl_regions.specs.Intake.{HasGiven, HasGainedAll}
 use Rattle.pl_regions.proofs.IntakeLaws.{HasGiven-nothing}
-use Rattle.pl_regions.specs.declared.arriving.Arrived.{Arrived}
+use Rattle.pl_regions.specs.Printing.{IsPrinted}
 use Rattle.pl_regions.specs.declared.intake.Intake.{Intake}
+use Rattle.pl_regions.specs.declared.printing.PrintedRows.{PrintedRows}
 
 -- what shows the text of a cell
 abbrev pub Token : Type 0
@@ -226,19 +225,26 @@ pub HasGiven-first : (before now : Option (List ℕ)) (limit : ℕ) (intake next
 HasGiven-first before now limit intake next old tokens none within ended given =
     given before intake (HasGiven-nothing before limit intake intake (concat (values_of old)) refl within ended (sym (ap (λ l. concat (values_of l) ++ intake.rest.items) none)))
 
--- all bytes came, and the front of them was printed
-pub HasArrived-printed : (plan : RangePlan) (schema : List Entry) (o : WriteOptions) (before now after : Option (List ℕ)) (limit : ℕ) (intake next last : Intake) (front rest : List ℕ) (arrived : Arrived)
-    → HasGiven before now limit intake next front → HasGainedAll now after limit next last → rest ≡ last.rest.items
-    → IsFrontPrinted plan schema o (front ++ rest) arrived.front.end arrived.front.rows (concat (map cow_slice_items arrived.front.lines.items))
-    → arrived.left.items ≡ drop arrived.front.end (front ++ rest) → HasArrived plan schema o before after limit intake arrived
-HasArrived-printed plan schema o before now after limit intake next last front rest arrived one two kept printed left =
-    let all : front ++ rest ≡ intake.rest.items ++ (one.bytes ++ two.bytes) =
-    ap (λ l. front ++ l) (kept ∙ two.are) ∙ sym (append_assoc front next.rest.items two.bytes) ∙ ap (λ l. l ++ two.bytes) (sym one.are) ∙ append_assoc intake.rest.items one.bytes two.bytes in
-    record {
-      bytes = one.bytes ++ two.bytes;
-      came = Consumes-append before now after one.bytes two.bytes one.gained.came two.gained.came;
-      end = two.end;
-      within = omega (arith, one.gained.size_is, two.gained.size_is, two.gained.within, length-append one.bytes two.bytes);
-      front = subst (λ text. IsFrontPrinted plan schema o text arrived.front.end arrived.front.rows (concat (map cow_slice_items arrived.front.lines.items))) all printed;
-      left = left ∙ ap (drop arrived.front.end) all;
-    }
+-- all bytes came
+pub came-whole : (before now after : Option (List ℕ)) (limit : ℕ) (intake next last : Intake) (front rest : List ℕ) → (one : HasGiven before now limit intake next front) → (two : HasGainedAll now after limit next last) → rest ≡ last.rest.items
+    → front ++ rest ≡ intake.rest.items ++ (one.bytes ++ two.bytes)
+came-whole before now after limit intake next last front rest one two kept =
+    ap (λ l. front ++ l) (kept ∙ two.are) ∙ sym (append_assoc front next.rest.items two.bytes) ∙ ap (λ l. l ++ two.bytes) (sym one.are) ∙ append_assoc intake.rest.items one.bytes two.bytes
+
+-- it is no longer than the limit
+pub came-small : (before now after : Option (List ℕ)) (limit : ℕ) (intake next last : Intake) (front rest : List ℕ) → HasGiven before now limit intake next front → HasGainedAll now after limit next last → rest ≡ last.rest.items
+    → length intake.rest.items ≤ intake.size → length (front ++ rest) ≤ limit
+came-small before now after limit intake next last front rest one two kept held =
+    let all = came-whole before now after limit intake next last front rest one two kept in
+    omega (arith, ap length all, length-append intake.rest.items (one.bytes ++ two.bytes), length-append one.bytes two.bytes, one.gained.size_is, two.gained.size_is, two.gained.within, held)
+
+-- and its rows were printed
+pub HasArrived-printed : (plan : RangePlan) (schema : List Entry) (o : WriteOptions) (before now after : Option (List ℕ)) (limit : ℕ) (intake next last : Intake) (front rest : List ℕ) (printed : PrintedRows)
+    → HasGiven before now limit intake next front → HasGainedAll now after limit next last → rest ≡ last.rest.items → IsPrinted plan schema o (front ++ rest) printed → HasArrived plan schema o before after limit intake printed
+HasArrived-printed plan schema o before now after limit intake next last front rest printed one two kept is = record {
+  bytes = one.bytes ++ two.bytes;
+  came = Consumes-append before now after one.bytes two.bytes one.gained.came two.gained.came;
+  end = two.end;
+  within = omega (arith, one.gained.size_is, two.gained.size_is, two.gained.within, length-append one.bytes two.bytes);
+  is = subst (λ text. IsPrinted plan schema o text printed) (came-whole before now after limit intake next last front rest one two kept) is;
+}

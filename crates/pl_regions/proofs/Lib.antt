@@ -1,3 +1,4 @@
 pub mod RegionLaws
 pub mod ArrivingLaws
 pub mod IntakeLaws
+pub mod PrintingLaws

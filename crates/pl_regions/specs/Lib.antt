@@ -1,3 +1,4 @@
 pub mod Regions
+pub mod Printing
 pub mod Intake
 pub mod Arriving

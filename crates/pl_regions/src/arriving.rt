@@ -1,5 +1,5 @@
 //! The records of a source, read and printed by workers: each text is printed while those behind it are read.
-ghost use Rattle.std.specs.Prelude.{◌≡◌, ◌++◌, ◌<◌, ◌≤◌, ℕ, List, Option, true, All, IfOk, OnOk, IfSome, IsErrOf, drop, length, map};
+ghost use Rattle.std.specs.Prelude.{◌≡◌, ◌++◌, ◌<◌, ◌≤◌, ℕ, List, Option, true, All, IfOk, OnOk, IsErrOf, drop, length, map};
 ghost use Rattle.pl_regions.specs.declared.intake.Intake.{Intake};
 ghost use Rattle.std.specs.Io.KnownBytes.{IsAtEnd};
 ghost use Rattle.std.specs.List.{concat};
@@ -11,10 +11,12 @@ ghost use Rattle.std.specs.Cow.{cow_slice_items};
 ghost use Rattle.pl_verbatim.specs.Verbatim.{IsVerbatimOf};
 ghost use Rattle.pl_regions.specs.Arriving.{AreSetIn, IsTaken, HasArrived};
 ghost use Rattle.pl_regions.specs.Intake.{HasGiven, HasStopped, IsPastLimit};
-ghost use Rattle.pl_regions.specs.Regions.{ArePlaced, IsRegionOf};
+ghost use Rattle.pl_regions.specs.Printing.{IsLeftBehind, IsPrinted};
+ghost use Rattle.pl_regions.specs.Regions.{IsRegionOf};
 
 use crate::front::{Front, front_of, make_room};
 use crate::intake::Intake;
+use crate::printing::{PrintedRows, print_rest};
 use crate::region::Region;
 use crate::taken::Taken;
 use crate::taking::{empty_places, put_regions};
@@ -31,11 +33,11 @@ use std::sync::{Mutex, OnceLock, OnceToken, Wait};
 use std::thread;
 use std::thread::Threads;
 
-/// What came of a source and was printed: the front of the records, and what is left of them behind it.
+// What came of a source and was printed: the front of the records, and what is left of them behind it.
 #[derive(Drop)]
-pub struct Arrived<'a> {
-    pub front: Front<'a>,
-    pub left: Vec<u8>,
+struct Arrived<'a> {
+    front: Front<'a>,
+    left: Vec<u8>,
 }
 
 // The texts of the first cells, which these tokens show.
@@ -360,18 +362,50 @@ fn read_and_print<'a, W: Threads + Wait + Sync, So: Source>(
     Ok((tokens, all))
 }
 
+// Prints what is left of what came, which is put into a cell of its own. Refuses want of memory, and so where the cell holds something.
+fn print_left<'a, W: Threads + Wait + Sync>(
+    rt: &W,
+    alloc: Global,
+    workers: usize,
+    last: &'a OnceLock<Vec<u8>>,
+    arrived: Arrived<'a>,
+    schema: &Schema,
+    plan: &RangePlan<'_>,
+    options: &SerializeOptions,
+    piece_size: usize,
+) -> Result<PrintedRows<'a>, AllocError>
+    requires workers { 0 < workers }
+    requires can { CanPrint plan.now schema.now }
+    requires last { plan.now.last ≡ true }
+    requires size { 0 < piece_size }
+    requires left { (records : List ℕ) × IsLeftBehind plan.now schema.now (cell_options options.now) records arrived.front arrived.left.items }
+    ensures { (records : List ℕ) → IsLeftBehind plan.now schema.now (cell_options options.now) records arrived.entry.front arrived.entry.left.items
+        → IfOk result (IsPrinted plan.now schema.now (cell_options options.now) records) }
+{
+    let Arrived { front, left } = arrived;
+    let Ok(token) = last.set(rt, left) else {
+        return Err(AllocError);
+    };
+    let left = last.value(&token).as_slice();
+    print_rest(
+        rt, alloc, workers, front, left, schema, plan, options, piece_size,
+    )
+}
+
 /// Reads all that is left of a source, and prints the records meanwhile: the caller reads text by text, each up to where rows seem to begin,
 /// and the other workers print each as soon as it is read, as the caller does once all are read. What was kept of the source before stands in
-/// front of them. The front of the records is what was printed without a gap, as by `print_front`; what is left behind it is copied.
+/// front of them. What is not printed so without a gap is copied into one cell more, the last one, and printed as by `print_rest`. The answer is
+/// that of `print_front` for the records.
 ///
 /// The first eight texts are read before workers start. Where a source has no more, there are no more workers than texts.
 ///
-/// Refuses as `read_all` does, with those bytes that came before counted in.
+/// Refuses as `read_all` does, with those bytes that came before counted in. A last cell that holds something already counts as out of memory.
 pub fn print_arriving<'a, W: Threads + Wait + Sync, So: Source>(
     rt: &W,
     alloc: Global,
     workers: usize,
     cells: &'a [OnceLock<Vec<u8>>],
+    last: &'a OnceLock<Vec<u8>>,
     intake: &mut Intake,
     source: &mut So,
     limit: usize,
@@ -379,10 +413,13 @@ pub fn print_arriving<'a, W: Threads + Wait + Sync, So: Source>(
     plan: &RangePlan<'_>,
     options: &SerializeOptions,
     piece_size: usize,
-) -> Result<Arrived<'a>, ReadAllFault>
+) -> Result<PrintedRows<'a>, ReadAllFault>
+    requires workers { 0 < workers }
     requires can { CanPrint plan.now schema.now }
+    requires last { plan.now.last ≡ true }
     requires size { 0 < piece_size }
     requires within { intake.old.size ≤ limit }
+    requires held { length intake.old.rest.items ≤ intake.old.size }
     requires ended { intake.old.is_ended ≡ true → IsAtEnd (So.left source.old) }
     ensures arrived { IfOk result (HasArrived plan.now schema.now (cell_options options.now) (So.left source.old) (So.left source.new) limit intake.old) }
     ensures too_long { IsErrOf result ReadAllFault.TooLong → IsPastLimit (So.left source.old) (So.left source.new) limit intake.old.size }
@@ -400,8 +437,13 @@ pub fn print_arriving<'a, W: Threads + Wait + Sync, So: Source>(
     )?;
     intake.read_on(source, limit)?;
     let rest = &intake.rest;
-    match front_arrived(alloc, cells, &tokens, all, rest, schema, plan, options) {
-        Ok(arrived) => Ok(arrived),
+    let Ok(arrived) = front_arrived(alloc, cells, &tokens, all, rest, schema, plan, options) else {
+        return Err(ReadAllFault::OutOfMemory);
+    };
+    match print_left(
+        rt, alloc, workers, last, arrived, schema, plan, options, piece_size,
+    ) {
+        Ok(printed) => Ok(printed),
         Err(_) => Err(ReadAllFault::OutOfMemory),
     }
 }

@@ -1,12 +1,11 @@
 //! The front of the data, read and printed by workers.
-ghost use Rattle.std.specs.Prelude.{◌≡◌, ◌<◌, IfOk, map};
+ghost use Rattle.std.specs.Prelude.{◌≡◌, ◌<◌, [], IfOk, map};
 ghost use Rattle.std.specs.Cow.{cow_slice_items};
 ghost use Rattle.std.specs.List.{concat};
 ghost use Rattle.pl_write.specs.Options.{cell_options};
 ghost use Rattle.pl_verbatim.specs.PrintedTexts.{CanPrint, IsFrontPrinted};
 ghost use Rattle.pl_regions.specs.Regions.{ArePlaced};
 
-use crate::cutting::cut_regions;
 use crate::region::Region;
 use crate::taking::print_regions;
 use pl_frame::schema::Schema;
@@ -26,6 +25,21 @@ pub struct Front<'a> {
     pub lines: Vec<CowSlice<'a, u8, Global>>,
 }
 
+impl<'a> Front<'a> {
+    /// Of which nothing was printed.
+    pub(crate) fn new(alloc: Global) -> Front<'a>
+        ensures end { result.end ≡ 0 }
+        ensures rows { result.rows ≡ 0 }
+        ensures lines { result.lines.items ≡ [] }
+    {
+        Front {
+            end: 0,
+            rows: 0,
+            lines: Vec::new(alloc),
+        }
+    }
+}
+
 // So much memory is taken and given back before the first piece.
 const ROOM: usize = 1 << 22;
 
@@ -35,41 +49,6 @@ const ROOM: usize = 1 << 22;
 pub(crate) fn make_room(alloc: Global) {
     let mut room: Vec<u8> = Vec::new(alloc);
     let _ = room.reserve(ROOM);
-}
-
-/// Reads and prints the records of a text by so many workers, which take regions of about so many bytes as they come, as far as pieces
-/// end where an item does, no row has a fault and memory suffices: from the front on without a gap. Most often that is all of the text
-/// but for a last record without a line end. Its last byte counts as the last of the input. Refuses only want of memory.
-pub fn print_front<'a, W: Threads + Sync>(
-    rt: &W,
-    alloc: Global,
-    workers: usize,
-    records: &'a [u8],
-    schema: &Schema,
-    plan: &RangePlan<'_>,
-    options: &SerializeOptions,
-    piece_size: usize,
-) -> Result<Front<'a>, AllocError>
-    requires workers { 0 < workers }
-    requires can { CanPrint plan.now schema.now }
-    requires size { 0 < piece_size }
-    ensures { IfOk result (λ front. IsFrontPrinted plan.now schema.now (cell_options options.now) records.now front.end front.rows (concat (map cow_slice_items front.lines.items))) }
-{
-    make_room(alloc);
-    let texts = cut_regions(
-        rt,
-        alloc,
-        workers,
-        piece_size,
-        records,
-        &plan.dialect,
-        plan.projection.width,
-    )?;
-    let verbatim = Verbatim::of(alloc, schema, plan, options)?;
-    let places = print_regions(
-        rt, alloc, workers, &texts, schema, plan, options, &verbatim, piece_size,
-    )?;
-    front_of(alloc, &texts, places, schema, plan, options)
 }
 
 /// The front of texts that stand one behind the other, of the regions that were printed of them: as far as each is there and was printed to
@@ -86,11 +65,7 @@ pub(crate) fn front_of<'a>(
     requires placed { ArePlaced plan.now schema.now (cell_options options.now) (map (λ text. text.now) texts.now) places.items }
     ensures { IfOk result (λ front. IsFrontPrinted plan.now schema.now (cell_options options.now) (concat (map (λ text. text.now) texts.now)) front.end front.rows (concat (map cow_slice_items front.lines.items))) }
 {
-    let mut front = Front {
-        end: 0,
-        rows: 0,
-        lines: Vec::new(alloc),
-    };
+    let mut front = Front::new(alloc);
     for place in places {
         let Some(region) = place else {
             break;
@@ -110,4 +85,27 @@ pub(crate) fn front_of<'a>(
         }
     }
     Ok(front)
+}
+
+/// The front of texts that stand one behind the other: workers take them as they come, read the rows of each and print them. Refuses only want
+/// of memory.
+pub(crate) fn print_texts<'a, W: Threads + Sync>(
+    rt: &W,
+    alloc: Global,
+    workers: usize,
+    texts: &[&'a [u8]],
+    schema: &Schema,
+    plan: &RangePlan<'_>,
+    options: &SerializeOptions,
+    piece_size: usize,
+) -> Result<Front<'a>, AllocError>
+    requires can { CanPrint plan.now schema.now }
+    requires size { 0 < piece_size }
+    ensures { IfOk result (λ front. IsFrontPrinted plan.now schema.now (cell_options options.now) (concat (map (λ text. text.now) texts.now)) front.end front.rows (concat (map cow_slice_items front.lines.items))) }
+{
+    let verbatim = Verbatim::of(alloc, schema, plan, options)?;
+    let places = print_regions(
+        rt, alloc, workers, texts, schema, plan, options, &verbatim, piece_size,
+    )?;
+    front_of(alloc, texts, places, schema, plan, options)
 }

@@ -2,13 +2,17 @@
 ghost use Rattle.std.specs.Prelude.{◌≡◌, ◌++◌, ◌-◌, ◌+◌, ◌<◌, ◌≤◌, [], false, true, drop, length, slice_range, take, IfOk, OnOk, IfSome, IsErrOf};
 ghost use Rattle.std.specs.Io.KnownBytes.{Consumes, IsAtEnd};
 ghost use Rattle.pl_frame.specs.Causes.{Rose};
+ghost use Rattle.pl_frame.specs.Dialect.{IsDialect};
+ghost use Rattle.pl_scan.specs.Dialect.{marks_of, comment_of};
 ghost use Rattle.pl_regions.specs.Intake.{HasGiven, HasGainedAll, HasStopped, IsPastLimit};
 
 use crate::cutting::find_row;
+use crate::ranges::state_behind;
 use memchr::memrchr;
 use pl_frame::read_all::{BLOCK_SIZE, ReadAllFault};
 use pl_frame::source::Source;
 use pl_scan::dialect::Dialect;
+use pl_scan::summary::LineState;
 use std::alloc::{AllocError, Global};
 
 // How far before the end of a text rows are looked for.
@@ -32,21 +36,73 @@ struct Filled {
     is_ended: bool,
 }
 
-// Where a text is cut: where rows seem to begin near its end, or else behind its last line end.
-fn find_cut(text: &[u8], dialect: &Dialect<'_>, width: usize) -> Option<usize>
+// Where a text is to be cut: how far it was looked through, and the state there.
+#[derive(Clone, Copy)]
+struct Scanned {
+    to: usize,
+    state: LineState,
+}
+
+impl Scanned {
+    // The place, where an item begins there.
+    fn cut(&self) -> Option<usize>
+        ensures { IfSome result (λ cut. cut ≤ self.now.to) }
+    {
+        match self.state {
+            LineState::Start if self.to > 0 => Some(self.to),
+            _ => None,
+        }
+    }
+}
+
+// Where rows seem to begin near the end of a text.
+fn guess_cut(text: &[u8], dialect: &Dialect<'_>, width: usize) -> Option<usize>
     ensures { IfSome result (λ cut. cut ≤ length text.now) }
 {
     let near = NEAR.min(text.len() / 2);
     let from = text.len() - near;
     if from < text.len() {
-        if let Some(cut) = find_row(text, from, near, dialect, width) {
-            return Some(cut);
+        return find_row(text, from, near, dialect, width);
+    }
+    None
+}
+
+// Looks on through a text up to its last line end.
+fn scan_on(text: &[u8], scanned: Scanned, dialect: &Dialect<'_>) -> Scanned
+    requires dialect { IsDialect (marks_of dialect.now) (comment_of dialect.now) }
+    requires within { scanned.to ≤ length text.now }
+    ensures { result.to ≤ length text.now }
+{
+    let left = &text[scanned.to..];
+    let Some(at) = memrchr(dialect.eol_char, left) else {
+        return scanned;
+    };
+    match state_behind(&left[..at + 1], scanned.state, dialect) {
+        Some(state) => {
+            Scanned {
+                to: scanned.to + at + 1,
+                state,
+            }
+        }
+        None => scanned,
+    }
+}
+
+// Looks for the place where a text is to be cut: where rows seem to begin near its end, or else behind its last line end.
+fn look_on(text: &[u8], scanned: Scanned, dialect: &Dialect<'_>, width: usize) -> Scanned
+    requires dialect { IsDialect (marks_of dialect.now) (comment_of dialect.now) }
+    requires within { scanned.to ≤ length text.now }
+    ensures { result.to ≤ length text.now }
+{
+    if scanned.to == 0 {
+        if let Some(to) = guess_cut(text, dialect, width) {
+            return Scanned {
+                to,
+                state: LineState::Start,
+            };
         }
     }
-    match memrchr(dialect.eol_char, text) {
-        Some(at) => Some(at + 1),
-        None => None,
-    }
+    scan_on(text, scanned, dialect)
 }
 
 // Writes bytes over the front of a text.
@@ -185,6 +241,7 @@ impl Intake {
         dialect: &Dialect<'_>,
         width: usize,
     ) -> Result<Vec<u8>, ReadAllFault>
+        requires dialect { IsDialect (marks_of dialect.now) (comment_of dialect.now) }
         requires within { self.old.size ≤ limit }
         ensures given { IfOk result (λ text. HasGiven (So.left source.old) (So.left source.new) limit self.old self.new text.items) }
         ensures too_long { IsErrOf result ReadAllFault.TooLong → IsPastLimit (So.left source.old) (So.left source.new) limit self.old.size }
@@ -196,6 +253,10 @@ impl Intake {
             return Err(ReadAllFault::OutOfMemory);
         };
         let mut from = self.rest.len();
+        let mut scanned = Scanned {
+            to: 0,
+            state: LineState::Start,
+        };
         self.rest.clear();
         self.is_ended = false;
         for _ in 0..TIMES {
@@ -206,7 +267,8 @@ impl Intake {
             if filled.is_ended {
                 return Ok(text);
             }
-            if let Some(cut) = find_cut(&text, dialect, width) {
+            scanned = look_on(&text, scanned, dialect, width);
+            if let Some(cut) = scanned.cut() {
                 if self.rest.extend_from_slice(&text[cut..]).is_err() {
                     return Err(ReadAllFault::OutOfMemory);
                 }
@@ -214,7 +276,7 @@ impl Intake {
                 return Ok(text);
             }
             from = filled.to;
-            if text.resize(from.saturating_add(size), 0).is_err() {
+            if text.resize(from.saturating_add(size.max(from)), 0).is_err() {
                 return Err(ReadAllFault::OutOfMemory);
             }
         }

@@ -5,6 +5,8 @@ pub mod arriving;
 mod cutting;
 pub mod front;
 pub mod intake;
+pub mod printing;
+mod ranges;
 mod region;
 mod taken;
 mod taking;

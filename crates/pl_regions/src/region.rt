@@ -2,21 +2,26 @@
 ghost use Rattle.std.specs.Prelude.{◌≡◌, ◌⊎◌, ◌<◌, ◌≤◌, [], length, take};
 ghost use Rattle.std.specs.Bool.{OnTrue};
 ghost use Rattle.std.specs.Cow.{cow_slice_items};
+ghost use Rattle.pl_frame.specs.Dialect.{IsDialect};
+ghost use Rattle.pl_scan.specs.Dialect.{marks_of, comment_of};
 ghost use Rattle.pl_write.specs.Options.{cell_options};
 ghost use Rattle.pl_verbatim.specs.PrintedTexts.{CanPrint};
 ghost use Rattle.pl_verbatim.specs.Verbatim.{IsVerbatimOf};
 ghost use Rattle.pl_regions.specs.Regions.{IsOpenPrinted, IsRegionPrinted};
 
-use pl_board::cutting::piece_end;
+use crate::ranges::range_len;
 use pl_frame::schema::Schema;
 use pl_rows::plan::RangePlan;
 use pl_rows::whole_pieces::read_piece_frame;
-use pl_scan::line_ends::CountLines;
+use pl_scan::dialect::Dialect;
 use pl_verbatim::verbatim::{Verbatim, VerbatimFront};
 use pl_write::options::SerializeOptions;
 use pl_write::row_printer::RowPrinter;
 use std::alloc::Global;
 use std::borrow::CowSlice;
+
+// How long a piece is behind rows that were copied.
+const SHORT: usize = 1 << 12;
 
 /// A region of the data, by its place among all, and what was printed of it: the lines of so many rows, which are those of so many of
 /// its bytes. Where the lines are these bytes, they are lent.
@@ -83,6 +88,7 @@ impl<'a> OpenRegion<'a> {
         requires verbatim { IsVerbatimOf plan.now schema.now (cell_options options.now) verbatim.now }
         requires printed { IsOpenPrinted plan.now schema.now (cell_options options.now) self.old }
         ensures text { self.new.text.now ≡ self.old.text.now }
+        ensures after { self.old.end ≤ self.new.end }
         ensures printed { IsOpenPrinted plan.now schema.now (cell_options options.now) self.new }
     {
         let copied = verbatim.copy(self.text, self.end, &mut self.lines);
@@ -127,22 +133,24 @@ impl<'a> OpenRegion<'a> {
         true
     }
 
-    // The end of the next piece: all that is left is one, where it is shorter than two.
-    fn next_end(&self, piece_size: usize, lines: &CountLines) -> usize
-        requires some { 0 < piece_size }
+    // The end of the next piece, of about this size: all that is left is one, where it is shorter than two.
+    fn next_end(&self, size: usize, dialect: &Dialect<'_>) -> usize
+        requires dialect { IsDialect (marks_of dialect.now) (comment_of dialect.now) }
+        requires some { 0 < size }
         requires left { self.now.end < length self.now.text.now }
         ensures after { self.now.end < result }
         ensures within { result ≤ length self.now.text.now }
     {
-        if self.text.len() - self.end < piece_size.saturating_mul(2) {
-            self.text.len()
-        } else {
-            piece_end(self.text, self.end, piece_size, lines)
+        let left = &self.text[self.end..];
+        if left.len() < size.saturating_mul(2) {
+            return self.text.len();
         }
+        self.end + range_len(left, size, dialect)
     }
 
     // Reads the region piece by piece, and prints the rows of each, as far as pieces end where an item does, no row has a fault and
-    // memory suffices.
+    // memory suffices. Behind a piece rows are copied again. Pieces are short where rows were copied in front of them, and longer the less
+    // is copied behind them.
     fn print(
         &mut self,
         alloc: Global,
@@ -150,21 +158,32 @@ impl<'a> OpenRegion<'a> {
         schema: &Schema,
         plan: &RangePlan<'_>,
         options: &SerializeOptions,
+        verbatim: &Verbatim,
         piece_size: usize,
     )
         requires can { CanPrint plan.now schema.now }
+        requires verbatim { IsVerbatimOf plan.now schema.now (cell_options options.now) verbatim.now }
         requires size { 0 < piece_size }
         requires printed { IsOpenPrinted plan.now schema.now (cell_options options.now) self.old }
         ensures text { self.new.text.now ≡ self.old.text.now }
         ensures printed { IsOpenPrinted plan.now schema.now (cell_options options.now) self.new }
     {
-        let dialect = plan.dialect;
-        let lines = CountLines::new(dialect.quote_char, dialect.eol_char);
+        let mut size = if self.end == 0 {
+            piece_size
+        } else {
+            piece_size.min(SHORT)
+        };
         while self.end < self.text.len() {
-            let to = self.next_end(piece_size, &lines);
+            let to = self.next_end(size, &plan.dialect);
             if !self.print_piece(alloc, printer, schema, plan, options, to) {
                 return;
             }
+            self.copy(schema, plan, options, verbatim);
+            size = if self.end - to < size {
+                piece_size.min(size.saturating_mul(2))
+            } else {
+                piece_size.min(SHORT)
+            };
         }
     }
 
@@ -232,7 +251,7 @@ impl<'a> Region<'a> {
         }
         let mut region = OpenRegion::behind(alloc, text, front);
         region.copy(schema, plan, options, verbatim);
-        region.print(alloc, printer, schema, plan, options, piece_size);
+        region.print(alloc, printer, schema, plan, options, verbatim, piece_size);
         region.close(place)
     }
 }

@@ -16,7 +16,8 @@ use std::sync::atomic::{AtomicUsize, Ordering};
 use std::thread;
 use std::thread::Threads;
 
-// The regions that one worker takes, one after another, until none is left or memory is wanting. It prints each, as far as it goes.
+// The regions that one worker takes, one after another, until none is left or memory is wanting. It prints each, as far as it goes; after one
+// that was not printed to its end nobody takes more, since the front ends there at the latest.
 fn take_regions<'a>(
     alloc: Global,
     texts: &[&'a [u8]],
@@ -52,8 +53,12 @@ fn take_regions<'a>(
             verbatim,
             piece_size,
         );
+        let is_whole = region.end == region.text.len();
         if taken.push(region).is_err() {
             return taken;
+        }
+        if !is_whole {
+            next.store(texts.len(), Ordering::SeqCst);
         }
     }
     taken

@@ -4,6 +4,8 @@ ghost use Rattle.pl_regions.specs.declared.intake.Intake.{Intake};
 ghost use Rattle.std.specs.Io.KnownBytes.{IsAtEnd};
 ghost use Rattle.std.specs.List.{concat};
 ghost use Rattle.pl_frame.specs.Causes.{Rose};
+ghost use Rattle.pl_frame.specs.Dialect.{IsDialect};
+ghost use Rattle.pl_scan.specs.Dialect.{marks_of, comment_of};
 ghost use Rattle.pl_write.specs.Options.{cell_options};
 ghost use Rattle.pl_verbatim.specs.PrintedTexts.{CanPrint};
 ghost use Rattle.pl_verbatim.specs.Verbatim.{IsVerbatimOf};
@@ -92,6 +94,7 @@ pub(crate) fn read_texts<'a, W: Wait, So: Source>(
     plan: &RangePlan<'_>,
     piece_size: usize,
 ) -> Result<(), ReadAllFault>
+    requires dialect { IsDialect (marks_of plan.now.dialect) (comment_of plan.now.dialect) }
     requires within { intake.old.size ≤ limit }
     requires ended { intake.old.is_ended ≡ true → IsAtEnd (So.left source.old) }
     requires set { AreSetIn cells.now tokens.old.items }
@@ -160,7 +163,7 @@ fn wait_text<'a, W: Wait>(rt: &W, cell: &'a OnceLock<Vec<u8>>) -> Option<OnceTok
 }
 
 /// The regions that one worker takes, one after another, until one has no text or memory is wanting. It prints each, as far as it goes, and
-/// while a text is not there it makes room for one that comes later.
+/// while a text is not there it makes room for one that comes later. After one that was not printed to its end nobody takes more.
 pub(crate) fn take_texts<'a, W: Wait>(
     rt: &W,
     alloc: Global,
@@ -208,8 +211,12 @@ pub(crate) fn take_texts<'a, W: Wait>(
             verbatim,
             piece_size,
         );
+        let is_whole = region.end == text.len();
         if taken.push(Taken { region, token }).is_err() {
             return taken;
+        }
+        if !is_whole {
+            next.store(cells.len(), Ordering::SeqCst);
         }
     }
     taken

@@ -1,11 +1,13 @@
-//! Tests of `pl_regions::arriving`: how far the front of what a source gives goes, whatever the workers and the pieces.
+//! Tests of `pl_regions::arriving`: what a source gives is printed, whatever the workers and the pieces.
 
-use crate::front::{lines_of, plan, rows, schema};
+use crate::printing::{lines_of, plan, rows, schema};
 use pl_frame::source::PipeSource;
 use pl_regions::arriving::print_arriving;
 use pl_regions::intake::Intake;
 use pl_regions::texts::make_cells;
+use pl_rows::range::RangeEnd;
 use pl_write::options::CsvWriterOptions;
+use std::sync::OnceLock;
 
 #[test]
 fn all_of_a_source_is_printed(rt: HostRuntime) {
@@ -18,13 +20,15 @@ fn all_of_a_source_is_printed(rt: HostRuntime) {
     for workers in [1, 2, 8] {
         for piece_size in [64, 1000, 2000, 100_000] {
             let cells = make_cells(alloc).expect(&rt, "memory");
+            let last = OnceLock::new();
             let mut intake = Intake::new(alloc);
             let mut source = PipeSource::new(&text, 50, &[]);
-            let arrived = print_arriving(
+            let printed = print_arriving(
                 &rt,
                 alloc,
                 workers,
                 &cells,
+                &last,
                 &mut intake,
                 &mut source,
                 10_000,
@@ -34,8 +38,8 @@ fn all_of_a_source_is_printed(rt: HostRuntime) {
                 piece_size,
             )
             .expect(&rt, "memory");
-            assert!(rt; arrived.front.rows == 300 && arrived.left.is_empty());
-            assert!(rt; lines_of(&rt, alloc, &arrived.front) == text);
+            assert!(rt; printed.end == RangeEnd::Closed);
+            assert!(rt; lines_of(&rt, alloc, &printed) == text);
         }
     }
 }

@@ -4,4 +4,4 @@
 #[cfg(test)]
 mod arriving;
 #[cfg(test)]
-mod front;
+mod printing;

@@ -39,5 +39,4 @@ written_number style = record {
   no_return = λ e. omega (arith, e);
   bare = λ style text. cc;
   meant = refl;
-  meant_doubled = refl;
 }

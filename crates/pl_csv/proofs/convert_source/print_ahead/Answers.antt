@@ -1,4 +1,4 @@
-use Rattle.std.proofs.Common.{◌≡◌, List, ◌++◌, ◌+◌, ◌≤◌, ◌^◌, [], length, drop, refl, sym, ◌∙◌, ap, subst, inr, arith}
+use Rattle.std.proofs.Common.{◌≡◌, List, ◌++◌, ◌+◌, ◌≤◌, ◌^◌, [], length, drop, refl, sym, ◌∙◌, ap, subst, inr, arith, length-drop}
 use Rattle.std.specs.Prelude.{Ok, Err}
 use Rattle.std.specs.Option.{option_map}
 use Rattle.pl_frame.specs.Schema.{Entry}
@@ -8,7 +8,7 @@ use Rattle.pl_csv.specs.Sources.{IsUnprinted}
 use Rattle.pl_csv.specs.Views.{source_view}
 use Rattle.pl_csv.proofs.ConvertLaws.{can-print}
 use Rattle.pl_regions.proofs.RegionLaws.{ok-holds}
-use Rattle.pl_csv.proofs.SourceLaws.{stopped, come-ahead, records-ahead, can-ahead, left-ahead, read-or-unread}
+use Rattle.pl_csv.proofs.SourceLaws.{stopped, come-ahead, records-ahead, can-ahead, printed-ahead, read-or-unread}
 use Rattle.pl_csv.proofs.convert_source.print_ahead.Goals as goal
 
 pub plan_of-plan-requires-clause-places : goal.plan_of-plan-requires-clause-places
@@ -41,22 +41,33 @@ returns-in-Err-clause-refused g c = λ before kept.
     c.in-Err.ensures.too_long c.in-Err.ensures.failed c.in-Err.ensures.cause in
     subst (IsUnprinted read write before end) (sym c.unread.ensures) why
 
-pub read_left-requires-clause-left : goal.read_left-requires-clause-left
-read_left-requires-clause-left g c κs within =
+pub print_arriving-requires-clause-last : goal.print_arriving-requires-clause-last
+print_arriving-requires-clause-last g c κs within = c.plan_of-plan.ensures.plan.is_last
+
+pub print_arriving-requires-clause-held : goal.print_arriving-requires-clause-held
+print_arriving-requires-clause-held g c κs within =
+    let rest = c.args.intake.now.rest.items in
+    let prepared = c.args.prepared.now in
+    let kept_is = ok-holds c.skip.result (c.skip.new.self.rest.items ≡ drop prepared.start rest) c.if-is_err.ensures.negation c.skip.ensures.rest in
+    omega (arith, ap length kept_is, length-drop prepared.start rest, c.skip.ensures.size, c.requires.size)
+
+pub read_printed-requires : goal.read_printed-requires
+read_printed-requires g c =
     let rest = c.args.intake.now.rest.items in
     let prepared = c.args.prepared.now in
     let kept = c.skip.new.self.rest.items in
     let arrived = c.in-Ok.ensures.arrived in
     let kept_is = ok-holds c.skip.result (kept ≡ drop prepared.start rest) c.if-is_err.ensures.negation c.skip.ensures.rest in
-    let small : length rest + length arrived.bytes ≤ 2 ^ 36 = omega (arith, arrived.within, c.skip.ensures.size, c.requires.size) in
-    let left : c.deref.result.now ≡ drop c.in-Ok.arrived.front.end (kept ++ arrived.bytes) = c.deref.ensures.value ∙ arrived.left in (
-      kept ++ arrived.bytes,
-      left-ahead c.args.read.now c.args.write.now rest kept arrived.bytes c.deref.result.now prepared c.plan_of-plan.result c.in-Ok.arrived.front c.requires.allowed.allowed c.requires.ahead
-          c.plan_of-plan.ensures.plan c.plan_of-plan.ensures.nulls c.plan_of-plan.ensures.distinct kept_is small arrived.front left,
-    )
+    record {
+      printed = (
+        kept ++ arrived.bytes,
+        printed-ahead c.args.read.now c.args.write.now rest kept arrived.bytes prepared c.plan_of-plan.result c.in-Ok.rows c.requires.allowed.allowed c.requires.ahead
+            c.plan_of-plan.ensures.plan c.plan_of-plan.ensures.nulls c.plan_of-plan.ensures.distinct kept_is arrived.is,
+      );
+    }
 
-pub returns-in-Ok-read_left-clause-printed : goal.returns-in-Ok-read_left-clause-printed
-returns-in-Ok-read_left-clause-printed g c = λ before came.
+pub returns-in-Ok-read_printed-clause-printed : goal.returns-in-Ok-read_printed-clause-printed
+returns-in-Ok-read_printed-clause-printed g c = λ before came.
     let read = c.args.read.now in
     let write = c.args.write.now in
     let rest = c.args.intake.now.rest.items in
@@ -67,19 +78,18 @@ returns-in-Ok-read_left-clause-printed g c = λ before came.
     let end = source_view (g.So.Source.left c.print_arriving.new.source) (g.So.Source.faults c.print_arriving.new.source) in
     let kept_is = ok-holds c.skip.result (kept ≡ drop prepared.start rest) c.if-is_err.ensures.negation c.skip.ensures.rest in
     let small : length rest + length arrived.bytes ≤ 2 ^ 36 = omega (arith, arrived.within, c.skip.ensures.size, c.requires.size) in
-    let left : c.deref.result.now ≡ drop c.in-Ok.arrived.front.end (kept ++ arrived.bytes) = c.deref.ensures.value ∙ arrived.left in
-    let is = left-ahead read write rest kept arrived.bytes c.deref.result.now prepared c.plan_of-plan.result c.in-Ok.arrived.front c.requires.allowed.allowed c.requires.ahead
-    c.plan_of-plan.ensures.plan c.plan_of-plan.ensures.nulls c.plan_of-plan.ensures.distinct kept_is small arrived.front left in
     let records = kept ++ arrived.bytes in
+    let is = printed-ahead read write rest kept arrived.bytes prepared c.plan_of-plan.result c.in-Ok.rows c.requires.allowed.allowed c.requires.ahead
+    c.plan_of-plan.ensures.plan c.plan_of-plan.ensures.nulls c.plan_of-plan.ensures.distinct kept_is arrived.is in
     let input = rest ++ arrived.bytes in (
       input,
       come-ahead before now end rest arrived.bytes (length rest) (2 ^ 36) came refl refl arrived.came arrived.end small,
-      read-or-unread read write input records prepared (Ok c.in-Ok-read_left.printed) c.requires.allowed (c.requires.ahead.is arrived.bytes)
-          (records-ahead prepared.start rest arrived.bytes kept c.requires.ahead.within kept_is) (c.in-Ok-read_left.ensures.text records is) (c.in-Ok-read_left.ensures.sound records is) tt,
+      read-or-unread read write input records prepared (Ok c.in-Ok-read_printed.printed) c.requires.allowed (c.requires.ahead.is arrived.bytes)
+          (records-ahead prepared.start rest arrived.bytes kept c.requires.ahead.within kept_is) (c.in-Ok-read_printed.ensures.text records is) (c.in-Ok-read_printed.ensures.sound records is) tt,
     )
 
-pub returns-clause-refused : goal.returns-clause-refused
-returns-clause-refused g c = λ before came.
+pub returns-in-Err-read_printed-clause-refused : goal.returns-in-Err-read_printed-clause-refused
+returns-in-Err-read_printed-clause-refused g c = λ before came.
     let read = c.args.read.now in
     let write = c.args.write.now in
     let rest = c.args.intake.now.rest.items in
@@ -90,14 +100,13 @@ returns-clause-refused g c = λ before came.
     let end = source_view (g.So.Source.left c.print_arriving.new.source) (g.So.Source.faults c.print_arriving.new.source) in
     let kept_is = ok-holds c.skip.result (kept ≡ drop prepared.start rest) c.if-is_err.ensures.negation c.skip.ensures.rest in
     let small : length rest + length arrived.bytes ≤ 2 ^ 36 = omega (arith, arrived.within, c.skip.ensures.size, c.requires.size) in
-    let left : c.deref.result.now ≡ drop c.in-Ok.arrived.front.end (kept ++ arrived.bytes) = c.deref.ensures.value ∙ arrived.left in
-    let is = left-ahead read write rest kept arrived.bytes c.deref.result.now prepared c.plan_of-plan.result c.in-Ok.arrived.front c.requires.allowed.allowed c.requires.ahead
-    c.plan_of-plan.ensures.plan c.plan_of-plan.ensures.nulls c.plan_of-plan.ensures.distinct kept_is small arrived.front left in
     let records = kept ++ arrived.bytes in
+    let is = printed-ahead read write rest kept arrived.bytes prepared c.plan_of-plan.result c.in-Ok.rows c.requires.allowed.allowed c.requires.ahead
+    c.plan_of-plan.ensures.plan c.plan_of-plan.ensures.nulls c.plan_of-plan.ensures.distinct kept_is arrived.is in
     let input = rest ++ arrived.bytes in
     inr (
       input,
       come-ahead before now end rest arrived.bytes (length rest) (2 ^ 36) came refl refl arrived.came arrived.end small,
-      read-or-unread read write input records prepared (Err c.in-Err-read_left.fault) c.requires.allowed (c.requires.ahead.is arrived.bytes)
-          (records-ahead prepared.start rest arrived.bytes kept c.requires.ahead.within kept_is) tt tt (c.in-Err-read_left.ensures.refused records is),
+      read-or-unread read write input records prepared (Err c.in-Err-read_printed.fault) c.requires.allowed (c.requires.ahead.is arrived.bytes)
+          (records-ahead prepared.start rest arrived.bytes kept c.requires.ahead.within kept_is) tt tt (c.in-Err-read_printed.ensures.refused records is),
     )

@@ -1,4 +1,4 @@
-use Rattle.std.proofs.Common.{◌≡◌, ◌<◌, length, arith, ◌∙◌, refl}
+use Rattle.std.proofs.Common.{◌<◌, length, arith, ◌∙◌, refl}
 use Rattle.pl_write.specs.Options.{cell_options, frame_options}
 use Rattle.pl_csv.proofs.FitTestLaws.{cell-held, cell-written, cell-printed, left-next, some-unfit, one-more, not-true}
 use Rattle.pl_csv.proofs.fits.cells_fit.Goals as goal

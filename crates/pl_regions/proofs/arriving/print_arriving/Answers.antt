@@ -1,7 +1,7 @@
-use Rattle.std.proofs.Common.{rules}
+use Rattle.std.proofs.Common.{rules, arith, ◌++◌}
 use Rattle.std.specs.List.{concat}
 use Rattle.pl_write.specs.Options.{cell_options}
-use Rattle.pl_regions.proofs.ArrivingLaws.{values_of, HasArrived-printed}
+use Rattle.pl_regions.proofs.ArrivingLaws.{values_of, came-small, HasArrived-printed}
 use Rattle.pl_regions.proofs.IntakeLaws.{IsTooLong-behind, HasStopped-behind}
 use Rattle.pl_regions.proofs.arriving.print_arriving.Goals as goal
 
@@ -17,9 +17,29 @@ returns-in_err-read_on-clause-failed g c = λ fault.
     HasStopped-behind (left c.args.source.now) (left c.read_and_print.new.source) (left c.read_on.new.source) c.args.limit c.args.intake.now c.read_and_print.new.intake (concat (values_of c.in_ok-tokens.tokens.items))
     c.in_ok-tokens.ensures.given (c.in_err-read_on.ensures.failed (search rules))
 
-pub returns-in-Ok-front_arrived-clause-arrived : goal.returns-in-Ok-front_arrived-clause-arrived
-returns-in-Ok-front_arrived-clause-arrived g c =
+pub print_left-requires-clause-left : goal.print_left-requires-clause-left
+print_left-requires-clause-left g c κs within =
     let left = g.So.Source.left in
+    let front = concat (values_of c.in_ok-tokens.tokens.items) in (
+      front ++ c.deref.result.now,
+      record {
+        small = omega (
+          arith,
+          came-small (left c.args.source.now) (left c.read_and_print.new.source) (left c.read_on.new.source) c.args.limit c.args.intake.now c.read_and_print.new.intake c.read_on.new.self front c.deref.result.now
+              c.in_ok-tokens.ensures.given c.in_ok-read_on.ensures.all c.deref.ensures.value c.requires.held,
+        );
+        printed = c.in-Ok-front_arrived.ensures.front;
+        left_is = c.in-Ok-front_arrived.ensures.left;
+      },
+    )
+
+pub returns-in-Ok-print_left-clause-arrived : goal.returns-in-Ok-print_left-clause-arrived
+returns-in-Ok-print_left-clause-arrived g c =
+    let left = g.So.Source.left in
+    let front = concat (values_of c.in_ok-tokens.tokens.items) in
+    let small = came-small (left c.args.source.now) (left c.read_and_print.new.source) (left c.read_on.new.source) c.args.limit c.args.intake.now c.read_and_print.new.intake c.read_on.new.self front c.deref.result.now
+    c.in_ok-tokens.ensures.given c.in_ok-read_on.ensures.all c.deref.ensures.value c.requires.held in
     HasArrived-printed c.args.plan.now c.args.schema.now (cell_options c.args.options.now) (left c.args.source.now) (left c.read_and_print.new.source) (left c.read_on.new.source) c.args.limit c.args.intake.now
-    c.read_and_print.new.intake c.read_on.new.self (concat (values_of c.in_ok-tokens.tokens.items)) c.deref.result.now c.in-Ok-front_arrived.arrived
-    c.in_ok-tokens.ensures.given c.in_ok-read_on.ensures.all c.deref.ensures.value c.in-Ok-front_arrived.ensures.front c.in-Ok-front_arrived.ensures.left
+    c.read_and_print.new.intake c.read_on.new.self front c.deref.result.now c.in-Ok-print_left.printed
+    c.in_ok-tokens.ensures.given c.in_ok-read_on.ensures.all c.deref.ensures.value
+    (c.in-Ok-print_left.ensures (front ++ c.deref.result.now) (record { small = omega (arith, small); printed = c.in-Ok-front_arrived.ensures.front; left_is = c.in-Ok-front_arrived.ensures.left }))

@@ -25,7 +25,10 @@ loop-place-init c =
     let plan = c.args.plan.now in
     let schema = c.args.schema.now in
     let o = cell_options c.args.options.now in
-    subst (IsFrontOf plan schema o [] 0 0) (sym (ap items_of c.new.ensures.items)) (IsFrontOf-none plan schema o)
+    let front = c.new-front.result in
+    subst (λ e. IsFrontOf plan schema o [] e front.rows (items_of front.lines.items)) (sym c.new-front.ensures.end)
+    (subst (λ n. IsFrontOf plan schema o [] 0 n (items_of front.lines.items)) (sym c.new-front.ensures.rows)
+    (subst (IsFrontOf plan schema o [] 0 0) (sym (ap items_of c.new-front.ensures.lines)) (IsFrontOf-none plan schema o)))
 
 pub returns-then-not-is_whole : goal.returns-then-not-is_whole
 returns-then-not-is_whole c =

@@ -10,6 +10,7 @@ loop-init g c =
     let size : c.len-from.result ≡ length c.deref.result.now = omega (arith, c.args.self.now.rest.ok, c.deref.ensures.len) in
     record {
       inside = omega (arith, size, c.in-Ok.ensures.inside);
+      scanned = omega arith;
       given = HasGiven-nothing _ _ _ _ _ refl c.requires.within (λ ended. absurd (cc))
           (sym (ap (λ l. take c.len-from.result c.in-Ok.text.items ++ l) c.clear.ensures.items ∙ append-nil (take c.len-from.result c.in-Ok.text.items)
           ∙ ap (λ n. take n c.in-Ok.text.items) size ∙ c.in-Ok.ensures.front ∙ c.deref.ensures.value));
@@ -77,6 +78,7 @@ loop-preserved g c =
     let items : c.resize.new.self.items ≡ take size text ++ more = c.resize.ensures.items ∙ ap (λ t. if t then take size text ++ more else text) pushed in
     record {
       inside = omega (arith, ap length items, length-append (take size text) more, length-take size text, long, fits);
+      scanned = omega (arith, c.look_on-scanned.ensures, ap length c.deref-in-loop.ensures.value, long);
       given = HasGiven-filled _ _ _ _ _ _ _ old new _ c.loop.from to c.loop.invariant.given c.loop.invariant.rest c.in_ok-filled.ensures.bytes c.in_ok-filled.ensures.after c.in_ok-filled.ensures.inside kept
           refl c.in_ok-filled.ensures.within c.in_ok-filled.ensures.ended
           (sym (ap (λ l. take to c.resize.new.self.items ++ l) c.loop.invariant.rest ∙ append-nil (take to c.resize.new.self.items) ∙ ap (take to) items ∙ front-resized text more to size long fits ∙ now));

@@ -1,10 +1,11 @@
-use Rattle.std.proofs.Common.{◌≡◌, length, ◌-◌}
+use Rattle.std.proofs.Common.{◌≡◌, ◌<◌, length, ◌-◌}
 use Rattle.pl_write.specs.Options.{cell_options}
 use Rattle.pl_regions.specs.Regions.{IsOpenPrinted}
 use Rattle.pl_regions.proofs.region.OpenRegion.print.Given as goal
 
 abbrev pub invariant-loop-self : goal.invariant-loop-self
 invariant-loop-self l = record {
+  some : 0 < l.size;
   text : l.self.text.now ≡ l.fn.self.text.now;
   printed : IsOpenPrinted l.plan l.schema (cell_options l.options) l.self;
 }

@@ -1,19 +1,22 @@
-//! Tests of `pl_regions::front`: how far the front of a text goes, whatever the workers and the pieces.
-ghost use Rattle.std.specs.Prelude.{◌≡◌, ◌<◌, length};
+//! Tests of `pl_regions::printing`: a text is printed, whatever the workers and the pieces.
+ghost use Rattle.std.specs.Prelude.{◌≡◌, ◌<◌, length, true};
 ghost use Rattle.pl_verbatim.specs.PrintedTexts.{CanPrint};
 
 use pl_cells::init_buffers::first_unreadable;
 use pl_cells::utf8::CsvEncoding;
 use pl_frame::data_type::DataType;
+use pl_frame::error::FaultKind;
 use pl_frame::name::PlSmallStr;
 use pl_frame::schema::Schema;
-use pl_regions::front::{Front, print_front};
+use pl_regions::printing::{PrintedRows, print_front};
 use pl_rows::plan::{Projection, RangePlan, RowOptions};
+use pl_rows::range::RangeEnd;
 use pl_scan::dialect::Dialect;
 use pl_write::options::CsvWriterOptions;
 use std::alloc::Global;
 use std::borrow::CowSlice;
 use std::process::Abort;
+use std::sync::Wait;
 use std::thread::Threads;
 
 // A schema of a whole number and a text.
@@ -36,7 +39,8 @@ pub(crate) fn schema(rt: &impl Abort, alloc: Global) -> Schema
 // How such rows are read.
 pub(crate) fn plan<'a>(rt: &impl Abort, schema: &Schema) -> RangePlan<'a>
     requires { length schema.now ≡ 2 }
-    ensures { CanPrint result schema.now }
+    ensures can { CanPrint result schema.now }
+    ensures last { result.last ≡ true }
 {
     let plan = RangePlan {
         dialect: Dialect {
@@ -64,14 +68,14 @@ pub(crate) fn plan<'a>(rt: &impl Abort, schema: &Schema) -> RangePlan<'a>
     plan
 }
 
-// The front of a text of such rows, by so many workers in pieces of so many bytes.
-fn front<'a, W: Abort + Threads + Sync>(
+// What comes of a text of such rows, by this number of workers in pieces of about this size.
+fn printed<'a, W: Abort + Threads + Wait + Sync>(
     rt: &W,
     alloc: Global,
     workers: usize,
     piece_size: usize,
     text: &'a [u8],
-) -> Front<'a>
+) -> PrintedRows<'a>
     requires workers { 0 < workers }
     requires size { 0 < piece_size }
 {
@@ -86,9 +90,9 @@ fn front<'a, W: Abort + Threads + Sync>(
 }
 
 // The lines, one text behind the other.
-pub(crate) fn lines_of(rt: &impl Abort, alloc: Global, front: &Front<'_>) -> Vec<u8> {
+pub(crate) fn lines_of(rt: &impl Abort, alloc: Global, printed: &PrintedRows<'_>) -> Vec<u8> {
     let mut all = Vec::new(alloc);
-    for lines in &front.lines {
+    for lines in &printed.lines {
         all.extend_from_slice(lines.as_slice()).expect(rt, "memory");
     }
     all
@@ -107,20 +111,18 @@ pub(crate) fn rows(rt: &impl Abort, alloc: Global, count: usize) -> Vec<u8> {
 }
 
 #[test]
-fn a_sound_text_is_printed_up_to_a_last_row_without_a_line_end(rt: HostRuntime) {
+fn all_rows_are_printed(rt: HostRuntime) {
     let alloc = rt.alloc();
-    let whole = rows(&rt, alloc, 300);
     let mut text = rows(&rt, alloc, 300);
     text.extend_from_slice(b"7,x").expect(&rt, "memory");
+    let mut whole = rows(&rt, alloc, 300);
+    whole.extend_from_slice(b"7,x\n").expect(&rt, "memory");
     for workers in [1, 3, 64] {
         for piece_size in [1, 64, 100_000] {
-            let front = front(&rt, alloc, workers, piece_size, &text);
+            let printed = printed(&rt, alloc, workers, piece_size, &text);
+            assert!(rt; printed.end == RangeEnd::Closed);
             assert!(rt;
-                front.end == whole.len() && front.rows == 300,
-                "by {workers} in {piece_size}"
-            );
-            assert!(rt;
-                lines_of(&rt, alloc, &front) == whole,
+                lines_of(&rt, alloc, &printed) == whole,
                 "by {workers} in {piece_size}"
             );
         }
@@ -128,8 +130,8 @@ fn a_sound_text_is_printed_up_to_a_last_row_without_a_line_end(rt: HostRuntime) 
 }
 
 // How many of the texts of lines were copied, and do not stand in the input.
-fn copies(front: &Front<'_>) -> usize {
-    let lines = front.lines.iter();
+fn copies(printed: &PrintedRows<'_>) -> usize {
+    let lines = printed.lines.iter();
     lines
         .filter(|text| matches!(text, CowSlice::Owned(_)))
         .count()
@@ -150,29 +152,28 @@ fn lines_are_copied_where_they_are_not_their_piece(rt: HostRuntime) {
     let plain = rows_around(&rt, alloc, b"7,x\n");
     let text = rows_around(&rt, alloc, b"007,x\n");
     for workers in [1, 3] {
-        let kept = front(&rt, alloc, workers, 1, &plain);
+        let kept = printed(&rt, alloc, workers, 1, &plain);
         assert!(rt; copies(&kept) == 0, "by {workers}");
-        let front = front(&rt, alloc, workers, 1, &text);
-        assert!(rt; front.end == text.len() && front.rows == 41);
-        assert!(rt; copies(&front) == 1, "by {workers}");
-        assert!(rt; lines_of(&rt, alloc, &front) == plain, "by {workers}");
+        let printed = printed(&rt, alloc, workers, 1, &text);
+        assert!(rt; copies(&printed) == 1, "by {workers}");
+        assert!(rt; lines_of(&rt, alloc, &printed) == plain, "by {workers}");
     }
 }
 
 #[test]
-fn front_of_many_regions_ends_before_a_fault_in_the_middle(rt: HostRuntime) {
+fn fault_in_the_middle_of_many_regions_is_told(rt: HostRuntime) {
     let alloc = rt.alloc();
     let mut text = rows(&rt, alloc, 200);
-    let before = text.len();
     text.extend_from_slice(b"x,y\n").expect(&rt, "memory");
-    let behind = rows(&rt, alloc, 200);
-    text.extend_from_slice(&behind).expect(&rt, "memory");
+    let after = rows(&rt, alloc, 200);
+    text.extend_from_slice(&after).expect(&rt, "memory");
     for workers in [1, 2, 8] {
-        let front = front(&rt, alloc, workers, 1, &text);
-        assert!(rt; front.end == before && front.rows == 200, "by {workers}");
-        assert!(rt;
-            lines_of(&rt, alloc, &front).as_slice() == &text[..before],
-            "by {workers}"
-        );
+        let printed = printed(&rt, alloc, workers, 1, &text);
+        let fault = RangeEnd::Fault {
+            row: 200,
+            column: 0,
+            kind: FaultKind::Value,
+        };
+        assert!(rt; printed.end == fault, "by {workers}");
     }
 }

@@ -1,0 +1,22 @@
+use Rattle.std.proofs.Common.{inl}
+use Rattle.pl_csv.proofs.ConvertLaws.{can-print, none-is-frame, data-text, data-sound, data-fault}
+use Rattle.pl_csv.proofs.convert.read_printed.Goals as goal
+
+pub returns-in-Fault-clause-refused : goal.returns-in-Fault-clause-refused
+returns-in-Fault-clause-refused c = λ records is.
+    inl (data-fault c.args.plan.now c.args.read.now c.args.schema.now c.args.write.now records c.args.rows c.in-Fault.row c.in-Fault.column c.in-Fault.kind is c.in-Fault.is)
+
+pub frame_of_none-requires-clause-can : goal.frame_of_none-requires-clause-can
+frame_of_none-requires-clause-can c =
+    let is = c.requires.printed.1 in
+    can-print c.args.plan.now c.args.read.now c.args.schema.now c.requires.printed.0 is.can is.plain
+
+pub frame_of_none-requires-clause-frame : goal.frame_of_none-requires-clause-frame
+frame_of_none-requires-clause-frame c = none-is-frame c.args.plan.now c.args.read.now c.args.schema.now c.args.write.now c.requires.printed.0 c.args.rows c.requires.printed.1
+
+pub returns-clause-text : goal.returns-clause-text
+returns-clause-text c = λ records is.
+    data-text c.args.plan.now c.args.read.now c.args.schema.now c.args.write.now records c.args.rows c.in-Ok.rest is c.in-Closed.is c.in-Ok.ensures
+
+pub returns-clause-sound : goal.returns-clause-sound
+returns-clause-sound c = λ records is. data-sound c.args.plan.now c.args.read.now c.args.schema.now c.args.write.now records c.args.rows is c.in-Closed.is

@@ -1,0 +1,157 @@
+-- All rows of data, read and printed.
+use Rattle.std.proofs.Common.{◌≡◌, ℕ, true, ◌+◌, ◌-◌, ◌<◌, ◌≤◌, ◌^◌, List, [], ◌∷◌, ◌++◌, length, get_or, take, drop, map, sym, ◌∙◌, ap, subst, arith, length-drop, append-nil}
+use Rattle.std.specs.Global.{Global}
+use Rattle.std.specs.declared.borrow.CowSlice.{CowSlice}
+use Rattle.std.specs.Cow.{cow_slice_items}
+use Rattle.std.specs.List.{concat}
+use Rattle.std.proofs.lemmas.List.{take-append-drop, drop-drop, drop_more, drop_all, map-append}
+use Rattle.std.proofs.lemmas.List.Folds.{concat-append}
+use Rattle.pl_frame.specs.Dialect.{IsDialect}
+use Rattle.pl_frame.specs.Frame.{ColumnValue, HaveHeight, height_of}
+use Rattle.pl_frame.specs.Schema.{Entry}
+use Rattle.pl_text.specs.FrameText.{WriteOptions}
+use Rattle.pl_scan.specs.Dialect.{marks_of, comment_of}
+use Rattle.pl_scan.specs.LineCuts.{RiseTo}
+use Rattle.pl_rows.specs.declared.columns.RangeColumns.{RangeColumns}
+use Rattle.pl_rows.specs.declared.plan.RangePlan.{RangePlan}
+use Rattle.pl_rows.specs.Columns.{columns_in, entries_in}
+use Rattle.pl_rows.specs.Pieces.{end_behind, IsRowFit}
+use Rattle.pl_rows.specs.Plan.{rules_of}
+use Rattle.pl_rows.specs.Ranges.{range_end, range_frame, rows_read, IsRangeRead}
+use Rattle.pl_rows.specs.WholePieces.{text_frame}
+use Rattle.pl_rows.proofs.FrameLaws.{have_height}
+use Rattle.pl_rows.proofs.SoundTextLaws.{range-behind, same-columns-range, row-fits}
+use Rattle.pl_write.specs.Batches.{all_lines}
+use Rattle.pl_write.proofs.StackLaws.{lines-stacked}
+use Rattle.pl_verbatim.specs.PrintedTexts.{CanPrint, IsTextPrinted, IsFrontPrinted}
+use Rattle.pl_verbatim.proofs.PrintingLaws.{level-text, IsFrontPrinted-none, IsFrontPrinted-more}
+use Rattle.pl_regions.proofs.RegionLaws.{few-printed}
+use Rattle.pl_regions.specs.Printing.{IsLeftBehind}
+use Rattle.pl_regions.specs.declared.front.Front.{Front}
+
+-- ---- texts between places
+
+-- places that rise to the end of a text are within it
+rise-within : (size from : ℕ) (ends : List ℕ) → RiseTo size from ends → from ≤ size
+rise-within size from [] is = omega (arith, is)
+rise-within size from (end ∷ ends) is = let more = rise-within size end ends is.1 in omega (arith, is.0, more)
+
+-- the next place, and those behind it
+pub record IsNextEnd (size from end : ℕ) (ends : List ℕ) : Type 0 where
+  pub order : from ≤ end
+  pub within : end ≤ size
+  pub rise : RiseTo size end ends
+
+pub next-end : (size from k end : ℕ) (ends : List ℕ) → k < length ends → end ≡ get_or ends k 0 → RiseTo size from (drop k ends) → IsNextEnd size from end (drop (k + 1) ends)
+next-end size from k end ends inside is rise =
+    let here = subst (RiseTo size from) (drop_more ends k 0 inside) rise in
+    subst (λ (e : ℕ). IsNextEnd size from e (drop (k + 1) ends)) (sym is) (record { order = omega (arith, here.0); within = rise-within size (get_or ends k 0) (drop (k + 1) ends) here.1; rise = here.1 })
+
+-- behind the last place nothing is left
+pub last-end : (size from : ℕ) (ends : List ℕ) (k : ℕ) → length ends ≤ k → RiseTo size from (drop k ends) → from ≡ size
+last-end size from ends k all rise = subst (RiseTo size from) (drop_all k ends all) rise
+
+-- ---- fronts
+
+-- of a text, and of what it leaves
+front-behind : (plan : RangePlan) (schema : List Entry) (o : WriteOptions) (text : List ℕ) (end n next k : ℕ) (l m : List ℕ) → IsDialect (marks_of plan.dialect) (comment_of plan.dialect)
+    → IsFrontPrinted plan schema o text end n l → IsFrontPrinted plan schema o (drop end text) next k m → IsFrontPrinted plan schema o text (end + next) (n + k) (l ++ m)
+front-behind plan schema o text end n next k l m apart first more =
+    let size : (end + next) - end ≡ next = omega arith in
+    IsFrontPrinted-more plan schema o text end (end + next) n k l m apart first (omega arith) (omega (arith, first.within, more.within, length-drop end text))
+    (subst (λ (j : ℕ). IsTextPrinted plan schema o (take j (drop end text)) k m) (sym size) more.front)
+
+-- the lines of two
+lines-joined : {X : Type 0} (f : X → List ℕ) (a b joined : List X) → joined ≡ a ++ b → concat (map f joined) ≡ concat (map f a) ++ concat (map f b)
+lines-joined f a b joined is = ap (λ l. concat (map f l)) is ∙ ap concat (map-append f a b) ∙ concat-append (map f a) (map f b)
+
+-- one text more
+pub text-pushed : (lines now : List (CowSlice ℕ Global)) (text : CowSlice ℕ Global) → now ≡ lines ++ text ∷ [] → concat (map cow_slice_items now) ≡ concat (map cow_slice_items lines) ++ cow_slice_items text
+text-pushed lines now text is = lines-joined cow_slice_items lines (text ∷ []) now is ∙ ap (λ l. concat (map cow_slice_items lines) ++ l) (append-nil (cow_slice_items text))
+
+-- of which nothing was printed
+pub nothing-printed : (plan : RangePlan) (schema : List Entry) (o : WriteOptions) (text : List ℕ) (front : Front) → front.end ≡ 0 → front.rows ≡ 0 → front.lines.items ≡ []
+    → IsFrontPrinted plan schema o text front.end front.rows (concat (map cow_slice_items front.lines.items))
+nothing-printed plan schema o text front end rows lines =
+    subst (λ e. IsFrontPrinted plan schema o text e front.rows (concat (map cow_slice_items front.lines.items))) (sym end)
+    (subst (λ n. IsFrontPrinted plan schema o text 0 n (concat (map cow_slice_items front.lines.items))) (sym rows)
+    (subst (λ l. IsFrontPrinted plan schema o text 0 0 (concat (map cow_slice_items l))) (sym lines) (IsFrontPrinted-none plan schema o text)))
+
+-- both fronts have fewer rows than numbers of 64 bits count
+pub rows-fit : (plan : RangePlan) (schema : List Entry) (o : WriteOptions) (records left : List ℕ) (first next : Front) → IsDialect (marks_of plan.dialect) (comment_of plan.dialect)
+    → IsLeftBehind plan schema o records first left → IsFrontPrinted plan schema o left next.end next.rows (concat (map cow_slice_items next.lines.items)) → first.rows + next.rows < 2 ^ 64
+rows-fit plan schema o records left first next apart is more =
+    let lines = concat (map cow_slice_items first.lines.items) ++ concat (map cow_slice_items next.lines.items) in
+    let both =
+    front-behind plan schema o records first.end first.rows next.end next.rows (concat (map cow_slice_items first.lines.items)) (concat (map cow_slice_items next.lines.items)) apart is.printed
+    (subst (λ t. IsFrontPrinted plan schema o t next.end next.rows (concat (map cow_slice_items next.lines.items))) is.left_is more) in
+    omega (arith, few-printed plan schema o records (first.end + next.end) (first.rows + next.rows) lines apart both, is.small)
+
+-- what is left of data behind its front, and then behind the front of that
+pub left-behind : (plan : RangePlan) (schema : List Entry) (o : WriteOptions) (records left : List ℕ) (first next joined : Front) → IsDialect (marks_of plan.dialect) (comment_of plan.dialect)
+    → IsLeftBehind plan schema o records first left → IsFrontPrinted plan schema o left next.end next.rows (concat (map cow_slice_items next.lines.items))
+    → joined.end ≡ first.end + next.end → joined.rows ≡ first.rows + next.rows → joined.lines.items ≡ first.lines.items ++ next.lines.items
+    → IsLeftBehind plan schema o records joined (drop next.end left)
+left-behind plan schema o records left first next joined apart is more end rows lines =
+    let both =
+    front-behind plan schema o records first.end first.rows next.end next.rows (concat (map cow_slice_items first.lines.items)) (concat (map cow_slice_items next.lines.items)) apart is.printed
+    (subst (λ t. IsFrontPrinted plan schema o t next.end next.rows (concat (map cow_slice_items next.lines.items))) is.left_is more) in
+    record {
+      small = is.small;
+      printed =
+          subst (λ e. IsFrontPrinted plan schema o records e joined.rows (concat (map cow_slice_items joined.lines.items))) (sym end)
+          (subst (λ n. IsFrontPrinted plan schema o records (first.end + next.end) n (concat (map cow_slice_items joined.lines.items))) (sym rows)
+          (subst (IsFrontPrinted plan schema o records (first.end + next.end) (first.rows + next.rows)) (sym (lines-joined cow_slice_items first.lines.items next.lines.items joined.lines.items lines)) both));
+      left_is = ap (drop next.end) is.left_is ∙ drop-drop next.end first.end records ∙ ap (λ k. drop k records) (sym end);
+    }
+
+-- ---- what is left, read as one range
+
+-- where all ends
+pub whole-end : (plan : RangePlan) (schema : List Entry) (o : WriteOptions) (records left : List ℕ) (front : Front) (read : RangeColumns) → CanPrint plan schema → plan.last ≡ true
+    → IsLeftBehind plan schema o records front left → IsRangeRead plan schema left read → end_behind front.rows read.end ≡ range_end plan (columns_in schema plan.projection.places.now) records
+whole-end plan schema o records left front read can last is range =
+    let columns = columns_in schema plan.projection.places.now in
+    let rest = drop front.end records in
+    let both = range-behind plan schema (take front.end records) rest can.unlimited last can.dialect is.printed.front.sound in
+    ap (end_behind front.rows) (range.end_is ∙ ap (range_end plan columns) is.left_is)
+    ∙ ap (λ k. end_behind k (range_end plan columns rest)) is.printed.front.count_is
+    ∙ sym both.1
+    ∙ ap (range_end plan columns) (take-append-drop front.end records)
+
+-- all lines
+pub whole-lines : (plan : RangePlan) (schema : List Entry) (o : WriteOptions) (records left : List ℕ) (front : Front) (read : RangeColumns) → CanPrint plan schema → plan.last ≡ true
+    → IsLeftBehind plan schema o records front left → IsRangeRead plan schema left read
+    → concat (map cow_slice_items front.lines.items) ++ all_lines o read.columns.items ≡ all_lines o (range_frame plan schema records)
+whole-lines plan schema o records left front read can last is range =
+    let text = take front.end records in
+    let rest = drop front.end records in
+    let both = range-behind plan schema text rest can.unlimited last can.dialect is.printed.front.sound in
+    let columns_are : read.columns.items ≡ range_frame plan schema rest = range.columns ∙ ap (range_frame plan schema) is.left_is in
+    (λ j. is.printed.front.lines_are j ++ all_lines o (columns_are j))
+    ∙ sym (lines-stacked o (text_frame plan schema text) (range_frame plan schema rest) (same-columns-range plan schema text rest) (level-text plan schema text))
+    ∙ ap (all_lines o) (sym both.0 ∙ ap (range_frame plan schema) (take-append-drop front.end records))
+
+-- the number of a row that has a fault is one of 64 bits
+pub fault-fits : (plan : RangePlan) (schema : List Entry) (o : WriteOptions) (records left : List ℕ) (front : Front) (read : RangeColumns) → CanPrint plan schema
+    → IsLeftBehind plan schema o records front left → IsRangeRead plan schema left read → IsRowFit front.rows read.end
+fault-fits plan schema o records left front read can is range =
+    let columns = columns_in schema plan.projection.places.now in
+    let rest = drop front.end records in
+    let whole : length (take front.end records ++ rest) < 2 ^ 64 = subst (λ l. length l < 2 ^ 64) (sym (take-append-drop front.end records)) is.small in
+    subst (IsRowFit front.rows) (sym (range.end_is ∙ ap (range_end plan columns) is.left_is))
+    (subst (λ k. IsRowFit k (range_end plan columns rest)) (sym is.printed.front.count_is) (row-fits plan columns (take front.end records) rest can.dialect.distinct whole))
+
+-- columns of one height have that of the first
+level : (n : ℕ) (columns : List ColumnValue) → HaveHeight n columns → HaveHeight (height_of columns) columns
+level n [] have = tt
+level n (c ∷ cs) have = subst (λ k. HaveHeight k (c ∷ cs)) (sym have.0) have
+
+-- those of a range have one
+pub level-frame : (plan : RangePlan) (schema : List Entry) (range : List ℕ) → HaveHeight (height_of (range_frame plan schema range)) (range_frame plan schema range)
+level-frame plan schema range =
+    let places = plan.projection.places.now in
+    level _ (range_frame plan schema range) (have_height (rules_of plan) (rows_read plan (columns_in schema places) range) (entries_in schema places))
+
+pub level-range : (plan : RangePlan) (schema : List Entry) (range : List ℕ) (read : RangeColumns) → IsRangeRead plan schema range read → HaveHeight (height_of read.columns.items) read.columns.items
+level-range plan schema range read is = subst (λ columns. HaveHeight (height_of columns) columns) (sym is.columns) (level-frame plan schema range)

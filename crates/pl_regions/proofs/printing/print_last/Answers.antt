@@ -1,0 +1,42 @@
+use Rattle.std.proofs.Common.{◌≡◌, ◌++◌, true, map, sym, ◌∙◌, ap, subst}
+use Rattle.std.specs.Cow.{cow_slice_items}
+use Rattle.std.specs.List.{concat}
+use Rattle.pl_frame.specs.Frame.{HaveHeight, height_of}
+use Rattle.pl_rows.specs.Pieces.{is_fault}
+use Rattle.pl_write.specs.Batches.{all_lines}
+use Rattle.pl_write.specs.Options.{cell_options}
+use Rattle.pl_regions.proofs.PrintingLaws.{whole-end, whole-lines, fault-fits, level-range}
+use Rattle.pl_regions.proofs.printing.print_last.Goals as goal
+
+pub end_behind-end-requires : goal.end_behind-end-requires
+end_behind-end-requires c =
+    fault-fits c.args.plan.now c.args.schema.now (cell_options c.args.options.now) c.requires.left.0 c.args.left.now c.args.front c.in_ok-read.read c.requires.can c.requires.left.1 c.in_ok-read.ensures
+
+pub returns-in-Fault : goal.returns-in-Fault
+returns-in-Fault c = λ records is.
+    let plan = c.args.plan.now in
+    let schema = c.args.schema.now in
+    let o = cell_options c.args.options.now in
+    let faulty : is_fault c.end_behind-end.result ≡ true = ap is_fault c.in-Fault.is in
+    record {
+      end_is = c.end_behind-end.ensures ∙ whole-end plan schema o records c.args.left.now c.args.front c.in_ok-read.read c.requires.can c.requires.last is c.in_ok-read.ensures;
+      lines_are = λ sound. absurd (cc);
+    }
+
+pub lines_of-requires : goal.lines_of-requires
+lines_of-requires c =
+    subst (λ columns. HaveHeight (height_of columns) columns) (sym c.deref.ensures.value) (level-range c.args.plan.now c.args.schema.now c.args.left.now c.in_ok-read.read c.in_ok-read.ensures)
+
+pub returns : goal.returns
+returns c = λ records is.
+    let plan = c.args.plan.now in
+    let schema = c.args.schema.now in
+    let o = cell_options c.args.options.now in
+    let before = concat (map cow_slice_items c.args.front.lines.items) in
+    record {
+      end_is = c.end_behind-end.ensures ∙ whole-end plan schema o records c.args.left.now c.args.front c.in_ok-read.read c.requires.can c.requires.last is c.in_ok-read.ensures;
+      lines_are = λ sound.
+          c.in_ok-push_text.ensures
+          ∙ ap (λ l. before ++ l) (c.in_ok-lines_of.ensures ∙ ap (all_lines o) c.deref.ensures.value)
+          ∙ whole-lines plan schema o records c.args.left.now c.args.front c.in_ok-read.read c.requires.can c.requires.last is c.in_ok-read.ensures;
+    }

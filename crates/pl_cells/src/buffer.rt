@@ -288,4 +288,10 @@ impl Buffer {
     {
         Ok(for_each_type!(self, buffer => buffer.into_series()))
     }
+    /// The column, in no more memory than its cells need; the buffer stays as it is. Refuses only want of memory.
+    pub fn packed(&self, alloc: Global) -> Result<Series, AllocError>
+        ensures { IfOk result (λ column. column ≡ column_of (state_of self.now)) }
+    {
+        for_each_type!(self, buffer => buffer.packed(alloc))
+    }
 }

@@ -1,5 +1,5 @@
 //! The type whose values are decimals.
-ghost use Rattle.std.specs.Prelude.{◌≡◌, refl, true, Some};
+ghost use Rattle.std.specs.Prelude.{◌≡◌, refl, true, Some, IfOk};
 ghost use Rattle.pl_frame.specs.declared.data_type.DataType.TheVariants as dtype;
 ghost use Rattle.pl_frame.specs.Columns.{HoldsType, number_cells};
 ghost use Rattle.pl_frame.specs.Frame.{Number};
@@ -12,6 +12,7 @@ use pl_frame::column::Column;
 use pl_frame::data_type::DataType;
 use pl_frame::name::PlSmallStr;
 use pl_frame::numbers::Numbers;
+use std::alloc::{AllocError, Global};
 
 /// Numbers times ten to the scale, below ten to the precision, or to 38 where that is not set.
 #[derive(Clone, Copy, Drop)]
@@ -55,6 +56,23 @@ impl ValueType for Decimal {
         ensures { result ≡ record { name = name; dtype = dtype.Decimal self.precision (Some self.scale); values = number_cells values } }
     {
         Column::from_wide(
+            name,
+            DataType::Decimal(self.precision, Some(self.scale)),
+            values,
+        )
+    }
+
+    fn packed(
+        &self,
+        alloc: Global,
+        name: PlSmallStr,
+        values: &Numbers<i128>,
+    ) -> Result<Column, AllocError>
+        requires { HoldsType (dtype.Decimal self.now.precision (Some self.now.scale)) (number_cells values.now) }
+        ensures { IfOk result (λ column. column ≡ record { name = name; dtype = dtype.Decimal self.now.precision (Some self.now.scale); values = number_cells values.now }) }
+    {
+        Column::packed_wide(
+            alloc,
             name,
             DataType::Decimal(self.precision, Some(self.scale)),
             values,

@@ -200,4 +200,12 @@ impl TextType for EnumTexts {
         let EnumTexts { categories, places } = self;
         Column::from_enum(name, DataType::Enum(Some(categories.into_texts())), places)
     }
+
+    fn packed(&self, _alloc: Global, name: PlSmallStr) -> Result<Column, AllocError> {
+        let Ok(categories) = self.categories.copy_texts() else {
+            return Err(AllocError);
+        };
+        let places = self.places.try_clone()?;
+        Ok(Column::from_enum(name, DataType::Enum(Some(categories)), places))
+    }
 }

@@ -1,5 +1,5 @@
 //! Types whose values are days, times and datetimes.
-ghost use Rattle.std.specs.Prelude.{◌≡◌, refl};
+ghost use Rattle.std.specs.Prelude.{◌≡◌, refl, IfOk};
 ghost use Rattle.pl_frame.specs.declared.data_type.DataType.TheVariants as dtype;
 ghost use Rattle.pl_frame.specs.Columns.{HoldsType, number_cells};
 ghost use Rattle.pl_frame.specs.Frame.{Number};
@@ -14,6 +14,7 @@ use pl_frame::column::Column;
 use pl_frame::data_type::{DataType, TimeUnit};
 use pl_frame::name::PlSmallStr;
 use pl_frame::numbers::Numbers;
+use std::alloc::{AllocError, Global};
 
 /// Days from 1970-01-01, of the years 0000 to 9999.
 #[derive(Clone, Copy, Drop)]
@@ -53,6 +54,18 @@ impl ValueType for Date {
         ensures { result ≡ record { name = name; dtype = dtype.Date; values = number_cells values } }
     {
         Column::from_narrow(name, DataType::Date, values)
+    }
+
+    fn packed(
+        &self,
+        alloc: Global,
+        name: PlSmallStr,
+        values: &Numbers<i64>,
+    ) -> Result<Column, AllocError>
+        requires { HoldsType dtype.Date (number_cells values.now) }
+        ensures { IfOk result (λ column. column ≡ record { name = name; dtype = dtype.Date; values = number_cells values.now }) }
+    {
+        Column::packed_narrow(alloc, name, DataType::Date, values)
     }
 }
 
@@ -98,6 +111,18 @@ impl ValueType for Time {
     {
         Column::from_narrow(name, DataType::Time, values)
     }
+
+    fn packed(
+        &self,
+        alloc: Global,
+        name: PlSmallStr,
+        values: &Numbers<i64>,
+    ) -> Result<Column, AllocError>
+        requires { HoldsType dtype.Time (number_cells values.now) }
+        ensures { IfOk result (λ column. column ≡ record { name = name; dtype = dtype.Time; values = number_cells values.now }) }
+    {
+        Column::packed_narrow(alloc, name, DataType::Time, values)
+    }
 }
 
 /// Units from 1970-01-01T00:00:00, of the years 0000 to 9999.
@@ -140,5 +165,17 @@ impl ValueType for Datetime {
         ensures { result ≡ record { name = name; dtype = dtype.Datetime self.unit; values = number_cells values } }
     {
         Column::from_narrow(name, DataType::Datetime(self.unit), values)
+    }
+
+    fn packed(
+        &self,
+        alloc: Global,
+        name: PlSmallStr,
+        values: &Numbers<i64>,
+    ) -> Result<Column, AllocError>
+        requires { HoldsType (dtype.Datetime self.now.unit) (number_cells values.now) }
+        ensures { IfOk result (λ column. column ≡ record { name = name; dtype = dtype.Datetime self.now.unit; values = number_cells values.now }) }
+    {
+        Column::packed_narrow(alloc, name, DataType::Datetime(self.unit), values)
     }
 }

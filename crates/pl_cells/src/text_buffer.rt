@@ -251,4 +251,13 @@ impl<L: TextType> TextBuffer<L> {
         } = self;
         texts.column(settings.name)
     }
+    /// The column, in no more memory than its cells need; the buffer stays as it is. Refuses only want of memory.
+    pub(crate) fn packed(&self, alloc: Global) -> Result<Series, AllocError>
+        ensures { IfOk result (λ column. column ≡ column_of self.now) }
+    {
+        match self.settings.name.try_clone() {
+            Ok(name) => self.texts.packed(alloc, name),
+            Err(_) => Err(AllocError),
+        }
+    }
 }

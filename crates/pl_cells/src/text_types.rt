@@ -98,6 +98,10 @@ pub trait TextType {
     /// The column of a name, without taking memory.
     fn column(self, name: PlSmallStr) -> Column
         ensures { result ≡ record { name = name; dtype = dtype self; values = values self } };
+
+    /// The column of a name, in no more memory than the values need. Refuses only want of memory.
+    fn packed(&self, alloc: Global, name: PlSmallStr) -> Result<Column, AllocError>
+        ensures { IfOk result (λ column. column ≡ record { name = name; dtype = dtype self.now; values = values self.now }) };
 }
 
 // Bytes that are known to be a text: no test is run.
@@ -236,6 +240,10 @@ impl TextType for Texts {
     fn column(self, name: PlSmallStr) -> Column {
         Column::from_string(name, self)
     }
+
+    fn packed(&self, alloc: Global, name: PlSmallStr) -> Result<Column, AllocError> {
+        Column::packed_string(alloc, name, self)
+    }
 }
 
 // Categories.
@@ -299,5 +307,11 @@ impl TextType for CodesBuilder {
 
     fn column(self, name: PlSmallStr) -> Column {
         Column::from_categories(name, self.into_codes())
+    }
+
+    fn packed(&self, alloc: Global, name: PlSmallStr) -> Result<Column, AllocError> {
+        let mut texts = CodesBuilder::new(alloc);
+        texts.append(self)?;
+        Ok(Column::from_categories(name, texts.into_codes()))
     }
 }

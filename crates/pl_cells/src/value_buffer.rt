@@ -243,4 +243,13 @@ impl<K: ValueType> ValueBuffer<K> {
         } = self;
         kind.column(settings.name, values)
     }
+    /// The column, in no more memory than its cells need; the buffer stays as it is. Refuses only want of memory.
+    pub(crate) fn packed(&self, alloc: Global) -> Result<Series, AllocError>
+        ensures { IfOk result (λ column. column ≡ column_of self.now) }
+    {
+        match self.settings.name.try_clone() {
+            Ok(name) => self.kind.packed(alloc, name, &self.values),
+            Err(_) => Err(AllocError),
+        }
+    }
 }

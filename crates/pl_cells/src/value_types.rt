@@ -1,5 +1,5 @@
 //! The types whose cells are truth values or numbers, each with the values that texts have.
-ghost use Rattle.std.specs.Prelude.{◌≡◌, refl, List, Option, Some, map, drop, true, false, IfSome};
+ghost use Rattle.std.specs.Prelude.{◌≡◌, refl, List, Option, Some, map, drop, true, false, IfOk, IfSome};
 ghost use Rattle.std.specs.Option.{option_map};
 ghost use Rattle.pl_frame.specs.declared.data_type.DataType.{DataType};
 ghost use Rattle.pl_frame.specs.declared.data_type.DataType.TheVariants as dtype;
@@ -15,6 +15,7 @@ use pl_frame::column::Column;
 use pl_frame::data_type::DataType;
 use pl_frame::name::PlSmallStr;
 use pl_frame::numbers::Numbers;
+use std::alloc::{AllocError, Global};
 
 /// A type whose values are truth values or numbers.
 pub trait ValueType {
@@ -55,6 +56,16 @@ pub trait ValueType {
         requires { HoldsType (dtype self) (map (option_map scalar) values) }
         ensures { result ≡ record { name = name; dtype = dtype self; values = map (option_map scalar) values } };
 
+    /// A column of values of the type, in no more memory than they need. Refuses only want of memory.
+    fn packed(
+        &self,
+        alloc: Global,
+        name: PlSmallStr,
+        values: &Numbers<Self::Kept>,
+    ) -> Result<Column, AllocError>
+        requires { HoldsType (dtype self.now) (map (option_map scalar) values.now) }
+        ensures { IfOk result (λ column. column ≡ record { name = name; dtype = dtype self.now; values = map (option_map scalar) values.now }) };
+
     ghost no_text: { (kind : Self) → is_text (dtype kind) ≡ false };
 }
 
@@ -91,5 +102,17 @@ impl ValueType for Boolean {
         ensures { result ≡ record { name = name; dtype = dtype.Boolean; values = truth_cells values } }
     {
         Column::from_booleans(name, values)
+    }
+
+    fn packed(
+        &self,
+        alloc: Global,
+        name: PlSmallStr,
+        values: &Numbers<bool>,
+    ) -> Result<Column, AllocError>
+        requires { HoldsType dtype.Boolean (truth_cells values.now) }
+        ensures { IfOk result (λ column. column ≡ record { name = name; dtype = dtype.Boolean; values = truth_cells values.now }) }
+    {
+        Column::packed_booleans(alloc, name, values)
     }
 }

@@ -1,5 +1,5 @@
 //! Types whose values are whole numbers: those of so many bits with a sign, and those without one.
-ghost use Rattle.std.specs.Prelude.{◌≡◌, refl};
+ghost use Rattle.std.specs.Prelude.{◌≡◌, refl, IfOk};
 ghost use Rattle.pl_frame.specs.declared.data_type.DataType.TheVariants as dtype;
 ghost use Rattle.pl_frame.specs.Columns.{HoldsType, number_cells};
 ghost use Rattle.pl_frame.specs.Frame.{Number};
@@ -13,6 +13,7 @@ use pl_frame::column::Column;
 use pl_frame::data_type::DataType;
 use pl_frame::name::PlSmallStr;
 use pl_frame::numbers::Numbers;
+use std::alloc::{AllocError, Global};
 
 /// Whole numbers of 8 bits with a sign.
 #[derive(Clone, Copy, Drop)]
@@ -52,6 +53,18 @@ impl ValueType for Int8 {
         ensures { result ≡ record { name = name; dtype = dtype.Int8; values = number_cells values } }
     {
         Column::from_narrow(name, DataType::Int8, values)
+    }
+
+    fn packed(
+        &self,
+        alloc: Global,
+        name: PlSmallStr,
+        values: &Numbers<i64>,
+    ) -> Result<Column, AllocError>
+        requires { HoldsType dtype.Int8 (number_cells values.now) }
+        ensures { IfOk result (λ column. column ≡ record { name = name; dtype = dtype.Int8; values = number_cells values.now }) }
+    {
+        Column::packed_narrow(alloc, name, DataType::Int8, values)
     }
 }
 
@@ -94,6 +107,18 @@ impl ValueType for Int16 {
     {
         Column::from_narrow(name, DataType::Int16, values)
     }
+
+    fn packed(
+        &self,
+        alloc: Global,
+        name: PlSmallStr,
+        values: &Numbers<i64>,
+    ) -> Result<Column, AllocError>
+        requires { HoldsType dtype.Int16 (number_cells values.now) }
+        ensures { IfOk result (λ column. column ≡ record { name = name; dtype = dtype.Int16; values = number_cells values.now }) }
+    {
+        Column::packed_narrow(alloc, name, DataType::Int16, values)
+    }
 }
 
 /// Whole numbers of 32 bits with a sign.
@@ -134,6 +159,18 @@ impl ValueType for Int32 {
         ensures { result ≡ record { name = name; dtype = dtype.Int32; values = number_cells values } }
     {
         Column::from_narrow(name, DataType::Int32, values)
+    }
+
+    fn packed(
+        &self,
+        alloc: Global,
+        name: PlSmallStr,
+        values: &Numbers<i64>,
+    ) -> Result<Column, AllocError>
+        requires { HoldsType dtype.Int32 (number_cells values.now) }
+        ensures { IfOk result (λ column. column ≡ record { name = name; dtype = dtype.Int32; values = number_cells values.now }) }
+    {
+        Column::packed_narrow(alloc, name, DataType::Int32, values)
     }
 }
 
@@ -176,6 +213,18 @@ impl ValueType for Int64 {
     {
         Column::from_narrow(name, DataType::Int64, values)
     }
+
+    fn packed(
+        &self,
+        alloc: Global,
+        name: PlSmallStr,
+        values: &Numbers<i64>,
+    ) -> Result<Column, AllocError>
+        requires { HoldsType dtype.Int64 (number_cells values.now) }
+        ensures { IfOk result (λ column. column ≡ record { name = name; dtype = dtype.Int64; values = number_cells values.now }) }
+    {
+        Column::packed_narrow(alloc, name, DataType::Int64, values)
+    }
 }
 
 /// Whole numbers of 128 bits with a sign.
@@ -211,6 +260,18 @@ impl ValueType for Int128 {
         ensures { result ≡ record { name = name; dtype = dtype.Int128; values = number_cells values } }
     {
         Column::from_wide(name, DataType::Int128, values)
+    }
+
+    fn packed(
+        &self,
+        alloc: Global,
+        name: PlSmallStr,
+        values: &Numbers<i128>,
+    ) -> Result<Column, AllocError>
+        requires { HoldsType dtype.Int128 (number_cells values.now) }
+        ensures { IfOk result (λ column. column ≡ record { name = name; dtype = dtype.Int128; values = number_cells values.now }) }
+    {
+        Column::packed_wide(alloc, name, DataType::Int128, values)
     }
 }
 
@@ -253,6 +314,18 @@ impl ValueType for UInt8 {
     {
         Column::from_narrow(name, DataType::UInt8, values)
     }
+
+    fn packed(
+        &self,
+        alloc: Global,
+        name: PlSmallStr,
+        values: &Numbers<i64>,
+    ) -> Result<Column, AllocError>
+        requires { HoldsType dtype.UInt8 (number_cells values.now) }
+        ensures { IfOk result (λ column. column ≡ record { name = name; dtype = dtype.UInt8; values = number_cells values.now }) }
+    {
+        Column::packed_narrow(alloc, name, DataType::UInt8, values)
+    }
 }
 
 /// Whole numbers of 16 bits without a sign.
@@ -293,6 +366,18 @@ impl ValueType for UInt16 {
         ensures { result ≡ record { name = name; dtype = dtype.UInt16; values = number_cells values } }
     {
         Column::from_narrow(name, DataType::UInt16, values)
+    }
+
+    fn packed(
+        &self,
+        alloc: Global,
+        name: PlSmallStr,
+        values: &Numbers<i64>,
+    ) -> Result<Column, AllocError>
+        requires { HoldsType dtype.UInt16 (number_cells values.now) }
+        ensures { IfOk result (λ column. column ≡ record { name = name; dtype = dtype.UInt16; values = number_cells values.now }) }
+    {
+        Column::packed_narrow(alloc, name, DataType::UInt16, values)
     }
 }
 
@@ -335,6 +420,18 @@ impl ValueType for UInt32 {
     {
         Column::from_narrow(name, DataType::UInt32, values)
     }
+
+    fn packed(
+        &self,
+        alloc: Global,
+        name: PlSmallStr,
+        values: &Numbers<i64>,
+    ) -> Result<Column, AllocError>
+        requires { HoldsType dtype.UInt32 (number_cells values.now) }
+        ensures { IfOk result (λ column. column ≡ record { name = name; dtype = dtype.UInt32; values = number_cells values.now }) }
+    {
+        Column::packed_narrow(alloc, name, DataType::UInt32, values)
+    }
 }
 
 /// Whole numbers of 64 bits without a sign.
@@ -373,5 +470,17 @@ impl ValueType for UInt64 {
         ensures { result ≡ record { name = name; dtype = dtype.UInt64; values = number_cells values } }
     {
         Column::from_wide(name, DataType::UInt64, values)
+    }
+
+    fn packed(
+        &self,
+        alloc: Global,
+        name: PlSmallStr,
+        values: &Numbers<i128>,
+    ) -> Result<Column, AllocError>
+        requires { HoldsType dtype.UInt64 (number_cells values.now) }
+        ensures { IfOk result (λ column. column ≡ record { name = name; dtype = dtype.UInt64; values = number_cells values.now }) }
+    {
+        Column::packed_wide(alloc, name, DataType::UInt64, values)
     }
 }

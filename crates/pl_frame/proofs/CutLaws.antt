@@ -26,7 +26,7 @@ RiseTo-begin from ends last zero h l = omega arith
 RiseTo-begin from [] last (suc n) h l = absurd (omega arith)
 RiseTo-begin from (e ∷ es) last (suc n) h l = let further = RiseTo-begin e es last n h.1 (omega arith) in let first = h.0 in omega arith
 
-RiseTo-take : (from : ℕ) (ends : List ℕ) (last n : ℕ) → RiseTo from ends last → n ≤ length ends → RiseTo from (take n ends) (get_or (from ∷ ends) n 0)
+pub RiseTo-take : (from : ℕ) (ends : List ℕ) (last n : ℕ) → RiseTo from ends last → n ≤ length ends → RiseTo from (take n ends) (get_or (from ∷ ends) n 0)
 RiseTo-take from ends last zero h l = refl
 RiseTo-take from [] last (suc n) h l = absurd (omega arith)
 RiseTo-take from (e ∷ es) last (suc n) h l = (h.0, RiseTo-take e es last n h.1 (omega arith))

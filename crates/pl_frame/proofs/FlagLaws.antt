@@ -1,8 +1,10 @@
 -- Laws of values with flags beside them, as far as flags are kept.
-use Rattle.std.proofs.Common.{◌≡◌, ℕ, suc, zero, ◌+◌, ◌-◌, ◌<◌, ◌≤◌, Bool, true, false, not, cond, if◌then◌else◌, List, [], ◌∷◌, ◌++◌, length, take, get_or, replicate, slice_get, Option, None, Some, is_none, count_by, refl, sym, ◌∙◌, ap, arith}
-use Rattle.std.proofs.lemmas.List.{length-append, length-replicate, length-take}
+use Rattle.std.proofs.Common.{◌≡◌, ℕ, ℤ, suc, zero, ◌+◌, ◌-◌, ◌<◌, ◌≤◌, Bool, true, false, not, cond, if◌then◌else◌, List, [], ◌∷◌, ◌++◌, length, map, take, drop, get_or, replicate, slice_get, Option, None, Some, is_none, count_by, refl, sym, ◌∙◌, ap, arith}
+use Rattle.std.specs.Option.{option_map}
+use Rattle.std.proofs.lemmas.List.{length-append, length-drop, length-map, take-map, drop-map, length-replicate, length-take}
 use Rattle.std.proofs.lemmas.List.Sums.{sum_by-cons}
-use Rattle.pl_frame.specs.Flags.{marked}
+use Rattle.pl_frame.specs.Flags.{filled, flags_behind, marked}
+use Rattle.pl_frame.specs.Frame.{Scalar, Number}
 
 pub length-marked : {X : Type 0} (xs : List X) (flags : List Bool) → length (marked xs flags) ≡ length xs
 length-marked [] flags = refl
@@ -50,10 +52,6 @@ length-take-le zero xs ys h = omega arith
 length-take-le (suc n) [] ys h = omega arith
 length-take-le (suc n) (x ∷ xs) [] h = absurd (omega arith)
 length-take-le (suc n) (x ∷ xs) (y ∷ ys) h = let deeper = length-take-le n xs ys (omega arith) in omega (arith, deeper)
-
--- flags with set ones behind them, up to so many
-abbrev pub filled : ℕ → List Bool → List Bool
-filled n flags = take n flags ++ replicate (n - length flags) true
 
 pub length-filled : (n : ℕ) (flags : List Bool) → length flags ≤ n → length (filled n flags) ≡ n
 length-filled n flags h = omega (arith, h, length-append (take n flags) (replicate (n - length flags) true), length-replicate (n - length flags) true, length-take n flags)
@@ -108,5 +106,61 @@ nulls-marked {X} (x ∷ xs) [] h = sum_by-cons (λ (o : Option X). cond (is_none
 nulls-marked {X} (x ∷ xs) (f ∷ fs) h =
     sum_by-cons (λ (o : Option X). cond (is_none o) 1 0) (if f then Some x else None) (marked xs fs)
     ∙ (null_step x f _ _ (nulls-marked xs fs (omega arith)) ∙ sym (sum_by-cons (λ b. cond (not b) 1 0) f fs))
+
+-- ---- runs of values
+
+pub marked-drop : {X : Type 0} (n : ℕ) (xs : List X) (flags : List Bool) → marked (drop n xs) (drop n flags) ≡ drop n (marked xs flags)
+marked-drop zero xs flags = refl
+marked-drop (suc n) [] flags = refl
+marked-drop (suc n) (x ∷ xs) [] = none n xs
+  where
+    none : {X : Type 0} (n : ℕ) (xs : List X) → marked (drop n xs) [] ≡ drop n (marked xs [])
+    none zero xs = refl
+    none (suc n) [] = refl
+    none (suc n) (x ∷ xs) = none n xs
+marked-drop (suc n) (x ∷ xs) (f ∷ fs) = marked-drop n xs fs
+
+pub marked-map : {X Y : Type 0} (f : X → Y) (xs : List X) (flags : List Bool) → map (option_map f) (marked xs flags) ≡ marked (map f xs) flags
+marked-map f [] flags = refl
+marked-map f (x ∷ xs) [] = ap (λ rest. Some (f x) ∷ rest) (marked-map f xs [])
+marked-map f (x ∷ xs) (true ∷ fs) = ap (λ rest. Some (f x) ∷ rest) (marked-map f xs fs)
+marked-map f (x ∷ xs) (false ∷ fs) = ap (λ rest. None ∷ rest) (marked-map f xs fs)
+
+marked-behind : {X : Type 0} (xs ys : List X) (fs gs : List Bool) → length fs ≤ length xs → marked (xs ++ ys) (flags_behind fs (length xs) gs) ≡ marked xs fs ++ marked ys gs
+marked-behind xs ys fs [] h = marked-append_values xs ys fs h
+marked-behind xs ys fs (g ∷ gs) h =
+    marked-append xs ys (filled (length xs) fs) (g ∷ gs) (length-filled (length xs) fs h) ∙ ap (λ rest. rest ++ marked ys (g ∷ gs)) (marked-filled xs fs h)
+
+-- the values from one place up to another behind others
+pub marked-run : {X : Type 0} (xs ys : List X) (fs gs : List Bool) (n from : ℕ) → length fs ≤ length xs →
+    marked (xs ++ take n (drop from ys)) (flags_behind fs (length xs) (take n (drop from gs))) ≡ marked xs fs ++ take n (drop from (marked ys gs))
+marked-run xs ys fs gs n from h =
+    marked-behind xs (take n (drop from ys)) fs (take n (drop from gs)) h
+    ∙ ap (λ rest. marked xs fs ++ rest) (marked-take n (drop from ys) (drop from gs) ∙ ap (take n) (marked-drop from ys gs))
+
+pub length-behind : (fs gs : List Bool) (n m : ℕ) → length fs ≤ n → length gs ≤ m → length (flags_behind fs n gs) ≤ n + m
+length-behind fs [] n m h l = omega arith
+length-behind fs (g ∷ gs) n m h l =
+    let all = length-append (filled n fs) (g ∷ gs) in let first = length-filled n fs h in omega (arith, all, first, l)
+
+pub length-run : {X : Type 0} (n from : ℕ) (ys : List X) (gs : List Bool) → length gs ≤ length ys → length (take n (drop from gs)) ≤ length (take n (drop from ys))
+length-run n from ys gs h = length-take-le n (drop from gs) (drop from ys) (let a = length-drop from gs in let b = length-drop from ys in omega (arith, a, b, h))
+
+-- the same of numbers that become wider
+pub widened-run : {X : Type 0} (f : X → Scalar) (xs new : List ℤ) (ys : List X) (fs gs flags : List Bool) (n from : ℕ) → length fs ≤ length xs →
+    map Number new ≡ map Number xs ++ map f (take n (drop from ys)) → flags ≡ flags_behind fs (length xs) (take n (drop from gs)) →
+    map (option_map Number) (marked new flags) ≡ map (option_map Number) (marked xs fs) ++ take n (drop from (map (option_map f) (marked ys gs)))
+widened-run f xs new ys fs gs flags n from h e are =
+    let size : length (map Number xs) ≡ length xs = length-map xs Number in
+    let moved : map f (take n (drop from ys)) ≡ take n (drop from (map f ys)) = sym (take-map f n (drop from ys)) ∙ ap (take n) (sym (drop-map f from ys)) in
+    marked-map Number new flags
+    ∙ (λ j. marked ((e ∙ ap (λ zs. map Number xs ++ zs) moved) j) ((are ∙ ap (λ k. flags_behind fs k (take n (drop from gs))) (sym size)) j))
+    ∙ marked-run (map Number xs) (map f ys) fs gs n from (omega (arith, size, h))
+    ∙ (λ j. sym (marked-map Number xs fs) j ++ take n (drop from (sym (marked-map f ys gs) j)))
+
+pub length-widened : {X : Type 0} (f : X → Scalar) (xs new : List ℤ) (zs : List X) → map Number new ≡ map Number xs ++ map f zs → length new ≡ length xs + length zs
+length-widened f xs new zs e =
+    let a = length-map new Number in let b = length-map xs Number in let c = length-map zs f in let d = length-append (map Number xs) (map f zs) in let all = ap length e in
+    omega (arith, a, b, c, d, all)
 
 pub ruleset marks = (length-marked, marked-value, marked-append, marked-append_unmarked, marked-null, marked-take, length-take-le, length-filled, marked-filled, slice_get-marked_value, slice_get-marked_null, slice_get-marked_past, nulls-marked)

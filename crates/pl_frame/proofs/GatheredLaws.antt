@@ -30,7 +30,7 @@ cell_fits type values i held l = ap (misfits type) (cell_is values i) ∙ by (mi
     by false e = e
     by true e = let seen = list_any_at (misfits type) values i None l e in let unseen = none_passes (misfits type) values held in absurd (cc)
 
-get_fits : (type : DataType) (values : List (Option Scalar)) (k : ℕ) → HoldsType type values → k < length values → misfits type (get_or values k None) ≡ false
+pub get_fits : (type : DataType) (values : List (Option Scalar)) (k : ℕ) → HoldsType type values → k < length values → misfits type (get_or values k None) ≡ false
 get_fits type values k held l = ap (misfits type) (sym (cell_is values k)) ∙ cell_fits type values k held l
 
 -- one value of the type more

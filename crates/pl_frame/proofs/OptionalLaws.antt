@@ -122,7 +122,7 @@ pub AllUtf8-push_nothing : (texts : List (List ℕ)) → AllByRecursion IsUtf8 t
 AllUtf8-push_nothing texts h = AllUtf8-push texts [] h IsUtf8-nil
 
 -- the part at a place, by its begin and its end
-part_at : (bytes ends : List ℕ) (i begin end : ℕ) → i < length ends → begin ≡ get_or (0 ∷ ends) i 0 → end ≡ get_or ends i end →
+pub part_at : (bytes ends : List ℕ) (i begin end : ℕ) → i < length ends → begin ≡ get_or (0 ∷ ends) i 0 → end ≡ get_or ends i end →
     slice_get (parts_between 0 ends bytes) i ≡ Some (take (end - begin) (drop begin bytes))
 part_at bytes ends i begin end l b e =
     let e' : end ≡ get_or ends i 0 = e ∙ get_or_default ends i end 0 l in

@@ -1,21 +1,19 @@
 -- How the values of a column are kept.
-use Rattle.std.specs.Prelude.{◌≡◌, Bool, true, false, List, Option, None, replicate}
+use Rattle.std.specs.Prelude.{◌≡◌, Bool, true, false, List, Option}
 use Rattle.pl_frame.specs.declared.column.Data.{Data}
 use Rattle.pl_frame.specs.declared.column.Data.TheVariants as kept
 use Rattle.pl_frame.specs.declared.data_type.DataType.{DataType}
 use Rattle.pl_frame.specs.Categories.{AreCodes, decoded}
-use Rattle.pl_frame.specs.Columns.{truth_cells, number_cells, text_cells, is_coded, is_enum, categories_of, HoldsType}
+use Rattle.pl_frame.specs.Columns.{text_cells, is_coded, is_enum, categories_of, HoldsType}
 use Rattle.pl_frame.specs.Frame.{Scalar}
+use Rattle.pl_frame.specs.Parts.{part_cells}
 
 -- the cells of a column of a type whose values are kept in this way
 abbrev pub cells : DataType → Data → List (Option Scalar)
-cells type (kept.Boolean truths) = truth_cells truths
-cells type (kept.Narrow numbers) = number_cells numbers
-cells type (kept.Wide numbers) = number_cells numbers
-cells type (kept.String texts) = text_cells texts
+cells type (kept.Single part) = part_cells part
+cells type (kept.Parts values) = values
 cells type (kept.Categories texts) = text_cells texts
 cells type (kept.Enum codes) = text_cells (decoded (categories_of type) codes)
-cells type (kept.Null len) = replicate len None
 
 -- kept as codes
 abbrev pub has_codes : Data → Bool

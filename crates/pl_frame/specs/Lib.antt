@@ -20,6 +20,8 @@ pub mod Names
 pub mod Opening
 pub mod Optional
 pub mod Outside
+pub mod Packed
+pub mod Parts
 pub mod RowIndex
 pub mod Schema
 pub mod Translated

@@ -1,10 +1,11 @@
 //! Columns under another type.
-ghost use Rattle.std.specs.Prelude.{◌≡◌, ◌++◌, ◌∷◌, [], true, map, IfOk, OnOk, IsOkUnless, None, Some};
+ghost use Rattle.std.specs.Prelude.{◌≡◌, ◌++◌, ◌∷◌, [], true, false, map, IfOk, OnOk, IsOkUnless, None, Some};
 ghost use Rattle.std.specs.Option.{option_map};
 ghost use Rattle.pl_frame.specs.Casts.{is_string, is_cast, is_other_cast, number_in, cast_column};
 ghost use Rattle.pl_frame.specs.Categories.{code_of};
 ghost use Rattle.pl_frame.specs.Columns.{number_cells, scalar_of, text_in, is_coded, HoldsType};
 ghost use Rattle.pl_frame.specs.declared.error.PolarsError.TheVariants as error;
+ghost use Rattle.pl_frame.specs.Equal.{types_equal};
 ghost use Rattle.pl_frame.specs.Frame.{Number};
 ghost use Rattle.pl_frame.specs.Names.{first_repeat};
 ghost use Rattle.pl_frame.specs.Types.{from_to, is_narrow, is_whole_number};
@@ -78,12 +79,27 @@ impl Column {
         if self.dtype() == to {
             return self.try_clone();
         }
-        match to {
-            DataType::String => cast_to_string(alloc, self),
-            DataType::Categorical => cast_to_categories(alloc, self),
-            DataType::Enum(Some(categories)) => cast_to_enum(alloc, self, categories),
-            _ => cast_to_whole(alloc, self, to),
+        if self.is_plain() {
+            return cast_plain(alloc, self, to);
         }
+        let plain = self.all_plain(alloc)?;
+        cast_plain(alloc, &plain, to)
+    }
+}
+
+// The column under another type.
+fn cast_plain(alloc: Global, column: &Column, to: &DataType) -> PolarsResult<Column>
+    requires held { HoldsType column.now.dtype column.now.values }
+    requires carried { is_cast column.now.dtype to.now ≡ true }
+    requires other { types_equal column.now.dtype to.now ≡ false }
+    ensures column { IfOk result (λ cast. cast ≡ cast_column column.now to.now) }
+    ensures refused { IsOkUnless result error.OutOfMemory }
+{
+    match to {
+        DataType::String => cast_to_string(alloc, column),
+        DataType::Categorical => cast_to_categories(alloc, column),
+        DataType::Enum(Some(categories)) => cast_to_enum(alloc, column, categories),
+        _ => cast_to_whole(alloc, column, to),
     }
 }
 

@@ -288,7 +288,7 @@ impl CodesBuilder {
     }
 
     // Puts other texts behind these. After want of memory the first of them may stand there.
-    fn append_codes(&mut self, other: &Codes) -> Result<(), AllocError>
+    pub(crate) fn append_codes(&mut self, other: &Codes) -> Result<(), AllocError>
         ensures ok { OnOk result (self.new ≡ self.old ++ other.now) }
         ensures err { OnErr result (take (length self.old) self.new ≡ self.old) }
     {

@@ -1,9 +1,10 @@
 //! Columns: a name, a type and values of that type.
-ghost use Rattle.std.specs.Prelude.{◌≡◌, ◌<◌, true, length, IfOk, IfSome, IsOk, IsOkUnless, count_by, is_none, replicate, slice_get, slice_index_or, unwrap_or, [], None};
+ghost use Rattle.std.specs.Prelude.{◌≡◌, ◌<◌, ◌++◌, true, false, length, IfOk, IfSome, OnOk, IsOk, IsOkUnless, count_by, is_none, replicate, slice_get, slice_index_or, unwrap_or, [], None};
 ghost use Rattle.std.specs.Option.{option_map};
 ghost use Rattle.pl_frame.specs.Categories.{AreCodes, decoded};
 ghost use Rattle.pl_frame.specs.Columns.{scalar_of, truth_cells, number_cells, text_cells, is_number, is_coded, is_enum, categories_of, HoldsType, dictionary, code_at};
 ghost use Rattle.pl_frame.specs.Frame.{Truth, Number, Letters, cell_at};
+ghost use Rattle.pl_frame.specs.Parts.{part_cells};
 ghost use Rattle.pl_frame.specs.declared.error.PolarsError.TheVariants as error;
 
 use crate::codes::Codes;
@@ -11,6 +12,8 @@ use crate::data_type::DataType;
 use crate::error::{ComputeFault, FaultKind, PolarsError, PolarsResult};
 use crate::name::PlSmallStr;
 use crate::numbers::Numbers;
+use crate::part::{Part, text_value};
+use crate::parts::Parts;
 use crate::texts::Texts;
 use std::alloc::AllocError;
 use std::marker::Model;
@@ -67,15 +70,13 @@ impl From<ColumnFault> for PolarsError {
 
 // The kinds in which values are kept.
 #[derive(Debug, Drop)]
-enum Data {
-    Boolean(Numbers<bool>),
-    Narrow(Numbers<i64>),
-    Wide(Numbers<i128>),
-    String(Texts),
+pub(crate) enum Data {
+    /// All in one part.
+    Single(Part),
+    Parts(Parts),
     Categories(Codes),
     /// Places among the categories of the type.
     Enum(Numbers<u64>),
-    Null(usize),
 }
 
 /// A name, a type and values of that type, some of which may be null.
@@ -109,7 +110,7 @@ impl Column {
         Column {
             name,
             dtype: DataType::Boolean,
-            kept: Data::Boolean(truths),
+            kept: Data::Single(Part::Boolean(truths)),
         }
     }
 
@@ -122,7 +123,7 @@ impl Column {
         Column {
             name,
             dtype,
-            kept: Data::Narrow(numbers),
+            kept: Data::Single(Part::Narrow(numbers)),
         }
     }
 
@@ -135,7 +136,7 @@ impl Column {
         Column {
             name,
             dtype,
-            kept: Data::Wide(numbers),
+            kept: Data::Single(Part::Wide(numbers)),
         }
     }
 
@@ -157,7 +158,7 @@ impl Column {
         Column {
             name,
             dtype: DataType::String,
-            kept: Data::String(texts),
+            kept: Data::Single(Part::Texts(texts)),
         }
     }
 
@@ -197,8 +198,78 @@ impl Column {
         Ok(Column {
             name,
             dtype: DataType::Null,
-            kept: Data::Null(len),
+            kept: Data::Single(Part::Null(len)),
         })
+    }
+
+    // A column of a type that is not kept as codes, whose values are these. They are values of the type.
+    pub(crate) fn of_part(name: PlSmallStr, dtype: DataType, part: Part) -> Column
+        requires coded { is_coded dtype ≡ false }
+        requires held { HoldsType dtype (part_cells part) }
+        ensures { result ≡ record { name = name; dtype = dtype; values = part_cells part } }
+    {
+        Column {
+            name,
+            dtype,
+            kept: Data::Single(part),
+        }
+    }
+
+    // The same of values in parts.
+    pub(crate) fn of_parts(name: PlSmallStr, dtype: DataType, parts: Parts) -> Column
+        requires coded { is_coded dtype ≡ false }
+        requires held { HoldsType dtype parts }
+        ensures { result ≡ record { name = name; dtype = dtype; values = parts } }
+    {
+        Column {
+            name,
+            dtype,
+            kept: Data::Parts(parts),
+        }
+    }
+
+    // The values, where all are kept in one part, without taking memory.
+    #[inline]
+    pub(crate) fn single(&self) -> Option<&Part>
+        ensures cells { IfSome result (λ part. part_cells part.now ≡ self.now.values) }
+        ensures coded { IfSome result (λ part. is_coded self.now.dtype ≡ false) }
+    {
+        match &self.kept {
+            Data::Single(part) => Some(part),
+            _ => None,
+        }
+    }
+
+    // The values, where they are kept in parts, without taking memory.
+    #[inline]
+    pub(crate) fn parts(&self) -> Option<&Parts>
+        ensures cells { IfSome result (λ parts. parts.now ≡ self.now.values) }
+        ensures coded { IfSome result (λ parts. is_coded self.now.dtype ≡ false) }
+    {
+        match &self.kept {
+            Data::Parts(parts) => Some(parts),
+            _ => None,
+        }
+    }
+
+    // Puts the values of a type that is not kept as codes behind others. Refuses only want of memory.
+    pub(crate) fn put_into(self, dtype: &DataType, parts: &mut Parts) -> Result<(), AllocError>
+        requires same { self.dtype ≡ dtype.now }
+        requires coded { is_coded dtype.now ≡ false }
+        requires held { HoldsType dtype.now parts.old }
+        ensures values { OnOk result (parts.new ≡ parts.old ++ self.values) }
+        ensures held { OnOk result (HoldsType dtype.now parts.new) }
+    {
+        let Column {
+            name: _,
+            dtype: _,
+            kept,
+        } = self;
+        match kept {
+            Data::Single(part) => parts.push(part),
+            Data::Parts(more) => parts.append(more),
+            Data::Categories(_) | Data::Enum(_) => unreachable!(),
+        }
     }
 
     /// An equal column. Refuses only want of memory.
@@ -234,13 +305,10 @@ impl Column {
         ensures { result ≡ length self.now.values }
     {
         match &self.kept {
-            Data::Boolean(truths) => truths.len(),
-            Data::Narrow(numbers) => numbers.len(),
-            Data::Wide(numbers) => numbers.len(),
-            Data::String(texts) => texts.len(),
+            Data::Single(part) => part.len(),
+            Data::Parts(parts) => parts.len(),
             Data::Categories(texts) => texts.len(),
             Data::Enum(places) => places.len(),
-            Data::Null(len) => *len,
         }
     }
 
@@ -249,13 +317,10 @@ impl Column {
         ensures { result ≡ count_by is_none self.now.values }
     {
         match &self.kept {
-            Data::Boolean(truths) => truths.null_count(),
-            Data::Narrow(numbers) => numbers.null_count(),
-            Data::Wide(numbers) => numbers.null_count(),
-            Data::String(texts) => texts.null_count(),
+            Data::Single(part) => part.null_count(),
+            Data::Parts(parts) => parts.null_count(),
             Data::Categories(texts) => texts.null_count(),
             Data::Enum(places) => places.null_count(),
-            Data::Null(len) => *len,
         }
     }
 
@@ -266,13 +331,10 @@ impl Column {
         ensures { scalar_of result ≡ cell_at self.now row }
     {
         match &self.kept {
-            Data::Boolean(truths) => truth_value(truths, row),
-            Data::Narrow(numbers) => narrow_value(numbers, row),
-            Data::Wide(numbers) => wide_value(numbers, row),
-            Data::String(texts) => text_value(texts.get(row)),
+            Data::Single(part) => part.get(row),
+            Data::Parts(parts) => parts.get(row),
             Data::Categories(texts) => text_value(texts.get(row)),
             Data::Enum(places) => text_value(category_at(&self.dtype, places, row)),
-            Data::Null(_) => Value::Null,
         }
     }
 
@@ -282,7 +344,7 @@ impl Column {
         ensures { IfSome result (λ numbers. number_cells numbers.now ≡ self.now.values) }
     {
         match &self.kept {
-            Data::Narrow(numbers) => Some(numbers),
+            Data::Single(part) => part.narrow_numbers(),
             _ => None,
         }
     }
@@ -293,7 +355,7 @@ impl Column {
         ensures { IfSome result (λ numbers. number_cells numbers.now ≡ self.now.values) }
     {
         match &self.kept {
-            Data::Wide(numbers) => Some(numbers),
+            Data::Single(part) => part.wide_numbers(),
             _ => None,
         }
     }
@@ -304,7 +366,17 @@ impl Column {
         ensures { IfSome result (λ texts. text_cells texts.now ≡ self.now.values) }
     {
         match &self.kept {
-            Data::String(texts) => Some(texts),
+            Data::Single(part) => part.kept_texts(),
+            _ => None,
+        }
+    }
+
+    // The texts, where they are kept as codes beside a dictionary, without taking memory.
+    pub(crate) fn kept_codes(&self) -> Option<&Codes>
+        ensures { IfSome result (λ texts. text_cells texts.now ≡ self.now.values) }
+    {
+        match &self.kept {
+            Data::Categories(texts) => Some(texts),
             _ => None,
         }
     }
@@ -342,57 +414,11 @@ fn copy_kept(kept: &Data) -> Result<Data, AllocError>
     ensures { IfOk result (λ copy. copy ≡ kept.now) }
 {
     Ok(match kept {
-        Data::Boolean(truths) => Data::Boolean(truths.try_clone()?),
-        Data::Narrow(numbers) => Data::Narrow(numbers.try_clone()?),
-        Data::Wide(numbers) => Data::Wide(numbers.try_clone()?),
-        Data::String(texts) => Data::String(texts.try_clone()?),
+        Data::Single(part) => Data::Single(part.try_clone()?),
+        Data::Parts(parts) => Data::Parts(parts.try_clone()?),
         Data::Categories(texts) => Data::Categories(texts.try_clone()?),
         Data::Enum(places) => Data::Enum(places.try_clone()?),
-        Data::Null(len) => Data::Null(*len),
     })
-}
-
-#[inline]
-fn truth_value(truths: &Numbers<bool>, row: usize) -> Value<'_>
-    requires { row < length truths.now }
-    ensures { scalar_of result ≡ option_map Truth (unwrap_or (slice_get truths.now row) None) }
-{
-    match truths.get(row) {
-        Some(truth) => Value::Boolean(truth),
-        None => Value::Null,
-    }
-}
-
-#[inline]
-fn narrow_value(numbers: &Numbers<i64>, row: usize) -> Value<'_>
-    requires { row < length numbers.now }
-    ensures { scalar_of result ≡ option_map Number (unwrap_or (slice_get numbers.now row) None) }
-{
-    match numbers.get(row) {
-        Some(number) => Value::Whole(i128::from(number)),
-        None => Value::Null,
-    }
-}
-
-#[inline]
-fn wide_value(numbers: &Numbers<i128>, row: usize) -> Value<'_>
-    requires { row < length numbers.now }
-    ensures { scalar_of result ≡ option_map Number (unwrap_or (slice_get numbers.now row) None) }
-{
-    match numbers.get(row) {
-        Some(number) => Value::Whole(number),
-        None => Value::Null,
-    }
-}
-
-#[inline]
-fn text_value(text: Option<&str>) -> Value<'_>
-    ensures { scalar_of result ≡ option_map (λ t. Letters t.now) text.entry }
-{
-    match text {
-        Some(text) => Value::Text(text),
-        None => Value::Null,
-    }
 }
 
 // The text of a row of an enum.

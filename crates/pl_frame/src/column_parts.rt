@@ -42,11 +42,11 @@ impl Column {
         ensures rows { IfOk result (λ column. column ≡ with_values self.now (kept_of keep.now self.now.values)) }
         ensures refused { IsOkUnless result error.OutOfMemory }
     {
-        let mut gathered = Gathered::new(alloc, self.dtype());
-        match gathered.push_kept(self, keep) {
-            Ok(()) => with_cells(alloc, self, gathered),
-            Err(_) => Err(PolarsError::OutOfMemory),
+        if self.is_plain() {
+            return keep_rows(alloc, self, keep);
         }
+        let plain = self.all_plain(alloc)?;
+        keep_rows(alloc, &plain, keep)
     }
 
     // The rows and behind them those of another column of the type. Refuses only want of memory.
@@ -66,8 +66,21 @@ impl Column {
     }
 }
 
+// The rows whose flag is set.
+fn keep_rows(alloc: Global, column: &Column, keep: &[bool]) -> PolarsResult<Column>
+    requires { length keep.now ≡ length column.now.values }
+    ensures rows { IfOk result (λ kept. kept ≡ with_values column.now (kept_of keep.now column.now.values)) }
+    ensures refused { IsOkUnless result error.OutOfMemory }
+{
+    let mut gathered = Gathered::new(alloc, column.dtype());
+    match gathered.push_kept(column, keep) {
+        Ok(()) => with_cells(alloc, column, gathered),
+        Err(_) => Err(PolarsError::OutOfMemory),
+    }
+}
+
 // A column of the same name and type that has the gathered cells.
-fn with_cells(alloc: Global, column: &Column, gathered: Gathered) -> PolarsResult<Column>
+pub(crate) fn with_cells(alloc: Global, column: &Column, gathered: Gathered) -> PolarsResult<Column>
     requires { SuitsType column.now.dtype gathered }
     ensures column { IfOk result (λ made. made ≡ with_values column.now (cells_so_far column.now.dtype gathered)) }
     ensures refused { IsOkUnless result error.OutOfMemory }

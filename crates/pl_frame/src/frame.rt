@@ -153,6 +153,14 @@ impl DataFrame {
         self.columns.len()
     }
 
+    /// The columns again, without taking memory.
+    pub fn into_columns(self) -> Vec<Column>
+        ensures columns { result.items ≡ self }
+        ensures frame { IsFrame self }
+    {
+        self.columns
+    }
+
     /// The columns in order, without taking memory.
     pub fn columns(&self) -> &[Column]
         ensures columns { result.now ≡ self.now }

@@ -90,6 +90,22 @@ impl Gathered {
         ensures suits { OnOk result (SuitsType column.now.dtype self.new) }
         ensures cells { OnOk result (cells_so_far column.now.dtype self.new ≡ cells_so_far column.now.dtype self.old ++ take (to - from) (drop from column.now.values)) }
     {
+        if let Some(part) = column.single() {
+            return self.push_run(column.dtype(), part, from, to);
+        }
+        if let Some(parts) = column.parts() {
+            return parts.put_rows(self, column.dtype(), from, to);
+        }
+        self.push_each(column, from, to)
+    }
+
+    // The same row by row, however the values are kept.
+    fn push_each(&mut self, column: &Column, from: usize, to: usize) -> Result<(), AllocError>
+        requires suits { SuitsType column.now.dtype self.old }
+        requires rows { (from ≤ to) × (to ≤ length column.now.values) }
+        ensures suits { OnOk result (SuitsType column.now.dtype self.new) }
+        ensures cells { OnOk result (cells_so_far column.now.dtype self.new ≡ cells_so_far column.now.dtype self.old ++ take (to - from) (drop from column.now.values)) }
+    {
         for row in from..to {
             self.push(column, row)?;
         }
@@ -145,7 +161,7 @@ impl Gathered {
 
 // The truth value in a cell.
 #[inline]
-fn truth_in(value: Value<'_>) -> Option<bool>
+pub(crate) fn truth_in(value: Value<'_>) -> Option<bool>
     ensures { result ≡ truth_in (scalar_of value.entry) }
 {
     match value {
@@ -156,7 +172,7 @@ fn truth_in(value: Value<'_>) -> Option<bool>
 
 // The number in a cell.
 #[inline]
-fn whole_in(value: Value<'_>) -> Option<i128>
+pub(crate) fn whole_in(value: Value<'_>) -> Option<i128>
     ensures { result ≡ whole_in (scalar_of value.entry) }
 {
     match value {

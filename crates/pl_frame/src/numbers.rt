@@ -1,6 +1,11 @@
 //! Numbers, some of which are missing.
-ghost use Rattle.std.specs.Prelude.{◌≡◌, ◌+◌, ◌<◌, ◌≤◌, [], ◌∷◌, ◌++◌, take, length, ◌==◌, OnOk, OnErr, IfOk, slice_get, count_by, is_none, vec_len, vec_capacity};
+ghost use Rattle.std.specs.Prelude.{◌≡◌, ◌+◌, ◌-◌, ◌<◌, ◌≤◌, [], ◌∷◌, ◌++◌, take, drop, map, length, ◌==◌, OnOk, OnErr, IfOk, slice_get, count_by, is_none, vec_len, vec_capacity};
+ghost use Rattle.std.specs.Option.{option_map};
+ghost use Rattle.pl_frame.specs.Columns.{number_cells};
+ghost use Rattle.pl_frame.specs.Flags.{flags_behind, marked, AreMarked};
+ghost use Rattle.pl_frame.specs.Frame.{Number};
 
+use crate::whole::{Narrow, Whole};
 use std::alloc::{AllocError, Global};
 use std::marker::Model;
 
@@ -12,9 +17,19 @@ pub struct Numbers<T> {
     present: Vec<bool>,
 }
 
+// How numbers are kept: values, and flags up to the last null.
+#[derive(Drop)]
+pub(crate) struct KeptNumbers<'a, T> {
+    pub(crate) values: &'a [T],
+    pub(crate) present: &'a [bool],
+}
+
 impl<T> Model for Numbers<T> {
     ghost use Rattle.std.specs.Prelude.{List, Option};
-    ghost use Rattle.pl_frame.specs.Flags.{marked, AreMarked};
+    ghost use Rattle.std.specs.Option.{option_map};
+    ghost use Rattle.pl_frame.specs.Columns.{number_cells};
+    ghost use Rattle.pl_frame.specs.Flags.{flags_behind, marked, AreMarked};
+    ghost use Rattle.pl_frame.specs.Frame.{Number};
 
     ghost Value = { List (Option T) };
 
@@ -135,6 +150,125 @@ impl<T: Copy + Default> Numbers<T> {
     {
         self.present.iter().filter(|flag| !**flag).count()
     }
+
+    // Puts the numbers of others from one place up to another behind these. Refuses only want of memory.
+    pub(crate) fn append_range(
+        &mut self,
+        other: &Numbers<T>,
+        from: usize,
+        to: usize,
+    ) -> Result<(), AllocError>
+        requires { (from ≤ to) × (to ≤ length other.now) }
+        ensures { OnOk result (self.new ≡ self.old ++ take (to - from) (drop from other.now)) }
+    {
+        self.values.reserve(to - from)?;
+        let flags = flags_between(&other.present, from, to);
+        append_flags(&mut self.present, self.values.len(), flags)?;
+        extend_reserved(&mut self.values, &other.values[from..to]);
+        Ok(())
+    }
+
+    // Numbers that are kept as these values and flags, without taking memory.
+    pub(crate) fn of(values: Vec<T>, present: Vec<bool>) -> Self
+        requires { AreMarked values.items present.items }
+        ensures { result ≡ marked values.items present.items }
+    {
+        Numbers { values, present }
+    }
+
+    // The values and the flags, without taking memory.
+    pub(crate) fn kept(&self) -> KeptNumbers<'_, T>
+        ensures whole { marked result.values.now result.present.now ≡ self.now }
+        ensures flags { AreMarked result.values.now result.present.now }
+    {
+        KeptNumbers {
+            values: &self.values,
+            present: &self.present,
+        }
+    }
+}
+
+#[tactic(auto, using(crate::proofs::FlagLaws::marks))]
+impl Numbers<i64> {
+    // Puts numbers of no more bits from one place up to another behind these. Refuses only want of memory.
+    pub(crate) fn append_narrow<N: Narrow>(
+        &mut self,
+        other: &Numbers<N>,
+        from: usize,
+        to: usize,
+    ) -> Result<(), AllocError>
+        requires { (from ≤ to) × (to ≤ length other.now) }
+        ensures { OnOk result (number_cells self.new ≡ number_cells self.old ++ take (to - from) (drop from (map (option_map N.scalar) other.now))) }
+    {
+        self.values.reserve(to - from)?;
+        let flags = flags_between(&other.present, from, to);
+        append_flags(&mut self.present, self.values.len(), flags)?;
+        extend_narrow(&mut self.values, &other.values[from..to]);
+        Ok(())
+    }
+}
+
+#[tactic(auto, using(crate::proofs::FlagLaws::marks))]
+impl Numbers<i128> {
+    // Puts numbers of any width from one place up to another behind these. Refuses only want of memory.
+    pub(crate) fn append_wide<N: Whole>(
+        &mut self,
+        other: &Numbers<N>,
+        from: usize,
+        to: usize,
+    ) -> Result<(), AllocError>
+        requires { (from ≤ to) × (to ≤ length other.now) }
+        ensures { OnOk result (number_cells self.new ≡ number_cells self.old ++ take (to - from) (drop from (map (option_map N.scalar) other.now))) }
+    {
+        self.values.reserve(to - from)?;
+        let flags = flags_between(&other.present, from, to);
+        append_flags(&mut self.present, self.values.len(), flags)?;
+        extend_wide(&mut self.values, &other.values[from..to]);
+        Ok(())
+    }
+}
+
+// Puts numbers behind others, for which there is room.
+fn extend_narrow<N: Narrow>(values: &mut Vec<i64>, more: &[N])
+    requires { vec_len values.old + length more.now ≤ vec_capacity values.old }
+    ensures { map Number values.new.items ≡ map Number values.old.items ++ map N.scalar more.now }
+{
+    for number in more {
+        values.push_reserved(number.narrow());
+    }
+}
+
+// Puts numbers behind others, for which there is room.
+fn extend_wide<N: Whole>(values: &mut Vec<i128>, more: &[N])
+    requires { vec_len values.old + length more.now ≤ vec_capacity values.old }
+    ensures { map Number values.new.items ≡ map Number values.old.items ++ map N.scalar more.now }
+{
+    for number in more {
+        values.push_reserved(number.wide());
+    }
+}
+
+// The flags from one place up to another, as far as they are kept.
+pub(crate) fn flags_between(flags: &[bool], from: usize, to: usize) -> &[bool]
+    requires { from ≤ to }
+    ensures { result.now ≡ take (to - from) (drop from flags.now) }
+{
+    let from = from.min(flags.len());
+    let to = to.min(flags.len());
+    &flags[from..to]
+}
+
+// Puts flags behind those of so many values, where there are any.
+fn append_flags(flags: &mut Vec<bool>, len: usize, more: &[bool]) -> Result<(), AllocError>
+    requires { vec_len flags.old ≤ len }
+    ensures ok { OnOk result (flags.new.items ≡ flags_behind flags.old.items len more.now) }
+    ensures err { OnErr result (vec_len flags.new ≤ len) }
+{
+    if more.is_empty() {
+        return Ok(());
+    }
+    flags.resize(len, true)?;
+    flags.extend_from_slice(more)
 }
 
 /// Puts items behind others, for which there is room.

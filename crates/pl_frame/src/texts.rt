@@ -1,9 +1,12 @@
 //! Texts, some of which are missing.
-ghost use Rattle.std.specs.Prelude.{◌≡◌, ◌+◌, ◌<◌, [], ◌∷◌, ◌++◌, take, length, map, ◌==◌, OnOk, OnErr, IfOk, IfSome, IfNone, ◌≤◌, IsUtf8, slice_range, slice_index, slice_get, count_by, is_none, vec_len, vec_capacity};
+ghost use Rattle.std.specs.Prelude.{◌≡◌, ◌+◌, ◌-◌, ◌<◌, [], ◌∷◌, ◌++◌, take, drop, length, map, ◌==◌, OnOk, OnErr, IfOk, IfSome, IfNone, ◌≤◌, IsUtf8, slice_range, slice_index, slice_get, count_by, is_none, vec_len, vec_capacity};
 ghost use Rattle.pl_frame.specs.ByteCount.{byte_count};
-ghost use Rattle.pl_frame.specs.Optional.{AreAllUtf8, RiseTo};
+ghost use Rattle.pl_frame.specs.Flags.{filled};
+ghost use Rattle.pl_frame.specs.Optional.{AreAllUtf8, AreTexts, RiseTo, flagged, parts_between};
 
-use crate::numbers::{copy_of, extend_reserved};
+use crate::ends::begin_of;
+use crate::numbers::{copy_of, extend_reserved, flags_between};
+use crate::packed_texts::{PackedTexts, short_begin_of};
 use std::alloc::{AllocError, Global};
 use std::marker::Model;
 
@@ -21,6 +24,14 @@ pub struct TextPart<'a> {
     pub buffer: &'a [u8],
     pub begin: usize,
     pub end: usize,
+}
+
+// How texts are kept: all in one buffer, with the place where each ends and a flag for each.
+#[derive(Drop)]
+pub(crate) struct KeptTexts<'a> {
+    pub(crate) bytes: &'a [u8],
+    pub(crate) ends: &'a [usize],
+    pub(crate) present: &'a [bool],
 }
 
 impl Model for Texts {
@@ -125,6 +136,55 @@ impl Texts {
         Ok(())
     }
 
+    // Puts the texts of others from one place up to another behind these. Refuses only want of memory.
+    pub(crate) fn append_range(
+        &mut self,
+        other: &Texts,
+        from: usize,
+        to: usize,
+    ) -> Result<(), AllocError>
+        requires { (from ≤ to) × (to ≤ length other.now) }
+        ensures { OnOk result (self.new ≡ self.old ++ take (to - from) (drop from other.now)) }
+    {
+        let other = other.kept();
+        let start = begin_of(other.ends, from);
+        let bytes = between(other.bytes, start, begin_of(other.ends, to));
+        let ends = between(other.ends, from, to);
+        self.bytes.reserve(bytes.len())?;
+        self.ends.reserve(ends.len())?;
+        self.present.reserve(to - from)?;
+        let base = self.bytes.len();
+        extend_reserved(&mut self.bytes, bytes);
+        extend_run(&mut self.ends, ends, start, base, self.bytes.len());
+        extend_reserved(&mut self.present, between(other.present, from, to));
+        Ok(())
+    }
+
+    // The same of texts in no more memory than they need.
+    pub(crate) fn append_packed(
+        &mut self,
+        other: &PackedTexts,
+        from: usize,
+        to: usize,
+    ) -> Result<(), AllocError>
+        requires { (from ≤ to) × (to ≤ length other.now) }
+        ensures { OnOk result (self.new ≡ self.old ++ take (to - from) (drop from other.now)) }
+    {
+        let other = other.kept();
+        let start = short_begin_of(other.ends, from);
+        let bytes = between(other.bytes, start, short_begin_of(other.ends, to));
+        let ends = between(other.ends, from, to);
+        self.bytes.reserve(bytes.len())?;
+        self.ends.reserve(ends.len())?;
+        self.present.reserve(to - from)?;
+        let base = self.bytes.len();
+        extend_reserved(&mut self.bytes, bytes);
+        extend_short_run(&mut self.ends, ends, start, base, self.bytes.len());
+        let flags = flags_between(other.present, from, to);
+        extend_flags(&mut self.present, flags, to - from);
+        Ok(())
+    }
+
     /// Keeps so many texts, or all if there are fewer, without taking memory.
     #[tactic(auto, using(crate::proofs::CutLaws::cut_texts))]
     pub fn truncate(&mut self, len: usize)
@@ -191,15 +251,18 @@ impl Texts {
     {
         self.present.iter().filter(|flag| !**flag).count()
     }
-}
 
-// Where a text begins: where the one before it ends.
-#[inline]
-fn begin_of(ends: &[usize], i: usize) -> usize
-    requires { i < length ends.now }
-    ensures { result ≡ slice_index (0 ∷ ends.now) i }
-{
-    if i == 0 { 0 } else { ends[i - 1] }
+    // The buffer with the ends and the flags, without taking memory.
+    pub(crate) fn kept(&self) -> KeptTexts<'_>
+        ensures texts { AreTexts result.bytes.now result.ends.now result.present.now }
+        ensures whole { flagged (parts_between 0 result.ends.now result.bytes.now) result.present.now ≡ self.now }
+    {
+        KeptTexts {
+            bytes: &self.bytes,
+            ends: &self.ends,
+            present: &self.present,
+        }
+    }
 }
 
 // Puts ends behind others, for which there is room, each so much further on. They rise, and the last of them is so far on.
@@ -213,9 +276,67 @@ fn extend_ends(ends: &mut Vec<usize>, more: &[usize], base: usize, last: usize)
     }
 }
 
+// Puts the ends of a run behind others, for which there is room: the run began at a place, and its bytes begin now at
+// another. They rise, and the last of them is so far on.
+fn extend_run(ends: &mut Vec<usize>, more: &[usize], start: usize, base: usize, last: usize)
+    requires room { vec_len ends.old + length more.now ≤ vec_capacity ends.old }
+    requires ordered { base ≤ last }
+    requires rising { RiseTo start more.now (start + (last - base)) }
+    ensures { ends.new.items ≡ ends.old.items ++ map (λ end. base + (end - start)) more.now }
+{
+    for end in more {
+        ends.push_reserved(base + (*end - start));
+    }
+}
+
+// The same of ends in 32 bits.
+fn extend_short_run(ends: &mut Vec<usize>, more: &[u32], start: usize, base: usize, last: usize)
+    requires room { vec_len ends.old + length more.now ≤ vec_capacity ends.old }
+    requires ordered { base ≤ last }
+    requires rising { RiseTo start more.now (start + (last - base)) }
+    ensures { ends.new.items ≡ ends.old.items ++ map (λ end. base + (end - start)) more.now }
+{
+    for end in more {
+        ends.push_reserved(base + (*end as usize - start));
+    }
+}
+
+// Puts flags behind others, for which there is room, and behind them set ones up to so many.
+fn extend_flags(flags: &mut Vec<bool>, more: &[bool], count: usize)
+    requires room { vec_len flags.old + count ≤ vec_capacity flags.old }
+    requires few { length more.now ≤ count }
+    ensures { flags.new.items ≡ flags.old.items ++ filled count more.now }
+{
+    put_flags(flags, more);
+    for place in more.len()..count {
+        flags.push_reserved(true);
+    }
+}
+
+// Puts flags behind others, for which there is room, and takes none of the other room.
+fn put_flags(flags: &mut Vec<bool>, more: &[bool])
+    requires { vec_len flags.old + length more.now ≤ vec_capacity flags.old }
+    ensures items { flags.new.items ≡ flags.old.items ++ more.now }
+    ensures room { vec_capacity flags.old ≤ vec_capacity flags.new }
+{
+    match flags.extend_from_slice(more) {
+        Ok(()) => {}
+        Err(_) => unreachable!(),
+    }
+}
+
+// The items from one place up to another.
+#[inline]
+fn between<T>(items: &[T], from: usize, to: usize) -> &[T]
+    requires { (from ≤ to) × (to ≤ length items.now) }
+    ensures { result.now ≡ take (to - from) (drop from items.now) }
+{
+    &items[from..to]
+}
+
 // A part of a buffer that is known to be a text: no test is run.
 #[inline]
-fn text_between(bytes: &[u8], from: usize, to: usize) -> &str
+pub(crate) fn text_between(bytes: &[u8], from: usize, to: usize) -> &str
     requires ordered { (from ≤ to) × (to ≤ length bytes.now) }
     requires text { IsUtf8 (slice_range bytes.now from to) }
     ensures { result.now ≡ slice_range bytes.now from to }

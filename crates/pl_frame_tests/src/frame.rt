@@ -76,6 +76,7 @@ fn rows_are_chosen_by_flags(rt: HostRuntime) {
     assert!(rt; rows.height() == 2);
     let kept = rows.filter_rows(&[false, true]).expect(&rt, "a row");
     assert!(rt; kept.equals(&frame(&rt, alloc, numbers(&rt, alloc, "a", &[2]))));
+    assert!(rt; kept.into_columns().len() == 1);
 }
 
 // Whether these are a column `a` and behind it a column `n` of 7 and 8.

@@ -1,6 +1,6 @@
 use Rattle.std.proofs.Common.{◌≡◌, ◌-◌, ◌≤◌, ◌++◌, take, drop}
 use Rattle.pl_frame.specs.GatheredCells.{SuitsType, cells_so_far}
-use Rattle.pl_frame.proofs.gathered.Gathered.push_rows.Given as goal
+use Rattle.pl_frame.proofs.gathered.Gathered.push_each.Given as goal
 
 abbrev pub invariant-loop-row : goal.invariant-loop-row
 invariant-loop-row l = record {

@@ -1,7 +1,7 @@
 use Rattle.std.proofs.Common.{arith}
 use Rattle.pl_frame.specs.GatheredCells.{cells_so_far}
 use Rattle.pl_frame.proofs.GatheredLaws.{rows_more}
-use Rattle.pl_frame.proofs.gathered.Gathered.push_rows.Goals as goal
+use Rattle.pl_frame.proofs.gathered.Gathered.push_each.Goals as goal
 
 pub loop-row-preserved : goal.loop-row-preserved
 loop-row-preserved c = record {

@@ -1,0 +1,8 @@
+use Rattle.std.proofs.Common.{◌≡◌, ◌+◌, ◌-◌, ◌≤◌, length, take, vec_len, vec_capacity}
+use Rattle.pl_frame.proofs.packed_numbers.mediums_of.Given as goal
+
+abbrev pub invariant-loop-number : goal.invariant-loop-number
+invariant-loop-number l = record {
+  items : l.mediums.items ≡ take l.number-index l.numbers;
+  room : vec_len l.mediums + (length l.numbers - l.number-index) ≤ vec_capacity l.mediums;
+}

@@ -1,16 +1,15 @@
 -- The laws of the place where the data begins.
-use Rattle.std.proofs.Common.{◌≡◌, ℕ, zero, suc, ◌+◌, ◌-◌, ◌<◌, ◌≤◌, Bool, true, false, not, ◌||◌, ◌==◌, cond, List, [], ◌∷◌, length, drop, refl, sym, ◌∙◌, ap, arith, length-drop, one-add, drop-drop, nat_eq, inl, inr}
+use Rattle.std.proofs.Common.{◌≡◌, ℕ, zero, suc, ◌+◌, ◌-◌, ◌<◌, ◌≤◌, Bool, true, false, not, ◌||◌, ◌==◌, cond, List, [], ◌∷◌, length, drop, refl, sym, ◌∙◌, ap, arith, length-drop, drop-drop, nat_eq, inl, inr}
 use Rattle.std.specs.Prelude.{Option, None, Some}
 use Rattle.std.specs.List.{prefix_len, starts_with}
-use Rattle.std.specs.Option.{option_map, option_and_then}
+use Rattle.std.specs.Option.{option_and_then}
 use Rattle.std.proofs.lemmas.Bool.{cases_lt}
 use Rattle.std.proofs.lemmas.List.{drop_all}
 use Rattle.pl_frame.specs.Dialect.{Marks}
 use Rattle.pl_frame.specs.ByteOrderMark.{byte_order_mark}
 use Rattle.pl_scan.specs.Comment.{is_comment}
-use Rattle.pl_scan.specs.Items.{ItemText, text_of, item, items}
-use Rattle.pl_scan.specs.Start.{unless_empty, skip_line, skip_lines, cut_ends, behind_item, pass_items, pass_comments, pass_comments_within, pass_header, cut_mark, cut_head, Skips, data_left, start}
-use Rattle.pl_scan.proofs.ItemLaws.{items-nil, items-step}
+use Rattle.pl_scan.specs.Items.{ItemText, text_of, item}
+use Rattle.pl_scan.specs.Start.{unless_empty, skip_line, skip_lines, cut_ends, behind_item, pass_items, pass_comments, pass_comments_within, pass_header, cut_mark, cut_head, Skips, data_left}
 
 unless_empty-some : (b l : List ℕ) → 0 < length l → unless_empty b l ≡ l
 unless_empty-some b [] h = absurd (omega arith)

@@ -228,6 +228,13 @@ impl<'a, D: Done> BoardState<'a, D> {
         }
     }
 
+    /// The results of the pieces that were handed out, in order, as `result` lends them: none where none was posted.
+    pub fn into_results(self) -> Vec<Option<Posted<'a, D>>>
+        ensures { result.items ≡ self.entry.results }
+    {
+        self.results
+    }
+
     /// How many seats were made.
     pub fn seats(&self) -> usize
         ensures { result ≡ self.now.seats }

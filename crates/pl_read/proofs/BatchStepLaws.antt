@@ -21,7 +21,7 @@ use Rattle.pl_read.specs.Preparing.{IsPrepared}
 use Rattle.pl_read.specs.Refusals.{early_causes, causes_before_rows}
 use Rattle.pl_read.specs.Rows.{rows_in}
 use Rattle.pl_read.specs.Steps.{MayRead, opening_cause}
-use Rattle.pl_read.proofs.BatchLaws.{StandsInData-fresh, StandsInData-kept, StandsInData-next}
+use Rattle.pl_read.proofs.BatchLaws.{StandsInData-fresh, StandsInData-next}
 use Rattle.pl_read.proofs.CauseLaws.{first_some-early, first_some-late}
 use Rattle.pl_read.proofs.DataLaws.{may-dialect}
 use Rattle.pl_read.proofs.PreparingLaws.{IsPrepared-own}

@@ -11,9 +11,9 @@ pub mod SelectionLaws
 pub mod PrefixLaws
 pub mod EmptyLaws
 pub mod ChunkLaws
-pub mod WorkerLaws
 pub mod TestLaws
 pub mod PreparingLaws
+mod SettleGivenLaws
 pub mod BatchLaws
 pub mod BatchStepLaws
 pub mod OpeningLaws

@@ -1,6 +1,6 @@
 -- Parts that were read, judged and made frames of.
 use Rattle.std.proofs.Common.{◌≡◌, ℕ, suc, ◌+◌, ◌-◌, ◌<◌, ◌≤◌, List, [], ◌∷◌, ◌++◌, length, take, drop, map, get_or, reverse, refl, sym, ◌∙◌, ap, subst, inl, inr, append_assoc, append-nil, arith, length-append, length-drop}
-use Rattle.std.specs.Prelude.{false, Option, None, Some, IfSome, is_some, Result, Ok, Err, IfOk, OnOk}
+use Rattle.std.specs.Prelude.{false, Option, None, Some, IfSome, is_some}
 use Rattle.std.specs.List.{flat_map}
 use Rattle.std.specs.Option.{option_map}
 use Rattle.std.proofs.lemmas.List.{take_all, drop_all, take_more, drop_more, take-append-drop, take-append-le, drop-append-le, reverse-append, map-append}

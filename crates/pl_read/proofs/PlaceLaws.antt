@@ -10,8 +10,7 @@ use Rattle.pl_frame.specs.Schema.{Entry}
 use Rattle.pl_frame.specs.Types.{is_readable}
 use Rattle.pl_frame.proofs.ColumnLaws.{position-found, position-nowhere}
 use Rattle.pl_frame.proofs.SchemaLaws.{none_passes}
-use Rattle.pl_cells.specs.InitBuffers.{entry_at, empty_buffer, empty_buffers, IsTypeFault}
-use Rattle.pl_cells.specs.InitBuffers as cells
+use Rattle.pl_cells.specs.InitBuffers.{entry_at}
 use Rattle.pl_infer.specs.Schemas.{types_of, first_unreadable_column}
 
 -- none of the numbers passes

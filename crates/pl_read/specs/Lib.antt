@@ -5,6 +5,7 @@ pub mod Refusals
 pub mod Reading
 pub mod Steps
 pub mod Preparing
+pub mod SettleGiven
 pub mod BytesReader
 pub mod NamedColumns
 pub mod Slices

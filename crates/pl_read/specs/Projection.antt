@@ -1,5 +1,5 @@
 -- Which columns of a schema are read (docs/options.md, "Which columns are read").
-use Rattle.std.specs.Prelude.{ℕ, Bool, nat_eq, nat_le, nat_lt, max, if◌then◌else◌, List, length, filter, find, count_by, Option, None, Some, unwrap_or, is_none}
+use Rattle.std.specs.Prelude.{ℕ, Bool, nat_eq, nat_le, nat_lt, max, if◌then◌else◌, List, length, filter, find, count_by, Option, None, Some, unwrap_or}
 use Rattle.std.specs.List.{range_with_len, list_any, filter_map, fold}
 use Rattle.std.specs.Option.{option_map, option_and_then}
 use Rattle.std.specs.Str.{bytes_eq}

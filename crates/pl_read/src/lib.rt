@@ -19,6 +19,7 @@ mod projecting;
 pub mod reader_makers;
 pub mod reading;
 pub mod row_test;
+pub mod settle_given;
 mod settling;
 pub mod slices;
 pub mod workers;

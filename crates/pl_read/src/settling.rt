@@ -84,9 +84,9 @@ fn put_types(schema: &mut Schema, types: &[DataType]) -> PolarsResult<()>
     Ok(())
 }
 
-// A schema with the types that the options give. Refuses more types than it has columns (`Overrides`), then the least column
-// whose type can't be read (`Dtype`), and want of memory.
-fn with_given_types(options: &CsvReadOptions, given: Schema) -> PolarsResult<Schema>
+/// A schema with the types that the options give. Refuses more types than it has columns (`Overrides`), then the least column
+/// whose type can't be read (`Dtype`), and want of memory.
+pub(crate) fn with_given_types(options: &CsvReadOptions, given: Schema) -> PolarsResult<Schema>
     ensures settled { IfOk result (λ schema. schema ≡ settled options.now given) }
     ensures sound { OnOk result (types_cause options.now given ≡ None) }
     ensures refused { IfErr result (IsFault (types_cause options.now given)) }

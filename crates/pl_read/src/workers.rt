@@ -1,18 +1,16 @@
 //! Workers that read the pieces of a range side by side, and the columns that come of it.
-ghost use Rattle.std.specs.Prelude.{◌≡◌, ◌<◌, ◌+◌, ◌-◌, ◌*◌, ◌/◌, ◌^◌, min, ℕ, List, true, false, None, All, IfOk, OnOk, length, map, vec_len, slice_get, slice_index_or};
-ghost use Rattle.std.specs.List.{AllByRecursion};
+ghost use Rattle.std.specs.Prelude.{◌≡◌, ◌<◌, ◌+◌, ◌*◌, ◌/◌, ◌^◌, ◌-◌, min, ℕ, List, None, IfOk, length, vec_len};
 ghost use Rattle.pl_frame.specs.Dialect.{IsDialect};
 ghost use Rattle.pl_scan.specs.Dialect.{marks_of, comment_of};
 ghost use Rattle.pl_scan.specs.LineCuts.{RiseTo};
 ghost use Rattle.pl_board.specs.Seats.{IsBlankOf};
-ghost use Rattle.pl_cells.specs.BufferValue.{BufferValue};
-ghost use Rattle.pl_cells.specs.InitBuffers.{empty_buffers, first_unreadable, state_of};
+ghost use Rattle.pl_cells.specs.InitBuffers.{first_unreadable};
 ghost use Rattle.pl_cells.specs.NullValues.{HaveTexts};
-ghost use Rattle.pl_read.specs.declared.workers.Joining.{Joining};
 ghost use Rattle.pl_read.specs.Workers.{worker_count};
-ghost use Rattle.pl_rows.specs.Apart.{ReadsApart, all_joined, column_joined};
-ghost use Rattle.pl_rows.specs.Plan.{states, state_types, AreRising};
+ghost use Rattle.pl_rows.specs.declared.whole_pieces.PieceFrame.{PieceFrame};
+ghost use Rattle.pl_rows.specs.Plan.{AreRising};
 ghost use Rattle.pl_rows.specs.Ranges.{IsRangeRead};
+ghost use Rattle.pl_rows.specs.WholePieces.{IsPieceFrame};
 
 use pl_board::board::Board;
 use pl_board::books::Blanks;
@@ -22,11 +20,10 @@ use pl_board::ranges::cut_into_ranges;
 use pl_board::seat::Seat;
 use pl_board::state::BoardState;
 use pl_board::task::Task;
-use pl_cells::buffer::Buffer;
 use pl_frame::schema::Schema;
 use pl_rows::apart::{PieceColumns, Reading, read_apart};
-use pl_rows::columns::{RangeColumns, empty_buffers, read_columns_in_pieces};
-use pl_rows::joining::{front_of, join_column, read_rest};
+use pl_rows::columns::{RangeColumns, empty_buffers};
+use pl_rows::linking::link_results;
 use pl_rows::plan::RangePlan;
 use std::alloc::{AllocError, Global};
 use std::marker::Brand;
@@ -58,10 +55,14 @@ fn work<'a, K: Reading, T: Task, P: Ledger, S: Ledger, R: Ledger, C: Ledger, G: 
     requires readable { first_unreadable schema.now plan.now.projection.places.now ≡ None }
     requires texts { HaveTexts plan.now.options.null_values (length schema.now) }
     requires range { K.range ≡ T.setup.bytes }
-    requires meant { (text : List ℕ) (now : List BufferValue) (rows : ℕ)
-        → ReadsApart plan.now (empty_buffers plan.now.dialect.quote_char plan.now.options.encoding schema.now plan.now.projection.places.now) text now rows
-        → K.reads text now rows }
+    requires meant { (text : List ℕ) (read : PieceFrame) → IsPieceFrame plan.now schema.now text read → K.reads text read }
 {
+    let places = plan.projection.places;
+    let quote_char = plan.dialect.quote_char;
+    let Ok(mut buffers) = empty_buffers(alloc, schema, places, quote_char, plan.options.encoding)
+    else {
+        return Returned { seat, ended: false };
+    };
     for _ in rt.forever() {
         let piece = match board.take(rt, &mut seat) {
             Ok(Some(piece)) => piece,
@@ -70,7 +71,7 @@ fn work<'a, K: Reading, T: Task, P: Ledger, S: Ledger, R: Ledger, C: Ledger, G: 
         };
         let number = piece.number();
         gate.before(number);
-        let Ok(done) = read_apart::<K>(alloc, schema, &piece, plan) else {
+        let Ok(done) = read_apart::<K>(alloc, &mut buffers, schema, &piece, plan) else {
             return Returned { seat, ended: false };
         };
         board.post(rt, &mut seat, Posted::new(piece, done));
@@ -96,62 +97,6 @@ fn gather<T: Task, P: Ledger, S: Ledger, R: Ledger, C: Ledger>(
     Ok((seats, all_ended))
 }
 
-// A column that pieces are joined to, and whether memory was wanting.
-#[derive(Drop)]
-struct Joining {
-    buffer: Buffer,
-    wanting: bool,
-}
-
-impl Joining {
-    // Puts the cells that pieces have of the column behind its own.
-    fn join(&mut self, parts: &[&[Buffer]], column: usize)
-        requires { AllByRecursion (λ part. slice_get (state_types part) column ≡ Some (state_of self.old.buffer).dtype) (map (λ part. states part.now) parts.now) }
-        ensures { self.new.wanting ≡ false → state_of self.new.buffer ≡ column_joined column (state_of self.old.buffer) (map (λ part. states part.now) parts.now) }
-    {
-        self.wanting = join_column(&mut self.buffer, parts, column).is_err();
-    }
-}
-
-// Puts the cells that pieces have of each column behind its own, the columns side by side.
-fn join_each<W: Threads + Sync>(
-    rt: &W,
-    workers: usize,
-    columns: &mut [Joining],
-    parts: &[&[Buffer]],
-)
-    requires workers { 0 < workers }
-    requires types { (i : ℕ) (d : Joining) → i < length columns.old
-        → AllByRecursion (λ part. slice_get (state_types part) i ≡ Some (state_of (slice_index_or columns.old i d).buffer).dtype) (map (λ part. states part.now) parts.now) }
-    ensures { (i : ℕ) (d : Joining) → i < length columns.old
-        → (slice_index_or columns.new i d).wanting ≡ false
-        → state_of (slice_index_or columns.new i d).buffer ≡ column_joined i (state_of (slice_index_or columns.old i d).buffer) (map (λ part. states part.now) parts.now) }
-{
-    let join = |column: usize, one: &mut Joining|
-        requires { AllByRecursion (λ part. slice_get (state_types part) column ≡ Some (state_of one.old.buffer).dtype) (map (λ part. states part.now) parts.now) }
-        ensures { one.new.wanting ≡ false → state_of one.new.buffer ≡ column_joined column (state_of one.old.buffer) (map (λ part. states part.now) parts.entry.now) }
-    { one.join(parts, column) };
-    thread::for_each_mut(rt, columns, workers, &join);
-}
-
-// Puts the cells that pieces have of each column behind those of its buffer, the columns side by side. Refuses only want of
-// memory.
-fn join_all<W: Threads + Sync>(
-    rt: &W,
-    alloc: Global,
-    workers: usize,
-    buffers: Vec<Buffer>,
-    parts: &[&[Buffer]],
-) -> Result<Vec<Buffer>, AllocError>
-    requires workers { 0 < workers }
-    requires types { AllByRecursion (λ part. state_types part ≡ state_types (states buffers.items)) (map (λ part. states part.now) parts.now) }
-    ensures { IfOk result (λ joined. states joined.items ≡ all_joined (states buffers.items) (map (λ part. states part.now) parts.now)) }
-{
-    let mut columns = to_join(alloc, buffers)?;
-    join_each(rt, workers, &mut columns, parts);
-    after_join(alloc, columns)
-}
-
 /// How many workers read where so many are asked: four where none is said, one at least and 64 at most.
 pub fn worker_count(n_threads: Option<usize>) -> usize
     ensures count { result ≡ worker_count n_threads }
@@ -163,65 +108,6 @@ pub fn worker_count(n_threads: Option<usize>) -> usize
         Some(asked) if asked > 64 => 64,
         Some(asked) => asked,
     }
-}
-
-// The buffers as columns that are joined to.
-fn to_join(alloc: Global, buffers: Vec<Buffer>) -> Result<Vec<Joining>, AllocError>
-    ensures { IfOk result (λ columns. map (λ one. state_of one.buffer) columns.items ≡ states buffers.items) }
-{
-    let mut columns = Vec::new(alloc);
-    for buffer in buffers {
-        columns.push(Joining {
-            buffer,
-            wanting: false,
-        })?;
-    }
-    Ok(columns)
-}
-
-// The buffers that were joined to. Refuses want of memory, of one of them too.
-fn after_join(alloc: Global, columns: Vec<Joining>) -> Result<Vec<Buffer>, AllocError>
-    ensures states { IfOk result (λ buffers. states buffers.items ≡ map (λ one. state_of one.buffer) columns.items) }
-    ensures none { OnOk result (All (λ one. one.wanting ≡ false) columns.items) }
-{
-    let mut buffers = Vec::new(alloc);
-    for one in columns {
-        if one.wanting {
-            return Err(AllocError);
-        }
-        buffers.push(one.buffer)?;
-    }
-    Ok(buffers)
-}
-
-// What the posted results of a board give, with what they lack read as one range.
-fn collect<'a, K: Reading, W: Threads + Sync>(
-    rt: &W,
-    alloc: Global,
-    workers: usize,
-    board: &BoardState<'a, PieceColumns<K>>,
-    schema: &Schema,
-    range: &[u8],
-    plan: &RangePlan<'_>,
-) -> Result<RangeColumns, AllocError>
-    requires workers { 0 < workers }
-    requires dialect { IsDialect (marks_of plan.now.dialect) (comment_of plan.now.dialect) }
-    requires width { plan.now.projection.width ≡ length schema.now }
-    requires rising { AreRising 0 (length schema.now) plan.now.projection.places.now }
-    requires readable { first_unreadable schema.now plan.now.projection.places.now ≡ None }
-    requires texts { HaveTexts plan.now.options.null_values (length schema.now) }
-    requires range { K.range ≡ range.now }
-    requires meant { (text : List ℕ) (now : List BufferValue) (rows : ℕ)
-        → K.reads text now rows
-        → ReadsApart plan.now (empty_buffers plan.now.dialect.quote_char plan.now.options.encoding schema.now plan.now.projection.places.now) text now rows }
-    ensures { IfOk result (IsRangeRead plan.now schema.now range.now) }
-{
-    let places = plan.projection.places;
-    let quote_char = plan.dialect.quote_char;
-    let buffers = empty_buffers(alloc, schema, places, quote_char, plan.options.encoding)?;
-    let front = front_of(alloc, board, &buffers, range, plan)?;
-    let buffers = join_all(rt, alloc, workers, buffers, &front.parts)?;
-    read_rest(alloc, schema, buffers, range, plan, front.rows, front.end)
 }
 
 // Reads a range by workers that share a new board.
@@ -259,12 +145,8 @@ fn read_on_board<
     requires readable { first_unreadable schema.now plan.now.projection.places.now ≡ None }
     requires texts { HaveTexts plan.now.options.null_values (length schema.now) }
     requires range { K.range ≡ range.now }
-    requires read { (text : List ℕ) (now : List BufferValue) (rows : ℕ)
-        → ReadsApart plan.now (empty_buffers plan.now.dialect.quote_char plan.now.options.encoding schema.now plan.now.projection.places.now) text now rows
-        → K.reads text now rows }
-    requires meant { (text : List ℕ) (now : List BufferValue) (rows : ℕ)
-        → K.reads text now rows
-        → ReadsApart plan.now (empty_buffers plan.now.dialect.quote_char plan.now.options.encoding schema.now plan.now.projection.places.now) text now rows }
+    requires read { (text : List ℕ) (read : PieceFrame) → IsPieceFrame plan.now schema.now text read → K.reads text read }
+    requires meant { (text : List ℕ) (read : PieceFrame) → K.reads text read → IsPieceFrame plan.now schema.now text read }
     ensures { IfOk result (IsRangeRead plan.now schema.now range.now) }
 {
     let state = BoardState::new(range, ends, plan.limit);
@@ -284,7 +166,7 @@ fn read_on_board<
     if !all_ended {
         return Err(AllocError);
     }
-    collect(rt, alloc, workers, &board, schema, range, plan)
+    link_results(alloc, schema, board.into_results(), range, plan)
 }
 
 // From this number of columns on pieces are longer.
@@ -328,9 +210,6 @@ pub fn read_by_workers<W: Threads + Wait + Sync, G: Gate + Sync>(
     let Ok(ends) = cut_into_ranges(rt, alloc, range, &plan.dialect, piece_size, workers) else {
         return Err(AllocError);
     };
-    if workers == 1 {
-        return read_columns_in_pieces(alloc, schema, range, plan, ends, gate);
-    }
     read_on_board::<Brand, Brand, Brand, Brand, Brand, Brand, W, G>(
         rt,
         alloc,

@@ -172,11 +172,11 @@ HaveAllRows-columns plan given before now count read few = record { added = read
 
 -- ---- rows that are judged and have no fault, at the front of others
 
-filter-front : {X : Type 0} (p : X → Bool) (xs others : List X) → AllByRecursion (λ x. p x ≡ true) xs → filter p (xs ++ others) ≡ xs ++ filter p others
+pub filter-front : {X : Type 0} (p : X → Bool) (xs others : List X) → AllByRecursion (λ x. p x ≡ true) xs → filter p (xs ++ others) ≡ xs ++ filter p others
 filter-front p [] others all = refl
 filter-front p (x ∷ xs) others all = filter-kept p x (xs ++ others) all.0 ∙ ap (λ l. x ∷ l) (filter-front p xs others all.1)
 
-any-front : {X : Type 0} (p : X → Bool) (xs others : List X) → AllByRecursion (λ x. p x ≡ true) xs → list_any (λ x. not (p x)) (xs ++ others) ≡ list_any (λ x. not (p x)) others
+pub any-front : {X : Type 0} (p : X → Bool) (xs others : List X) → AllByRecursion (λ x. p x ≡ true) xs → list_any (λ x. not (p x)) (xs ++ others) ≡ list_any (λ x. not (p x)) others
 any-front p [] others all = refl
 any-front p (x ∷ xs) others all = ap (λ t. not t || list_any (λ y. not (p y)) (xs ++ others)) all.0 ∙ any-front p xs others all.1
 
@@ -210,7 +210,7 @@ take-front zero xs others few = refl
 take-front (suc k) [] others few = absurd (omega arith)
 take-front (suc k) (x ∷ xs) others few = ap (λ l. x ∷ l) (take-front k xs others (omega arith))
 
-take-past : {X : Type 0} (k : ℕ) (xs others : List X) → length xs ≤ k → take k (xs ++ others) ≡ xs ++ take (k - length xs) others
+pub take-past : {X : Type 0} (k : ℕ) (xs others : List X) → length xs ≤ k → take k (xs ++ others) ≡ xs ++ take (k - length xs) others
 take-past k [] others many = let same : k ≡ k - 0 = omega arith in ap (λ j. take j others) same
 take-past zero (x ∷ xs) others many = absurd (omega arith)
 take-past (suc k) (x ∷ xs) others many =

@@ -10,5 +10,6 @@ pub mod PlanLaws
 pub mod WholeLaws
 pub mod BlockLaws
 pub mod PieceLaws
-pub mod JoinLaws
+pub mod StackLaws
 pub mod SoundTextLaws
+pub mod LinkLaws

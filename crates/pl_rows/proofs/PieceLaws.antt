@@ -1,62 +1,35 @@
--- A range read piece by piece.
-use Rattle.std.proofs.Common.{◌≡◌, ℕ, suc, ◌+◌, ◌-◌, ◌<◌, ◌≤◌, ◌^◌, Bool, true, false, cond, not, ◌||◌, ◌&&◌, ◌==◌, ltb, List, [], ◌∷◌, ◌++◌, length, take, drop, refl, sym, ◌∙◌, ap, subst, inl, inr, eqb-true, arith}
-use Rattle.std.specs.Prelude.{Option, None, Some, filter, MatchBool, slice_range}
+-- A piece of a text, read into buffers.
+use Rattle.std.proofs.Common.{◌≡◌, ℕ, ◌+◌, ◌-◌, ◌<◌, ◌≤◌, Bool, true, false, not, ◌||◌, ◌&&◌, ◌==◌, List, [], ◌∷◌, length, take, refl, sym, ◌∙◌, ap, subst, inl, inr, eqb-true, arith}
+use Rattle.std.specs.Prelude.{Option, None, Some, filter}
 use Rattle.std.specs.List.{list_any, last_or, AllByRecursion}
 use Rattle.std.specs.Option.{option_map_or}
 use Rattle.std.proofs.lemmas.Bool.{cases_lt}
 use Rattle.std.proofs.lemmas.Bool.Decides.{nat_tests}
-use Rattle.std.proofs.lemmas.List.{length_push, length-take-le, take_all, drop-drop, take-append-drop}
+use Rattle.std.proofs.lemmas.List.{length-take-le, take_all}
 use Rattle.pl_frame.specs.declared.error.FaultKind.{FaultKind}
-use Rattle.pl_frame.specs.Dialect.{IsDialect, AreDistinct}
+use Rattle.pl_frame.specs.Dialect.{AreDistinct}
 use Rattle.pl_scan.specs.Closing.{have_open_end, ends_open}
 use Rattle.pl_scan.specs.Dialect.{marks_of, comment_of}
-use Rattle.pl_scan.specs.declared.dialect.Dialect.{Dialect}
 use Rattle.pl_scan.specs.Laws.{IsEnded}
-use Rattle.pl_board.specs.declared.event.Event.{Event}
-use Rattle.pl_board.specs.declared.event.Mark.{Mark}
-use Rattle.pl_board.specs.declared.event.Event.TheVariants.{Take}
-use Rattle.pl_board.specs.Log.{Setup, hand_outs}
-use Rattle.pl_board.specs.Pieces.{Cut, piece_from}
-use Rattle.pl_board.specs.States.{Snapshot, next_piece, after_take, after_post}
-use Rattle.pl_board.proofs.LogLaws.{hand_outs-take, hand_outs-post}
 use Rattle.pl_cells.specs.BufferValue.{BufferValue}
 use Rattle.pl_rows.specs.declared.plan.RangePlan.{RangePlan}
 use Rattle.pl_rows.specs.declared.range.RangeEnd.{RangeEnd}
 use Rattle.pl_rows.specs.declared.range.RangeEnd.TheVariants as end
-use Rattle.pl_rows.specs.Blocks.{left_below, within_limit, rows_left, HasReadRows, HasReadRange, HaveAllRows}
+use Rattle.pl_rows.specs.Blocks.{left_below, HasReadRange, HaveAllRows}
 use Rattle.pl_rows.specs.Cells.{RowRules}
 use Rattle.pl_rows.specs.Columns.{with_columns}
-use Rattle.pl_rows.specs.Pieces.{EndsItem, is_ended, ends_item, is_closed, left_limit, plan_behind, end_behind, IsRowFit, IsWhole, HasReadPiece}
+use Rattle.pl_rows.specs.Pieces.{is_ended, is_closed, plan_behind, end_behind, IsWholePiece, HasReadPiece, IsPieceRead}
 use Rattle.pl_rows.specs.Plan.{Columns, CanRead, rules_of, plan_columns}
-use Rattle.pl_rows.specs.Ranges.{limited, rows_of, is_judged, judged_rows, has_unjudged, end_of, range_end, sound_rows, rows_read, with_range}
+use Rattle.pl_rows.specs.Ranges.{limited, rows_of, is_judged, judged_rows, has_unjudged, end_of, sound_rows, rows_read}
 use Rattle.pl_rows.specs.Rows.{first_fault, first_faulty}
 use Rattle.pl_rows.specs.Steps.{is_below, cut_back}
 use Rattle.pl_table.specs.Rows.{Row, rows}
-use Rattle.pl_rows.proofs.BlockLaws.{HasReadRows-rows, within-le}
-use Rattle.pl_rows.proofs.ColumnLaws.{with_columns-append}
 use Rattle.pl_rows.proofs.OpenLaws.{is_open_row, unjudged, open_rows, unjudged-open}
-use Rattle.pl_rows.proofs.PlanLaws.{plan_columns-more}
 use Rattle.pl_rows.proofs.RangeLaws.{filter-kept, filter-left_out, first_faulty-more, first_faulty-here}
 use Rattle.pl_rows.proofs.RowLaws.{rows-back}
 use Rattle.pl_rows.proofs.WholeLaws.{sound-all}
-use Rattle.pl_table.proofs.PieceLaws.{rows-append}
 
--- ---- what is left of a limit
-
--- the rows that are left below a limit are the first ones by what is left of it
-left_limit-is : {X : Type 0} (limit : Option ℕ) (n : ℕ) (xs : List X) → limited (left_limit limit n) xs ≡ left_below limit n xs
-left_limit-is None n xs = refl
-left_limit-is (Some most) n xs = refl
-
-limited-within : {X : Type 0} (limit : Option ℕ) (n : ℕ) (xs : List X) → limited (left_limit limit n) xs ≡ take (within_limit limit n (length xs)) xs
-limited-within None n xs = sym (take_all (length xs) xs (omega arith))
-limited-within (Some most) n xs = by (ltb (length xs) (most - n)) refl
-  where
-    by : (t : Bool) → ltb (length xs) (most - n) ≡ t → take (most - n) xs ≡ take (cond t (length xs) (most - n)) xs
-    by true e =
-        let many : length xs ≤ most - n = grind (arith, nat_tests) in
-        take_all (most - n) xs many ∙ sym (take_all (length xs) xs (omega arith))
-    by false e = refl
+-- ---- a limit of rows
 
 -- fewer than the limit are all
 limited-all : {X : Type 0} (limit : Option ℕ) (xs : List X) → is_below limit (length (limited limit xs)) ≡ true → limited limit xs ≡ xs
@@ -69,6 +42,11 @@ limited-all (Some most) xs below = elim (cases_lt (length xs) most) [
       absurd (omega arith)
 ]
 
+-- and so are these
+limited-below : {X : Type 0} (limit : Option ℕ) (xs : List X) → is_below limit (length xs) ≡ true → limited limit xs ≡ xs
+limited-below None xs below = refl
+limited-below (Some most) xs below = take_all most xs (let few : length xs < most = grind (arith, nat_tests) in omega arith)
+
 -- ---- rows that are all judged, and have no fault
 
 or_true : (t : Bool) → (t || true) ≡ true
@@ -76,7 +54,7 @@ or_true true = refl
 or_true false = refl
 
 -- rows none of which is open are judged in any range
-closed-judged : (plan : RangePlan) (given : List Row) → list_any (is_open_row (marks_of plan.dialect)) given ≡ false → AllByRecursion (λ row. is_judged plan row ≡ true) given
+pub closed-judged : (plan : RangePlan) (given : List Row) → list_any (is_open_row (marks_of plan.dialect)) given ≡ false → AllByRecursion (λ row. is_judged plan row ≡ true) given
 closed-judged plan [] none = tt
 closed-judged plan (row ∷ others) none = by (have_open_end (marks_of plan.dialect) row.fields) refl (λ e. closed-judged plan others e)
   where
@@ -117,8 +95,8 @@ closed_end None true e = cc
 closed_end None false e = (refl, refl)
 
 -- a range that was read to its end has all of its rows in the buffers, and none has a fault
-pub closed-whole : (plan : RangePlan) (range : List ℕ) (before now : List BufferValue) (given : RangeEnd) (n : ℕ) → HasReadRange plan range before now given n → given ≡ end.Closed
-    → IsWhole plan range n × HaveAllRows plan (rows_of plan range) before now
+closed-whole : (plan : RangePlan) (range : List ℕ) (before now : List BufferValue) (given : RangeEnd) (n : ℕ) → HasReadRange plan range before now given n → given ≡ end.Closed
+    → (has_unjudged plan range ≡ false) × (n ≡ length (rows_of plan range)) × HaveAllRows plan (rows_of plan range) before now
 closed-whole plan range before now given n read is =
     let rules = rules_of plan in
     let columns = plan_columns plan before in
@@ -126,7 +104,8 @@ closed-whole plan range before now given n read is =
     let all : judged_rows plan range ≡ rows_of plan range = filter-all (is_judged plan) (rows_of plan range) parts.1 in
     let none : first_faulty rules columns 0 (rows_of plan range) ≡ None = ap (first_faulty rules columns 0) (sym all) ∙ parts.0 in
     let rows_are : rows_read plan columns range ≡ rows_of plan range = ap (sound_rows rules columns) all ∙ sound-all rules columns 0 (rows_of plan range) none in (
-      record { judged = parts.1; count = read.count ∙ ap length rows_are },
+      parts.1,
+      read.count ∙ ap length rows_are,
       record { added = read.added ∙ ap (λ rs. with_columns rules rs plan.projection.places.now before) rows_are; whole = none-faulty rules columns 0 (rows_of plan range) none },
     )
 
@@ -136,22 +115,17 @@ pub HasReadRange-back : (plan : RangePlan) (range : List ℕ) (before now : List
 HasReadRange-back plan range before now given n k can read all =
     rows-back plan (rows_read plan (plan_columns plan before) range) k n before now (sym read.count) all can.count read.added
 
--- ---- what the test of a piece's end says
-
-pub all-three : (a b c : Bool) → a ≡ true → b ≡ true → c ≡ false → (a && (b && not c)) ≡ true
-all-three true true false x y z = refl
-all-three true true true x y z = absurd (cc)
-all-three true false c x y z = absurd (cc)
-all-three false b c x y z = absurd (cc)
+-- ---- a piece that ends where an item does
 
 both-true : (a b : Bool) → (a && b) ≡ true → (a ≡ true) × (b ≡ true)
 both-true true true e = (refl, refl)
 both-true true false e = absurd (cc)
 both-true false b e = absurd (cc)
 
-not-true : (a : Bool) → not a ≡ true → a ≡ false
-not-true true e = absurd (cc)
-not-true false e = refl
+closed-is : (given : RangeEnd) → is_closed given ≡ true → given ≡ end.Closed
+closed-is end.Closed h = refl
+closed-is end.Open h = absurd (cc)
+closed-is (end.Fault row column kind) h = absurd (cc)
 
 some-last : (xs : List ℕ) (x : ℕ) → (k : ℕ) × (last_or (Some x) xs ≡ Some k)
 some-last [] x = (x, refl)
@@ -164,98 +138,77 @@ IsEnded-told e (x ∷ xs) told =
     let same : (last.0 == e) ≡ true = sym (ap (λ o. option_map_or (λ (k : ℕ). k == e) o true) last.1) ∙ told in
     last.1 ∙ ap (λ k. Some k) (eqb-true _ _ same)
 
--- a piece that passes it was read to its end, and ends where an item does
-pub ends-told : (e : RangeEnd) (dialect : Dialect) (text : List ℕ) → (is_closed e && ends_item dialect text) ≡ true → (e ≡ end.Closed) × EndsItem dialect text
-ends-told e dialect text told =
-    let parts = both-true (is_closed e) (ends_item dialect text) told in
-    let inner = both-true (is_ended dialect.eol_char text) (not (ends_open (marks_of dialect) (comment_of dialect) text)) parts.1 in
-    (closed e parts.0, record { ended = IsEnded-told dialect.eol_char text inner.0; closed = not-true (ends_open (marks_of dialect) (comment_of dialect) text) inner.1 })
-  where
-    closed : (r : RangeEnd) → is_closed r ≡ true → r ≡ end.Closed
-    closed end.Closed h = refl
-    closed end.Open h = absurd (cc)
-    closed (end.Fault row column kind) h = absurd (cc)
+is_ended-so : (e : ℕ) (text : List ℕ) → IsEnded e text → is_ended e text ≡ true
+is_ended-so e [] ended = refl
+is_ended-so e (x ∷ xs) ended =
+    let same : (e == e) ≡ true = grind (arith, nat_tests) in
+    ap (λ o. option_map_or (λ (k : ℕ). k == e) o true) ended ∙ same
 
--- ---- a piece that ends where an item does
-
--- a range whose rows are below the limit and all judged does not end within a quoted field
-pub whole-closes : (plan : RangePlan) (piece : List ℕ) (n : ℕ) → AreDistinct (marks_of plan.dialect) → plan.last ≡ false → IsWhole plan piece n → is_below plan.limit n ≡ true
-    → ends_open (marks_of plan.dialect) (comment_of plan.dialect) piece ≡ false
-whole-closes plan piece n apart before whole below =
+-- a piece whose last byte is a line end, that was read behind all of its rows, which are fewer than the limit
+pub piece-read : (plan : RangePlan) (piece : List ℕ) (before now : List BufferValue) (given : RangeEnd) (n : ℕ) → AreDistinct (marks_of plan.dialect) → plan.last ≡ false
+    → HasReadRange plan piece before now given n → is_ended plan.dialect.eol_char piece ≡ true → (is_closed given && is_below plan.limit n) ≡ true → HasReadPiece plan piece before now n
+piece-read plan piece before now given n apart last read ended told =
     let m = marks_of plan.dialect in
-    let given = rows m (comment_of plan.dialect) piece in
-    let all : rows_of plan piece ≡ given = limited-all plan.limit given (ap (is_below plan.limit) (sym whole.count) ∙ below) in
-    open_rows m (comment_of plan.dialect) piece apart
-    ∙ sym (unjudged-open m given)
-    ∙ ap (λ t. list_any (unjudged t m) given) (sym before)
-    ∙ ap (list_any (unjudged plan.last m)) (sym all)
-    ∙ whole.judged
+    let given_rows = rows m (comment_of plan.dialect) piece in
+    let parts = both-true (is_closed given) (is_below plan.limit n) told in
+    let whole = closed-whole plan piece before now given n read (closed-is given parts.0) in
+    let all : rows_of plan piece ≡ given_rows = limited-all plan.limit given_rows (ap (is_below plan.limit) (sym whole.1) ∙ parts.1) in
+    let shut : ends_open m (comment_of plan.dialect) piece ≡ false =
+    open_rows m (comment_of plan.dialect) piece apart ∙ sym (unjudged-open m given_rows) ∙ ap (λ t. list_any (unjudged t m) given_rows) (sym last) ∙ ap (list_any (unjudged plan.last m)) (sym all) ∙ whole.0 in
+    record {
+      whole = record {
+        ends = record { ended = IsEnded-told plan.dialect.eol_char piece ended; closed = shut };
+        sound = subst (λ rs. AllByRecursion (λ row. first_fault (rules_of plan) (plan_columns plan before) row ≡ None) rs) all whole.2.whole;
+        few = ap (is_below plan.limit) (ap length (sym all) ∙ sym whole.1) ∙ parts.1;
+      };
+      added = whole.2.added ∙ ap (λ rs. with_columns (rules_of plan) rs plan.projection.places.now before) all;
+      count = whole.1 ∙ ap length all;
+    }
 
--- a piece at the front of what is left was read
-pub HasReadRows-piece : (plan : RangePlan) (range : List ℕ) (before now after : List BufferValue) (left piece rest : List ℕ) (n k : ℕ)
-    → CanRead plan before → IsDialect (marks_of plan.dialect) (comment_of plan.dialect) → HasReadRows plan range before now left n → left ≡ piece ++ rest
-    → HasReadPiece (plan_behind plan n false) piece now after k → HasReadRows plan range before after rest (n + k)
-HasReadRows-piece plan range before now after left piece rest n k can dialect read left_is one =
+-- rows without a fault have no first one
+no-fault : (rules : RowRules) (columns : Columns) (k : ℕ) (given : List Row) → AllByRecursion (λ row. first_fault rules columns row ≡ None) given → first_faulty rules columns k given ≡ None
+no-fault rules columns k [] all = refl
+no-fault rules columns k (row ∷ others) all = first_faulty-more rules columns k row others all.0 ∙ no-fault rules columns (k + 1) others all.1
+
+-- a whole piece is read behind all of its rows, which are fewer than the limit
+pub whole-read : (plan : RangePlan) (piece : List ℕ) (before now : List BufferValue) (given : RangeEnd) (n : ℕ) → AreDistinct (marks_of plan.dialect) → plan.last ≡ false
+    → HasReadRange plan piece before now given n → IsWholePiece plan (plan_columns plan before) piece → (is_closed given && is_below plan.limit n) ≡ true
+whole-read plan piece before now given n apart last read whole =
     let m = marks_of plan.dialect in
-    let comment = comment_of plan.dialect in
-    let found = rows m comment piece in
-    let taken = within_limit plan.limit n (length found) in
-    let front : rows m comment left ≡ found ++ rows m comment rest = ap (rows m comment) left_is ∙ rows-append m comment piece rest dialect.distinct dialect.prefix one.ends.ended one.ends.closed in
-    let same : rows_of (plan_behind plan n false) piece ≡ take taken found = limited-within plan.limit n found in
-    let count : k ≡ taken = one.count ∙ ap length same ∙ length-take-le taken found (within-le plan.limit n (length found)) in
-    let judged = closed-judged plan found (sym (open_rows m comment piece dialect.distinct) ∙ one.ends.closed) in
-    let rows_read : HaveAllRows plan (rows_of (plan_behind plan n false) piece) now after = record { added = one.read.added; whole = one.read.whole } in
-    subst (λ j. HasReadRows plan range before after rest (n + j)) (sym count)
-    (HasReadRows-rows plan range before now after left rest n taken found can read front refl judged (subst (λ rs. HaveAllRows plan rs now after) same rows_read))
+    let rules = rules_of plan in
+    let columns = plan_columns plan before in
+    let given_rows = rows m (comment_of plan.dialect) piece in
+    let all : rows_of plan piece ≡ given_rows = limited-below plan.limit given_rows whole.few in
+    let none : has_unjudged plan piece ≡ false =
+    ap (list_any (unjudged plan.last m)) all ∙ ap (λ t. list_any (unjudged t m) given_rows) last ∙ unjudged-open m given_rows ∙ sym (open_rows m (comment_of plan.dialect) piece apart) ∙ whole.ends.closed in
+    let judged : judged_rows plan piece ≡ given_rows = filter-all (is_judged plan) (rows_of plan piece) none ∙ all in
+    let first : first_faulty rules columns 0 (judged_rows plan piece) ≡ None = ap (first_faulty rules columns 0) judged ∙ no-fault rules columns 0 given_rows whole.sound in
+    let closed : given ≡ end.Closed = read.end_is ∙ ap (λ f. end_of f (has_unjudged plan piece)) first ∙ ap (end_of None) none in
+    let count : n ≡ length given_rows = read.count ∙ ap length (sound-all rules columns 0 (judged_rows plan piece) first ∙ judged) in
+    ap (λ e. is_closed e && is_below plan.limit n) closed ∙ ap (is_below plan.limit) count ∙ whole.few
+
+-- a text whose last byte is none does not end where an item does
+pub not-ended : (plan : RangePlan) (columns : Columns) (piece : List ℕ) → is_ended plan.dialect.eol_char piece ≡ false → IsWholePiece plan columns piece → ⊥
+not-ended plan columns piece none whole =
+    let ended = is_ended-so plan.dialect.eol_char piece whole.ends.ended in
+    cc
+
+-- where no number of rows is told, none were read
+pub IsPieceRead-none : (plan : RangePlan) (piece : List ℕ) (before now : List BufferValue) (told : Option ℕ) → ((n : ℕ) → told ≡ Some n → ⊥) → IsPieceRead plan piece before now told
+    → IsPieceRead plan piece before now None
+IsPieceRead-none plan piece before now None none read = read
+IsPieceRead-none plan piece before now (Some n) none read = absurd (none n refl)
+
+-- the rows of a piece that was read are taken back
+pub HasReadPiece-back : (plan : RangePlan) (piece : List ℕ) (before now : List BufferValue) (n k : ℕ) → CanRead plan before → HasReadPiece plan piece before now n → length now ≤ k → cut_back k n now ≡ before
+HasReadPiece-back plan piece before now n k can read all =
+    rows-back plan (rows (marks_of plan.dialect) (comment_of plan.dialect) piece) k n before now (sym read.count) all can.count read.added
 
 -- a plan that can read can do so behind rows
 pub CanRead-behind : (plan : RangePlan) (n : ℕ) (last : Bool) (buffers : List BufferValue) → CanRead plan buffers → CanRead (plan_behind plan n last) buffers
 CanRead-behind plan n last buffers can = record { apart = can.apart; rising = can.rising; count = can.count; rules = can.rules; texts = can.texts }
 
--- where the next piece of a board begins
-abbrev pub next_begin : Setup → List Event → ℕ
-next_begin setup log = piece_from setup.ends (length (hand_outs log))
-
--- how far a range was read, where a board handed out all pieces up to there
-pub record IsFrontRead (plan : RangePlan) (range : List ℕ) (before now : List BufferValue) (setup : Setup) (log : List Event) (rows end : ℕ) : Type 0 where
-  pub read : HasReadRows plan range before now (drop end range) rows
-  pub end_within : end ≤ length range
-  pub bytes_are : setup.bytes ≡ range
-  pub begin_is : next_begin setup log ≡ end
-
--- nothing was handed out
-pub begin-none : (setup : Setup) → next_begin setup [] ≡ 0
-unfolding hand_outs
-begin-none setup = refl
-
--- a hand-out goes on where the one before it ended
-pub begin-taken : {D : Type 0} (old new : Snapshot D) → new ≡ after_take old → (new.setup ≡ old.setup) × (next_begin new.setup new.log ≡ (next_piece old.setup old.log).to)
-begin-taken old new taken =
-    let piece = next_piece old.setup old.log in
-    let one : length (hand_outs old.log) + 1 ≡ suc (length (hand_outs old.log)) = omega arith in
-    let count : length (hand_outs (old.log ++ Take piece.from piece.to ∷ [])) ≡ suc (length (hand_outs old.log)) =
-    ap length (hand_outs-take old.log piece.from piece.to) ∙ length_push (hand_outs old.log) (piece.from, piece.to) ∙ one in
-    (ap (λ s. s.setup) taken, ap (λ s. next_begin s.setup s.log) taken ∙ ap (piece_from old.setup.ends) count)
-
--- and a post hands out nothing
-pub begin-posted : {D : Type 0} (mark : D → Mark) (old new : Snapshot D) (posted : Cut × D) (stored : Bool) → MatchBool stored (new ≡ after_post mark old posted) (new ≡ old)
-    → (new.setup ≡ old.setup) × (next_begin new.setup new.log ≡ next_begin old.setup old.log)
-begin-posted mark old new posted true is =
-    (ap (λ s. s.setup) is, ap (λ s. next_begin s.setup s.log) is ∙ ap (λ l. piece_from old.setup.ends (length l)) (hand_outs-post old.log posted.0.number (mark posted.1)))
-begin-posted mark old new posted false is = (ap (λ s. s.setup) is, ap (λ s. next_begin s.setup s.log) is)
-
--- a piece stands at the front of what was left when it was handed out
-pub piece-front : (range : List ℕ) (setup : Setup) (log : List Event) (piece : Cut) (end : ℕ) → setup.bytes ≡ range → next_begin setup log ≡ end → piece ≡ next_piece setup log → piece.from < piece.to
-    → drop end range ≡ piece.text ++ drop piece.to range
-piece-front range setup log piece end bytes_are begin_is is some =
-    let from_is : piece.from ≡ end = ap (λ (p : Cut). p.from) is ∙ begin_is in
-    let size = piece.to - piece.from in
-    let text_is : piece.text ≡ take size (drop end range) =
-    ap (λ (p : Cut). p.text) is ∙ ap (λ (p : Cut). slice_range setup.bytes p.from p.to) (sym is) ∙ ap (λ b. slice_range b piece.from piece.to) bytes_are ∙ ap (λ k. take size (drop k range)) from_is in
-    let there : end + size ≡ piece.to = omega arith in
-    sym (ap (λ t. t ++ drop piece.to range) text_is ∙ ap (λ k. take size (drop end range) ++ drop k range) (sym there) ∙ ap (λ l. take size (drop end range) ++ l) (sym (drop-drop size end range)) ∙ take-append-drop size (drop end range))
-
--- ---- what is left, read as one range
+-- ---- the number of a faulty row
 
 -- the first faulty row, counted from a number on
 pub faulty-behind : (rules : RowRules) (columns : Columns) (n k : ℕ) (given : List Row) (u : Bool)
@@ -276,46 +229,6 @@ faulty-behind rules columns n k (row ∷ others) u = by (first_fault rules colum
     by (Some found) e deeper =
         ap (λ f. end_of f u) (first_faulty-here rules columns (n + k) row others found e)
         ∙ ap (λ f. end_behind n (end_of f u)) (sym (first_faulty-here rules columns k row others found e))
-
--- all of a range was read, where the rest was read as one range behind its first rows
-read-rest : (plan : RangePlan) (range : List ℕ) (before now after : List BufferValue) (left : List ℕ) (n : ℕ) (given : RangeEnd) → CanRead plan before → HasReadRows plan range before now left n
-    → given ≡ range_end (plan_behind plan n plan.last) (plan_columns (plan_behind plan n plan.last) now) left → after ≡ with_range (plan_behind plan n plan.last) left now
-    → (end_behind n given ≡ range_end plan (plan_columns plan before) range) × (after ≡ with_range plan range before)
-read-rest plan range before now after left n given can read end_is added =
-    let rules = rules_of plan in
-    let columns = plan_columns plan before in
-    let places = plan.projection.places.now in
-    let others = rows_left plan n left in
-    let judged = filter (is_judged plan) others in
-    let unjudged_left = list_any (λ row. not (is_judged plan row)) others in
-    let all : rows_of (plan_behind plan n plan.last) left ≡ others = left_limit-is plan.limit n (rows (marks_of plan.dialect) (comment_of plan.dialect) left) in
-    let same : plan_columns plan now ≡ columns = plan_columns-more plan read.done before now read.filled can in
-    let zero_more : n + 0 ≡ n = omega arith in (
-      ap (end_behind n) (end_is
-          ∙ ap (λ rs. end_of (first_faulty rules (plan_columns plan now) 0 (filter (is_judged plan) rs)) (list_any (λ row. not (is_judged plan row)) rs)) all
-          ∙ ap (λ c. end_of (first_faulty rules c 0 judged) unjudged_left) same)
-          ∙ sym (faulty-behind rules columns n 0 judged unjudged_left)
-          ∙ ap (λ j. end_of (first_faulty rules columns j judged) unjudged_left) zero_more
-          ∙ ap (λ f. end_of f unjudged_left) (sym read.faulty)
-          ∙ ap (end_of (first_faulty rules columns 0 (judged_rows plan range))) (sym read.unjudged),
-      added
-          ∙ ap (λ rs. with_columns rules (sound_rows rules (plan_columns plan now) (filter (is_judged plan) rs)) places now) all
-          ∙ ap (λ c. with_columns rules (sound_rows rules c judged) places now) same
-          ∙ ap (with_columns rules (sound_rows rules columns judged) places) read.filled
-          ∙ with_columns-append rules read.done (sound_rows rules columns judged) places before
-          ∙ ap (λ rs. with_columns rules rs places before) (sym read.sound),
-    )
-
--- the same, given how the rest was read
-pub HasReadRows-rest : (plan p : RangePlan) (range : List ℕ) (before now after : List BufferValue) (left rest : List ℕ) (n : ℕ) (given : RangeEnd) → CanRead plan before → HasReadRows plan range before now left n
-    → p ≡ plan_behind plan n plan.last → rest ≡ left → given ≡ range_end p (plan_columns p now) rest → after ≡ with_range p rest now
-    → (end_behind n given ≡ range_end plan (plan_columns plan before) range) × (after ≡ with_range plan range before)
-HasReadRows-rest plan p range before now after left rest n given can read p_is rest_is end_is added =
-    read-rest plan range before now after left n given can read
-    (end_is ∙ ap (λ q. range_end q (plan_columns q now) rest) p_is ∙ ap (range_end (plan_behind plan n plan.last) (plan_columns (plan_behind plan n plan.last) now)) rest_is)
-    (added ∙ ap (λ q. with_range q rest now) p_is ∙ ap (λ l. with_range (plan_behind plan n plan.last) l now) rest_is)
-
--- ---- the number of a faulty row
 
 pub few_filtered : {X : Type 0} (p : X → Bool) (xs : List X) → length (filter p xs) ≤ length xs
 few_filtered p [] = omega arith
@@ -359,25 +272,3 @@ faulty-inside rules columns k (row ∷ others) u = by (first_fault rules columns
       where
         found_row : ℕ → ℕ
         found_row j = j
-
--- the number of a row with a fault behind the rows that were read
-fits-behind : (plan : RangePlan) (range : List ℕ) (before now : List BufferValue) (left : List ℕ) (n : ℕ) (given : RangeEnd) → HasReadRows plan range before now left n → length range < 2 ^ 64
-    → given ≡ range_end (plan_behind plan n plan.last) (plan_columns (plan_behind plan n plan.last) now) left → IsRowFit n given
-fits-behind plan range before now left n given read small end_is =
-    let p = plan_behind plan n plan.last in
-    let all = rows (marks_of plan.dialect) (comment_of plan.dialect) left in
-    let judged = judged_rows p left in
-    let size : length judged ≤ length (rows_of p left) = few_filtered (is_judged p) (rows_of p left) in
-    let fewer : length (rows_of p left) ≤ length all = omega (arith, ap length (left_limit-is plan.limit n all), few_limited plan.limit n all) in
-    by given (subst (IsInside 0 (length judged)) (sym end_is) (faulty-inside (rules_of p) (plan_columns p now) 0 judged (has_unjudged p left))) (omega (arith, read.few))
-  where
-    by : (e : RangeEnd) → IsInside 0 (length (judged_rows (plan_behind plan n plan.last) left)) e → n + length (judged_rows (plan_behind plan n plan.last) left) < 2 ^ 64 → IsRowFit n e
-    by end.Closed inside fits = tt
-    by end.Open inside fits = tt
-    by (end.Fault row column kind) inside fits = omega (arith, inside)
-
-pub row-fits : (plan p : RangePlan) (range : List ℕ) (before now : List BufferValue) (left rest : List ℕ) (n : ℕ) (given : RangeEnd) → HasReadRows plan range before now left n → length range < 2 ^ 64
-    → p ≡ plan_behind plan n plan.last → rest ≡ left → given ≡ range_end p (plan_columns p now) rest → IsRowFit n given
-row-fits plan p range before now left rest n given read small p_is rest_is end_is =
-    fits-behind plan range before now left n given read small
-    (end_is ∙ ap (λ q. range_end q (plan_columns q now) rest) p_is ∙ ap (range_end (plan_behind plan n plan.last) (plan_columns (plan_behind plan n plan.last) now)) rest_is)

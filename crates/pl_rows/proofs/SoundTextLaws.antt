@@ -1,9 +1,7 @@
 -- Texts that end where an item does, one behind the other.
-use Rattle.std.proofs.Common.{◌≡◌, ℕ, ◌+◌, ◌<◌, ◌≤◌, ◌^◌, Bool, true, false, not, ◌&&◌, ◌==◌, List, [], ◌∷◌, ◌++◌, map, length, refl, sym, ◌∙◌, ap, subst, arith, length-append}
-use Rattle.std.specs.Prelude.{Option, None, Some}
+use Rattle.std.proofs.Common.{◌≡◌, ℕ, ◌+◌, ◌-◌, ◌<◌, ◌≤◌, ◌^◌, Bool, true, false, not, List, [], ◌∷◌, ◌++◌, map, length, refl, sym, ◌∙◌, ap, subst, arith, length-append}
+use Rattle.std.specs.Prelude.{Option, None, Some, IfSome, filter}
 use Rattle.std.specs.List.{last_or, list_any, AllByRecursion}
-use Rattle.std.specs.Option.{option_map_or}
-use Rattle.std.proofs.lemmas.Bool.Decides.{nat_tests}
 use Rattle.std.proofs.lemmas.List.{map-append}
 use Rattle.pl_frame.specs.Dialect.{Marks, AreDistinct, IsCommentPrefix, IsDialect}
 use Rattle.pl_frame.specs.Frame.{Scalar, ColumnValue, HaveHeight}
@@ -24,19 +22,19 @@ use Rattle.pl_rows.specs.declared.range.RangeEnd.TheVariants as end
 use Rattle.pl_rows.specs.declared.whole_pieces.PieceFrame.{PieceFrame}
 use Rattle.pl_rows.specs.Cells.{RowRules}
 use Rattle.pl_rows.specs.Columns.{read_column, entries_in, columns_in, columns_of, frame_of_rows, with_columns}
-use Rattle.pl_rows.specs.Pieces.{EndsItem, is_ended, ends_item, is_closed, left_limit, plan_behind, end_behind, IsRowFit, HasReadPiece}
+use Rattle.pl_rows.specs.Pieces.{EndsItem, left_limit, plan_behind, end_behind, IsRowFit, IsWholePiece, HasReadPiece}
 use Rattle.pl_rows.specs.Plan.{Columns, rules_of, plan_columns}
 use Rattle.pl_rows.specs.Ranges.{limited, rows_of, is_judged, judged_rows, has_unjudged, end_of, range_end, rows_read, sound_rows, range_frame}
 use Rattle.pl_rows.specs.Rows.{first_fault, first_faulty}
-use Rattle.pl_rows.specs.WholePieces.{IsSoundText, text_frame, IsPieceFrame}
+use Rattle.pl_rows.specs.Steps.{is_below}
+use Rattle.pl_rows.specs.WholePieces.{IsSoundText, text_frame, IsPieceFrame, IsPieceFound}
 use Rattle.pl_table.specs.Rows.{Row, rows}
 use Rattle.pl_table.proofs.PieceLaws.{rows-append}
-use Rattle.pl_rows.proofs.BlockLaws.{sound-front, faulty-front}
+use Rattle.pl_rows.proofs.BlockLaws.{filter-front, any-front, sound-front, faulty-front, take-past}
 use Rattle.pl_rows.proofs.FrameLaws.{columns_of-rows, have_height, plan_columns-empty}
-use Rattle.pl_rows.proofs.OpenLaws.{open_rows, unjudged, unjudged-open, unjudged-last}
-use Rattle.pl_rows.proofs.PieceLaws.{filter-all, faulty-behind, few_filtered, few_limited, IsInside, faulty-inside}
-use Rattle.pl_rows.proofs.RangeLaws.{rows-nil, few_rows, left_below-start, first_faulty-more}
-use Rattle.pl_rows.proofs.WholeLaws.{judged-last}
+use Rattle.pl_rows.proofs.OpenLaws.{open_rows}
+use Rattle.pl_rows.proofs.PieceLaws.{closed-judged, faulty-behind, few_filtered, few_limited, IsInside, faulty-inside}
+use Rattle.pl_rows.proofs.RangeLaws.{rows-nil, few_rows, left_below-start}
 
 -- ---- texts that end where an item does
 
@@ -139,45 +137,67 @@ same-columns-range plan schema a b =
 
 -- ---- a range with a sound text at its front
 
--- without a limit all rows of the last range are judged
-judged-all : (plan : RangePlan) (range : List ℕ) → plan.limit ≡ None → plan.last ≡ true → judged_rows plan range ≡ rows (marks_of plan.dialect) (comment_of plan.dialect) range
-judged-all plan range all last = judged-last plan range last ∙ ap (λ limit. limited limit (rows (marks_of plan.dialect) (comment_of plan.dialect) range)) all
+-- a limit is no less than so many
+abbrev pub IsWithin : Option ℕ → ℕ → Type 0
+IsWithin limit n = IfSome limit (λ most. n ≤ most)
 
--- and none is not judged
-unjudged-none : (plan : RangePlan) (range : List ℕ) → plan.last ≡ true → has_unjudged plan range ≡ false
-unjudged-none plan range last = ap (λ t. list_any (unjudged t (marks_of plan.dialect)) (rows_of plan range)) last ∙ unjudged-last (marks_of plan.dialect) (rows_of plan range)
+-- those of two lists below a limit that is no less than the first
+limited-behind : {X : Type 0} (limit : Option ℕ) (xs ys : List X) → IsWithin limit (length xs) → limited limit (xs ++ ys) ≡ xs ++ limited (left_limit limit (length xs)) ys
+limited-behind None xs ys few = refl
+limited-behind (Some most) xs ys few = take-past most xs ys few
 
--- the rows that are judged
-judged-behind : (plan : RangePlan) (front rest : List ℕ) → plan.limit ≡ None → plan.last ≡ true → IsDialect (marks_of plan.dialect) (comment_of plan.dialect) → EndsItem plan.dialect front
-    → judged_rows plan (front ++ rest) ≡ rows (marks_of plan.dialect) (comment_of plan.dialect) front ++ judged_rows plan rest
-judged-behind plan front rest all last apart ends =
-    judged-all plan (front ++ rest) all last
-    ∙ rows-behind plan.dialect front rest apart ends
-    ∙ ap (λ others. rows (marks_of plan.dialect) (comment_of plan.dialect) front ++ others) (sym (judged-all plan rest all last))
+-- the rows of the range
+rows_of-behind : (plan : RangePlan) (front rest : List ℕ) → IsDialect (marks_of plan.dialect) (comment_of plan.dialect) → EndsItem plan.dialect front
+    → IsWithin plan.limit (length (rows (marks_of plan.dialect) (comment_of plan.dialect) front))
+    → rows_of plan (front ++ rest) ≡ rows (marks_of plan.dialect) (comment_of plan.dialect) front ++ rows_of (plan_behind plan (length (rows (marks_of plan.dialect) (comment_of plan.dialect) front)) plan.last) rest
+rows_of-behind plan front rest apart ends few =
+    let m = marks_of plan.dialect in
+    let comment = comment_of plan.dialect in
+    ap (limited plan.limit) (rows-behind plan.dialect front rest apart ends) ∙ limited-behind plan.limit (rows m comment front) (rows m comment rest) few
 
 -- what is read of the range, and where it ends
-pub range-behind : (plan : RangePlan) (schema : List Entry) (front rest : List ℕ) → plan.limit ≡ None → plan.last ≡ true → IsDialect (marks_of plan.dialect) (comment_of plan.dialect) → IsSoundText plan schema front
-    → (range_frame plan schema (front ++ rest) ≡ stacked (text_frame plan schema front) (range_frame plan schema rest))
+pub range-after : (plan : RangePlan) (schema : List Entry) (front rest : List ℕ) → IsDialect (marks_of plan.dialect) (comment_of plan.dialect) → IsSoundText plan schema front
+    → IsWithin plan.limit (length (rows (marks_of plan.dialect) (comment_of plan.dialect) front))
+    → (range_frame plan schema (front ++ rest)
+    ≡ stacked (text_frame plan schema front) (range_frame (plan_behind plan (length (rows (marks_of plan.dialect) (comment_of plan.dialect) front)) plan.last) schema rest))
     × (range_end plan (columns_in schema plan.projection.places.now) (front ++ rest)
-    ≡ end_behind (length (rows (marks_of plan.dialect) (comment_of plan.dialect) front)) (range_end plan (columns_in schema plan.projection.places.now) rest))
-range-behind plan schema front rest all last apart sound =
+    ≡ end_behind (length (rows (marks_of plan.dialect) (comment_of plan.dialect) front))
+    (range_end (plan_behind plan (length (rows (marks_of plan.dialect) (comment_of plan.dialect) front)) plan.last) (columns_in schema plan.projection.places.now) rest))
+range-after plan schema front rest apart sound few =
     let rules = rules_of plan in
+    let m = marks_of plan.dialect in
     let columns = columns_in schema plan.projection.places.now in
     let entries = entries_in schema plan.projection.places.now in
-    let first = rows (marks_of plan.dialect) (comment_of plan.dialect) front in
+    let first = rows m (comment_of plan.dialect) front in
     let n = length first in
-    let others = judged_rows plan rest in
-    let judged = judged-behind plan front rest all last apart sound.ends in
-    let same : has_unjudged plan (front ++ rest) ≡ has_unjudged plan rest = unjudged-none plan (front ++ rest) last ∙ sym (unjudged-none plan rest last) in
+    let p = plan_behind plan n plan.last in
+    let others = judged_rows p rest in
+    let all = rows_of-behind plan front rest apart sound.ends few in
+    let each : AllByRecursion (λ row. is_judged plan row ≡ true) first = closed-judged plan first (sym (open_rows m (comment_of plan.dialect) front apart.distinct) ∙ sound.ends.closed) in
+    let judged : judged_rows plan (front ++ rest) ≡ first ++ others = ap (filter (is_judged plan)) all ∙ filter-front (is_judged plan) first (rows_of p rest) each in
+    let same : has_unjudged plan (front ++ rest) ≡ has_unjudged p rest = ap (list_any (λ row. not (is_judged plan row))) all ∙ any-front (is_judged plan) first (rows_of p rest) each in
     let count : 0 + n ≡ n + 0 = omega arith in (
       ap (λ given. frame_of_rows rules entries (sound_rows rules columns given)) judged
           ∙ ap (frame_of_rows rules entries) (sound-front rules columns first others sound.sound)
           ∙ sym (columns-stacked rules entries first (sound_rows rules columns others)),
       ap (λ given. end_of (first_faulty rules columns 0 given) (has_unjudged plan (front ++ rest))) judged
           ∙ ap (λ u. end_of (first_faulty rules columns 0 (first ++ others)) u) same
-          ∙ ap (λ f. end_of f (has_unjudged plan rest)) (faulty-front rules columns 0 first others sound.sound)
-          ∙ ap (λ k. end_of (first_faulty rules columns k others) (has_unjudged plan rest)) count
-          ∙ faulty-behind rules columns n 0 others (has_unjudged plan rest),
+          ∙ ap (λ f. end_of f (has_unjudged p rest)) (faulty-front rules columns 0 first others sound.sound)
+          ∙ ap (λ k. end_of (first_faulty rules columns k others) (has_unjudged p rest)) count
+          ∙ faulty-behind rules columns n 0 others (has_unjudged p rest),
+    )
+
+-- the same where there is no limit
+pub range-behind : (plan : RangePlan) (schema : List Entry) (front rest : List ℕ) → plan.limit ≡ None → plan.last ≡ true → IsDialect (marks_of plan.dialect) (comment_of plan.dialect) → IsSoundText plan schema front
+    → (range_frame plan schema (front ++ rest) ≡ stacked (text_frame plan schema front) (range_frame plan schema rest))
+    × (range_end plan (columns_in schema plan.projection.places.now) (front ++ rest)
+    ≡ end_behind (length (rows (marks_of plan.dialect) (comment_of plan.dialect) front)) (range_end plan (columns_in schema plan.projection.places.now) rest))
+range-behind plan schema front rest all last apart sound =
+    let n = length (rows (marks_of plan.dialect) (comment_of plan.dialect) front) in
+    let both = range-after plan schema front rest apart sound (subst (λ limit. IsWithin limit n) (sym all) tt) in
+    let same : plan_behind plan n plan.last ≡ plan = ap (λ limit. record plan { limit = limit }) (ap (λ limit. left_limit limit n) all ∙ sym all) in (
+      both.0 ∙ ap (λ p. stacked (text_frame plan schema front) (range_frame p schema rest)) same,
+      both.1 ∙ ap (λ p. end_behind n (range_end p (columns_in schema plan.projection.places.now) rest)) same,
     )
 
 -- the row of a fault that is one of so many
@@ -203,74 +223,49 @@ row-fits plan columns front rest apart small =
 
 -- ---- a piece that was read into empty buffers
 
-pub IsPieceFrame-read : (plan : RangePlan) (schema : List Entry) (text : List ℕ) (before now : List BufferValue) (n : ℕ) (read : PieceFrame)
-    → before ≡ empty_buffers plan.dialect.quote_char plan.options.encoding schema plan.projection.places.now → plan.projection.width ≡ length schema → plan.limit ≡ None
-    → HasReadPiece (plan_behind plan 0 false) text before now n → read.columns.items ≡ columns_of now → read.rows ≡ n → IsPieceFrame plan schema text read
-IsPieceFrame-read plan schema text before now n read is width all found columns_are count =
+left_limit-zero : (limit : Option ℕ) → left_limit limit 0 ≡ limit
+left_limit-zero None = refl
+left_limit-zero (Some most) = let same : most - 0 ≡ most = omega arith in ap (λ k. Some k) same
+
+pub IsPieceFound-read : (plan : RangePlan) (schema : List Entry) (text : List ℕ) (before now : List BufferValue) (n : ℕ) (read : PieceFrame)
+    → before ≡ empty_buffers plan.dialect.quote_char plan.options.encoding schema plan.projection.places.now → plan.projection.width ≡ length schema
+    → HasReadPiece (plan_behind plan 0 false) text before now n → read.columns.items ≡ columns_of now → read.rows ≡ n → IsPieceFound plan schema text (Some read)
+IsPieceFound-read plan schema text before now n read is width found columns_are count =
     let rules = rules_of plan in
     let places = plan.projection.places.now in
     let given = rows (marks_of plan.dialect) (comment_of plan.dialect) text in
-    let same : rows_of (plan_behind plan 0 false) text ≡ given = ap (λ limit. limited (left_limit limit 0) given) all in
-    let sound = subst (λ rs. AllByRecursion (λ row. first_fault rules (plan_columns plan before) row ≡ None) rs) same found.read.whole in
-    record {
-      sound = record {
-        ends = record { ended = found.ends.ended; closed = found.ends.closed };
-        sound = subst (λ columns. AllByRecursion (λ row. first_fault rules columns row ≡ None) given) (plan_columns-empty plan schema before is width) sound;
-      };
-      columns_are =
-          columns_are
-          ∙ ap columns_of found.read.added
-          ∙ ap (λ rs. columns_of (with_columns rules rs places before)) same
-          ∙ ap (λ b. columns_of (with_columns rules given places b)) is
-          ∙ columns_of-rows rules given schema places;
-      count = count ∙ found.count ∙ ap length same;
-    }
+    let many : read.rows ≡ length given = count ∙ found.count in (
+      record {
+        sound = record {
+          ends = record { ended = found.whole.ends.ended; closed = found.whole.ends.closed };
+          sound = subst (λ columns. AllByRecursion (λ row. first_fault rules columns row ≡ None) given) (plan_columns-empty plan schema before is width) found.whole.sound;
+        };
+        columns_are = columns_are ∙ ap columns_of found.added ∙ ap (λ b. columns_of (with_columns rules given places b)) is ∙ columns_of-rows rules given schema places;
+        count = many;
+      },
+      ap (is_below plan.limit) many ∙ ap (λ limit. is_below limit (length given)) (sym (left_limit-zero plan.limit)) ∙ found.whole.few,
+    )
 
--- ---- a piece that was not closed is no sound text
+-- a piece that is not whole is no sound text, or has as many rows as the limit
+pub IsPieceFound-none : (plan : RangePlan) (schema : List Entry) (text : List ℕ) (before : List BufferValue)
+    → before ≡ empty_buffers plan.dialect.quote_char plan.options.encoding schema plan.projection.places.now → plan.projection.width ≡ length schema
+    → (IsWholePiece (plan_behind plan 0 false) (plan_columns (plan_behind plan 0 false) before) text → ⊥) → IsPieceFound plan schema text None
+IsPieceFound-none plan schema text before is width none = λ sound. by sound (is_below plan.limit (length (rows (marks_of plan.dialect) (comment_of plan.dialect) text))) refl
+  where
+    given : List Row
+    given = rows (marks_of plan.dialect) (comment_of plan.dialect) text
 
-none-faulty : (rules : RowRules) (columns : Columns) (k : ℕ) (given : List Row) → AllByRecursion (λ row. first_fault rules columns row ≡ None) given → first_faulty rules columns k given ≡ None
-none-faulty rules columns k [] all = refl
-none-faulty rules columns k (row ∷ others) all = first_faulty-more rules columns k row others all.0 ∙ none-faulty rules columns (k + 1) others all.1
+    by : IsSoundText plan schema text → (t : Bool) → is_below plan.limit (length (rows (marks_of plan.dialect) (comment_of plan.dialect) text)) ≡ t
+        → is_below plan.limit (length (rows (marks_of plan.dialect) (comment_of plan.dialect) text)) ≡ false
+    by sound true few = absurd (none (record {
+      ends = record { ended = sound.ends.ended; closed = sound.ends.closed };
+      sound = subst (λ columns. AllByRecursion (λ row. first_fault (rules_of plan) columns row ≡ None) given) (sym (plan_columns-empty plan schema before is width)) sound.sound;
+      few = ap (λ limit. is_below limit (length given)) (left_limit-zero plan.limit) ∙ few;
+    }))
+    by sound false few = few
 
--- the test of a text's end passes where it ends where an item does
-passes-both : (a b : Bool) → a ≡ true → b ≡ false → (a && not b) ≡ true
-passes-both true true x y = absurd (cc)
-passes-both true false x y = refl
-passes-both false b x y = absurd (cc)
-
-is_ended-so : (e : ℕ) (text : List ℕ) → IsEnded e text → is_ended e text ≡ true
-is_ended-so e [] ended = refl
-is_ended-so e (x ∷ xs) ended =
-    let same : (e == e) ≡ true = grind (arith, nat_tests) in
-    ap (λ o. option_map_or (λ (k : ℕ). k == e) o true) ended ∙ same
-
-ends_item-so : (dialect : Dialect) (text : List ℕ) → EndsItem dialect text → ends_item dialect text ≡ true
-ends_item-so dialect text ends =
-    passes-both (is_ended dialect.eol_char text) (ends_open (marks_of dialect) (comment_of dialect) text) (is_ended-so dialect.eol_char text ends.ended) ends.closed
-
--- a sound text is read to its end, also as a range that is not the last one
-sound-closed : (plan : RangePlan) (schema : List Entry) (text : List ℕ) → AreDistinct (marks_of plan.dialect) → plan.limit ≡ None → IsSoundText plan schema text
-    → range_end (plan_behind plan 0 false) (columns_in schema plan.projection.places.now) text ≡ end.Closed
-sound-closed plan schema text apart all sound =
-    let p = plan_behind plan 0 false in
-    let rules = rules_of plan in
-    let m = marks_of plan.dialect in
-    let columns = columns_in schema plan.projection.places.now in
-    let given = rows m (comment_of plan.dialect) text in
-    let same : rows_of p text ≡ given = ap (λ limit. limited (left_limit limit 0) given) all in
-    let none : has_unjudged p text ≡ false =
-    ap (list_any (unjudged false m)) same ∙ unjudged-open m given ∙ sym (open_rows m (comment_of plan.dialect) text apart) ∙ sound.ends.closed in
-    let judged : judged_rows p text ≡ given = filter-all (is_judged p) (rows_of p text) none ∙ same in
-    ap (λ rs. end_of (first_faulty rules columns 0 rs) (has_unjudged p text)) judged
-    ∙ ap (λ f. end_of f (has_unjudged p text)) (none-faulty rules columns 0 given sound.sound)
-    ∙ ap (end_of None) none
-
-pub not-sound : (plan : RangePlan) (schema : List Entry) (text : List ℕ) (before : List BufferValue) (closed : Bool) → AreDistinct (marks_of plan.dialect)
-    → before ≡ empty_buffers plan.dialect.quote_char plan.options.encoding schema plan.projection.places.now → plan.projection.width ≡ length schema → plan.limit ≡ None
-    → closed ≡ (is_closed (range_end (plan_behind plan 0 false) (plan_columns (plan_behind plan 0 false) before) text) && ends_item plan.dialect text) → closed ≡ false → IsSoundText plan schema text → ⊥
-not-sound plan schema text before closed apart is width all told shut sound =
-    let p = plan_behind plan 0 false in
-    let ends : range_end p (plan_columns p before) text ≡ end.Closed =
-    ap (λ columns. range_end p columns text) (plan_columns-empty plan schema before is width) ∙ sound-closed plan schema text apart all sound in
-    let passes : closed ≡ true = told ∙ ap (λ e. is_closed e && ends_item plan.dialect text) ends ∙ ends_item-so plan.dialect text sound.ends in
-    cc
+-- the columns of a piece, if it has any, are what is meant
+pub found-meant : (plan : RangePlan) (schema : List Entry) (text : List ℕ) (found : Option PieceFrame) (reads : List ℕ → PieceFrame → Type 0) → ((read : PieceFrame) → IsPieceFrame plan schema text read → reads text read)
+    → IsPieceFound plan schema text found → IfSome found (reads text)
+found-meant plan schema text None reads meant found = tt
+found-meant plan schema text (Some read) reads meant found = meant read found.0

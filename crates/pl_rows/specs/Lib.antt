@@ -8,5 +8,4 @@ pub mod Steps
 pub mod Laws
 pub mod Blocks
 pub mod Pieces
-pub mod Apart
 pub mod WholePieces

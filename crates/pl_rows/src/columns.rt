@@ -3,17 +3,14 @@ ghost use Rattle.std.specs.Prelude.{◌≡◌, ◌<◌, ℕ, None, length, slice
 ghost use Rattle.std.specs.List.{range_with_len};
 ghost use Rattle.pl_cells.specs.InitBuffers.{empty_buffers, first_unreadable, IsTypeFault};
 ghost use Rattle.pl_cells.specs.NullValues.{HaveTexts};
-ghost use Rattle.pl_frame.specs.Dialect.{AreDistinct, IsDialect};
-ghost use Rattle.pl_scan.specs.Dialect.{marks_of, comment_of};
-ghost use Rattle.pl_scan.specs.LineCuts.{RiseTo};
+ghost use Rattle.pl_frame.specs.Dialect.{AreDistinct};
+ghost use Rattle.pl_scan.specs.Dialect.{marks_of};
 ghost use Rattle.pl_rows.specs.Plan.{states, AreRising};
 ghost use Rattle.pl_rows.specs.Columns.{columns_of};
 ghost use Rattle.pl_rows.specs.Ranges.{IsRangeRead};
 
-use crate::pieces::read_pieces;
 use crate::plan::RangePlan;
 use crate::range::{RangeEnd, read_range};
-use pl_board::gate::Gate;
 use pl_cells::buffer::Buffer;
 use pl_cells::init_buffers::init_buffers;
 use pl_cells::utf8::CsvEncoding;
@@ -75,6 +72,17 @@ pub fn into_columns(alloc: Global, buffers: Vec<Buffer>) -> Result<Vec<Column>, 
     Ok(columns)
 }
 
+/// The columns that buffers are, in no more memory than they need; the buffers stay. Refuses only want of memory.
+pub(crate) fn packed_columns(alloc: Global, buffers: &[Buffer]) -> Result<Vec<Column>, AllocError>
+    ensures { IfOk result (λ columns. columns.items ≡ columns_of (states buffers.now)) }
+{
+    let mut columns = Vec::new(alloc);
+    for buffer in buffers {
+        columns.push(buffer.packed(alloc)?)?;
+    }
+    Ok(columns)
+}
+
 /// The columns that were read of a range, and where it ended.
 #[derive(Debug, Drop)]
 pub struct RangeColumns {
@@ -101,32 +109,6 @@ pub fn read_columns(
     let quote_char = plan.dialect.quote_char;
     let mut buffers = empty_buffers(alloc, schema, places, quote_char, plan.options.encoding)?;
     let end = read_range(alloc, &mut buffers, range, plan)?;
-    let columns = into_columns(alloc, buffers)?;
-    Ok(RangeColumns { columns, end })
-}
-
-/// Reads the records of a range piece by piece, as `read_pieces` does, into columns of a schema: the same columns and the same
-/// end as `read_columns` gives, wherever the pieces end. Refuses only want of memory.
-pub fn read_columns_in_pieces<G: Gate>(
-    alloc: Global,
-    schema: &Schema,
-    range: &[u8],
-    plan: &RangePlan<'_>,
-    ends: Vec<usize>,
-    gate: &G,
-) -> Result<RangeColumns, AllocError>
-    requires dialect { IsDialect (marks_of plan.now.dialect) (comment_of plan.now.dialect) }
-    requires width { plan.now.projection.width ≡ length schema.now }
-    requires rising { AreRising 0 (length schema.now) plan.now.projection.places.now }
-    requires readable { first_unreadable schema.now plan.now.projection.places.now ≡ None }
-    requires texts { HaveTexts plan.now.options.null_values (length schema.now) }
-    requires rise { RiseTo (length range.now) 0 ends.items }
-    ensures { IfOk result (IsRangeRead plan.now schema.now range.now) }
-{
-    let places = plan.projection.places;
-    let quote_char = plan.dialect.quote_char;
-    let mut buffers = empty_buffers(alloc, schema, places, quote_char, plan.options.encoding)?;
-    let end = read_pieces(alloc, &mut buffers, range, plan, ends, gate)?;
     let columns = into_columns(alloc, buffers)?;
     Ok(RangeColumns { columns, end })
 }

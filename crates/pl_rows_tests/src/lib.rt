@@ -4,8 +4,6 @@
 #[cfg(test)]
 mod given;
 #[cfg(test)]
-mod pieces;
-#[cfg(test)]
 mod range;
 #[cfg(test)]
 mod whole_pieces;

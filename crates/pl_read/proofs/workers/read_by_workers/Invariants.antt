@@ -1,11 +1,10 @@
-use Rattle.pl_cells.specs.InitBuffers.{empty_buffers}
-use Rattle.pl_rows.specs.Apart.{ReadsApart}
+use Rattle.pl_rows.specs.WholePieces.{IsPieceFrame}
 use Rattle.pl_read.proofs.workers.read_by_workers.Given as goal
 
 abbrev pub ghosts-read_on_board-K-Reading : goal.ghosts-read_on_board-K-Reading
 ghosts-read_on_board-K-Reading g a = record {
   range = a.range.now;
-  reads = λ text now rows. ReadsApart a.plan.now (empty_buffers a.plan.now.dialect.quote_char a.plan.now.options.encoding a.schema.now a.plan.now.projection.places.now) text now rows;
+  reads = λ text read. IsPieceFrame a.plan.now a.schema.now text read;
 }
 
 abbrev pub ghosts-read_on_board-T-Task : goal.ghosts-read_on_board-T-Task

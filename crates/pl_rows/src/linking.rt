@@ -1,0 +1,121 @@
+//! Columns of pieces that were read apart, linked in order, and what is left of their range behind them.
+ghost use Rattle.std.specs.Prelude.{◌≡◌, ℕ, List, None, IfOk, OnOk, length, map};
+ghost use Rattle.pl_frame.specs.Dialect.{AreDistinct, IsDialect};
+ghost use Rattle.pl_frame.specs.FrameParts.{empty_columns};
+ghost use Rattle.pl_scan.specs.Dialect.{marks_of, comment_of};
+ghost use Rattle.pl_cells.specs.InitBuffers.{entry_at, first_unreadable};
+ghost use Rattle.pl_cells.specs.NullValues.{HaveTexts};
+ghost use Rattle.pl_rows.specs.declared.whole_pieces.PieceFrame.{PieceFrame};
+ghost use Rattle.pl_rows.specs.Plan.{AreRising};
+ghost use Rattle.pl_rows.specs.Ranges.{IsRangeRead};
+ghost use Rattle.pl_rows.specs.WholePieces.{IsPieceFrame, IsFrontLinked};
+
+use crate::apart::{PieceColumns, Reading};
+use crate::columns::{RangeColumns, read_columns};
+use crate::pieces::{end_behind, plan_behind};
+use crate::plan::RangePlan;
+use crate::range::is_below;
+use crate::stack::{Stack, empty_stacks, into_columns, push_columns};
+use pl_board::piece::Posted;
+use pl_frame::schema::Schema;
+use std::alloc::{AllocError, Global};
+
+// How many rows the pieces have that are linked, and where the last one ends.
+#[derive(Clone, Copy)]
+struct Front {
+    rows: usize,
+    end: usize,
+}
+
+// Puts the columns of the front of what was posted of a range behind the stacks: of pieces that have columns, each from where the one
+// before it ended, as long as their rows are below the limit. Refuses only want of memory.
+fn link_front<K: Reading>(
+    stacks: &mut [Stack],
+    results: Vec<Option<Posted<'_, PieceColumns<K>>>>,
+    schema: &Schema,
+    range: &[u8],
+    plan: &RangePlan<'_>,
+) -> Result<Front, AllocError>
+    requires dialect { IsDialect (marks_of plan.now.dialect) (comment_of plan.now.dialect) }
+    requires empty { stacks.old ≡ empty_columns (map (entry_at schema.now) plan.now.projection.places.now) }
+    requires range { K.range ≡ range.now }
+    requires meant { (text : List ℕ) (read : PieceFrame) → K.reads text read → IsPieceFrame plan.now schema.now text read }
+    ensures { IfOk result (λ front. IsFrontLinked plan.now schema.now range.now stacks.new front.rows front.end) }
+{
+    let mut rows = 0;
+    let mut end = 0;
+    for posted in results {
+        let Some(posted) = posted else {
+            break;
+        };
+        let PieceColumns { from, to, read, .. } = posted.into_done();
+        let Some(piece) = read else {
+            break;
+        };
+        if from != end || to < end || to > range.len() {
+            break;
+        }
+        let Some(more) = usize::checked_add(rows, piece.rows) else {
+            break;
+        };
+        if !is_below(plan.limit, more) {
+            break;
+        }
+        push_columns(stacks, piece.columns)?;
+        rows = more;
+        end = to;
+    }
+    Ok(Front { rows, end })
+}
+
+// Reads what is left of a range, behind a front whose columns are linked, as its last part, and gives the columns of the whole range.
+// Refuses only want of memory.
+fn link_rest(
+    alloc: Global,
+    schema: &Schema,
+    stacks: Vec<Stack>,
+    range: &[u8],
+    plan: &RangePlan<'_>,
+    front: Front,
+) -> Result<RangeColumns, AllocError>
+    requires dialect { IsDialect (marks_of plan.now.dialect) (comment_of plan.now.dialect) }
+    requires width { plan.now.projection.width ≡ length schema.now }
+    requires rising { AreRising 0 (length schema.now) plan.now.projection.places.now }
+    requires readable { first_unreadable schema.now plan.now.projection.places.now ≡ None }
+    requires texts { HaveTexts plan.now.options.null_values (length schema.now) }
+    requires front { IsFrontLinked plan.now schema.now range.now stacks.items front.rows front.end }
+    ensures { IfOk result (IsRangeRead plan.now schema.now range.now) }
+{
+    let mut stacks = stacks;
+    let last = plan_behind(plan, front.rows, plan.last);
+    let left = read_columns(alloc, schema, &range[front.end..], &last)?;
+    push_columns(&mut stacks, left.columns)?;
+    let columns = into_columns(alloc, stacks)?;
+    Ok(RangeColumns {
+        columns,
+        end: end_behind(front.rows, left.end),
+    })
+}
+
+/// The columns of a range of which these results were posted, in order: those of its front are linked, and what is left behind them is
+/// read as one range. Refuses only want of memory.
+pub fn link_results<K: Reading>(
+    alloc: Global,
+    schema: &Schema,
+    results: Vec<Option<Posted<'_, PieceColumns<K>>>>,
+    range: &[u8],
+    plan: &RangePlan<'_>,
+) -> Result<RangeColumns, AllocError>
+    requires dialect { IsDialect (marks_of plan.now.dialect) (comment_of plan.now.dialect) }
+    requires width { plan.now.projection.width ≡ length schema.now }
+    requires rising { AreRising 0 (length schema.now) plan.now.projection.places.now }
+    requires readable { first_unreadable schema.now plan.now.projection.places.now ≡ None }
+    requires texts { HaveTexts plan.now.options.null_values (length schema.now) }
+    requires range { K.range ≡ range.now }
+    requires meant { (text : List ℕ) (read : PieceFrame) → K.reads text read → IsPieceFrame plan.now schema.now text read }
+    ensures { IfOk result (IsRangeRead plan.now schema.now range.now) }
+{
+    let mut stacks = empty_stacks(alloc, schema, plan.projection.places)?;
+    let front = link_front(&mut stacks, results, schema, range, plan)?;
+    link_rest(alloc, schema, stacks, range, plan, front)
+}

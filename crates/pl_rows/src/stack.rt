@@ -1,0 +1,111 @@
+//! A column that others are put behind, one after another.
+ghost use Rattle.std.specs.Prelude.{◌≡◌, ◌++◌, ◌<◌, IfOk, OnOk, [], length, map};
+ghost use Rattle.pl_cells.specs.InitBuffers.{entry_at};
+ghost use Rattle.pl_frame.specs.FrameParts.{empty_columns, stacked, with_values, HaveSameColumns};
+ghost use Rattle.std.specs.Prelude.{ℕ, slice_index};
+
+use pl_frame::column::Column;
+use pl_frame::data_type::DataType;
+use pl_frame::name::PlSmallStr;
+use pl_frame::schema::Schema;
+use std::alloc::{AllocError, Global};
+use std::marker::Model;
+
+/// A column of which the parts are not linked yet.
+#[derive(Drop)]
+pub(crate) struct Stack {
+    name: PlSmallStr,
+    dtype: DataType,
+    parts: Vec<Column>,
+}
+
+impl Model for Stack {
+    ghost use Rattle.std.specs.Prelude.{◌≡◌};
+    ghost use Rattle.std.specs.List.{flat_map, AllByRecursion};
+    ghost use Rattle.pl_frame.specs.Frame.{ColumnValue};
+
+    ghost Value = { ColumnValue };
+
+    ghost view = { λ s. record { name = s.name; dtype = s.dtype; values = flat_map (λ part. part.values) s.parts.items } };
+
+    ghost invariant = { λ s. AllByRecursion (λ part. part.dtype ≡ s.dtype) s.parts.items };
+}
+
+impl Stack {
+    // One without cells.
+    fn new(alloc: Global, name: PlSmallStr, dtype: DataType) -> Stack
+        ensures { result ≡ record { name = name; dtype = dtype; values = [] } }
+    {
+        Stack {
+            name,
+            dtype,
+            parts: Vec::new(alloc),
+        }
+    }
+
+    // Puts a column of its type behind it. Refuses only want of memory.
+    fn push(&mut self, part: Column) -> Result<(), AllocError>
+        requires { part.dtype ≡ self.old.dtype }
+        ensures { OnOk result (self.new ≡ with_values self.old (self.old.values ++ part.values)) }
+    {
+        if part.len() == 0 {
+            return Ok(());
+        }
+        self.parts.push(part)?;
+        Ok(())
+    }
+
+    // The column, in which the parts are linked. Refuses only want of memory.
+    fn into_column(self, alloc: Global) -> Result<Column, AllocError>
+        ensures { IfOk result (λ column. column ≡ self) }
+    {
+        Column::stacked(alloc, self.name, self.dtype, self.parts)
+    }
+}
+
+/// A stack without cells for each of these columns of a schema. Refuses only want of memory.
+pub(crate) fn empty_stacks(
+    alloc: Global,
+    schema: &Schema,
+    places: &[usize],
+) -> Result<Vec<Stack>, AllocError>
+    requires { (k : ℕ) → k < length places.now → slice_index places.now k < length schema.now }
+    ensures { IfOk result (λ stacks. stacks.items ≡ empty_columns (map (entry_at schema.now) places.now)) }
+{
+    let mut stacks = Vec::new(alloc);
+    for place in places {
+        let (name, dtype) = schema.entry(*place);
+        let Ok(name) = name.try_clone() else {
+            return Err(AllocError);
+        };
+        let Ok(dtype) = dtype.try_clone() else {
+            return Err(AllocError);
+        };
+        stacks.push(Stack::new(alloc, name, dtype))?;
+    }
+    Ok(stacks)
+}
+
+/// Puts a column behind each stack. Refuses only want of memory.
+pub(crate) fn push_columns(stacks: &mut [Stack], columns: Vec<Column>) -> Result<(), AllocError>
+    requires { HaveSameColumns stacks.old columns.items }
+    ensures { OnOk result (stacks.new ≡ stacked stacks.old columns.items) }
+{
+    let mut place = 0;
+    for column in columns {
+        stacks[place].push(column)?;
+        place += 1;
+    }
+    Ok(())
+}
+
+/// The columns, in which the parts of each stack are linked. Refuses only want of memory.
+pub(crate) fn into_columns(alloc: Global, stacks: Vec<Stack>) -> Result<Vec<Column>, AllocError>
+    ensures { IfOk result (λ columns. columns.items ≡ stacks.items) }
+{
+    let mut columns = Vec::new(alloc);
+    for stack in stacks {
+        columns.push(stack.into_column(alloc)?)?;
+    }
+    Ok(columns)
+}

@@ -1,13 +1,10 @@
 -- All rows of data, read and printed.
-use Rattle.std.proofs.Common.{◌≡◌, ℕ, true, ◌+◌, ◌-◌, ◌<◌, ◌≤◌, ◌^◌, List, [], ◌∷◌, ◌++◌, length, get_or, take, drop, map, sym, ◌∙◌, ap, subst, arith, length-drop, append-nil}
-use Rattle.std.specs.Global.{Global}
-use Rattle.std.specs.declared.borrow.CowSlice.{CowSlice}
+use Rattle.std.proofs.Common.{◌≡◌, ℕ, true, ◌+◌, ◌<◌, ◌≤◌, ◌^◌, List, [], ◌∷◌, ◌++◌, length, get_or, take, drop, map, sym, ◌∙◌, ap, subst, arith}
 use Rattle.std.specs.Cow.{cow_slice_items}
 use Rattle.std.specs.List.{concat}
-use Rattle.std.proofs.lemmas.List.{take-append-drop, drop-drop, drop_more, drop_all, map-append}
-use Rattle.std.proofs.lemmas.List.Folds.{concat-append}
+use Rattle.std.proofs.lemmas.List.{take-append-drop, drop-drop, drop_more}
 use Rattle.pl_frame.specs.Dialect.{IsDialect}
-use Rattle.pl_frame.specs.Frame.{ColumnValue, HaveHeight, height_of}
+use Rattle.pl_frame.specs.Frame.{HaveHeight, height_of}
 use Rattle.pl_frame.specs.Schema.{Entry}
 use Rattle.pl_text.specs.FrameText.{WriteOptions}
 use Rattle.pl_scan.specs.Dialect.{marks_of, comment_of}
@@ -23,10 +20,10 @@ use Rattle.pl_rows.proofs.FrameLaws.{have_height}
 use Rattle.pl_rows.proofs.SoundTextLaws.{range-behind, same-columns-range, row-fits}
 use Rattle.pl_write.specs.Batches.{all_lines}
 use Rattle.pl_write.proofs.StackLaws.{lines-stacked}
-use Rattle.pl_verbatim.specs.PrintedTexts.{CanPrint, IsTextPrinted, IsFrontPrinted}
-use Rattle.pl_verbatim.proofs.PrintingLaws.{level-text, IsFrontPrinted-none, IsFrontPrinted-more}
-use Rattle.pl_regions.proofs.RegionLaws.{few-printed}
-use Rattle.pl_regions.specs.Printing.{IsLeftBehind}
+use Rattle.pl_verbatim.specs.PrintedTexts.{CanPrint, IsFrontPrinted}
+use Rattle.pl_verbatim.proofs.PrintingLaws.{level, level-text}
+use Rattle.pl_regions.proofs.RegionLaws.{front-behind, lines-joined, few-printed}
+use Rattle.pl_regions.specs.Printing.{IsLeftBehind, IsPrintedFront}
 use Rattle.pl_regions.specs.declared.front.Front.{Front}
 
 -- ---- texts between places
@@ -47,39 +44,11 @@ next-end size from k end ends inside is rise =
     let here = subst (RiseTo size from) (drop_more ends k 0 inside) rise in
     subst (λ (e : ℕ). IsNextEnd size from e (drop (k + 1) ends)) (sym is) (record { order = omega (arith, here.0); within = rise-within size (get_or ends k 0) (drop (k + 1) ends) here.1; rise = here.1 })
 
--- behind the last place nothing is left
-pub last-end : (size from : ℕ) (ends : List ℕ) (k : ℕ) → length ends ≤ k → RiseTo size from (drop k ends) → from ≡ size
-last-end size from ends k all rise = subst (RiseTo size from) (drop_all k ends all) rise
-
 -- ---- fronts
-
--- of a text, and of what it leaves
-front-behind : (plan : RangePlan) (schema : List Entry) (o : WriteOptions) (text : List ℕ) (end n next k : ℕ) (l m : List ℕ) → IsDialect (marks_of plan.dialect) (comment_of plan.dialect)
-    → IsFrontPrinted plan schema o text end n l → IsFrontPrinted plan schema o (drop end text) next k m → IsFrontPrinted plan schema o text (end + next) (n + k) (l ++ m)
-front-behind plan schema o text end n next k l m apart first more =
-    let size : (end + next) - end ≡ next = omega arith in
-    IsFrontPrinted-more plan schema o text end (end + next) n k l m apart first (omega arith) (omega (arith, first.within, more.within, length-drop end text))
-    (subst (λ (j : ℕ). IsTextPrinted plan schema o (take j (drop end text)) k m) (sym size) more.front)
-
--- the lines of two
-lines-joined : {X : Type 0} (f : X → List ℕ) (a b joined : List X) → joined ≡ a ++ b → concat (map f joined) ≡ concat (map f a) ++ concat (map f b)
-lines-joined f a b joined is = ap (λ l. concat (map f l)) is ∙ ap concat (map-append f a b) ∙ concat-append (map f a) (map f b)
-
--- one text more
-pub text-pushed : (lines now : List (CowSlice ℕ Global)) (text : CowSlice ℕ Global) → now ≡ lines ++ text ∷ [] → concat (map cow_slice_items now) ≡ concat (map cow_slice_items lines) ++ cow_slice_items text
-text-pushed lines now text is = lines-joined cow_slice_items lines (text ∷ []) now is ∙ ap (λ l. concat (map cow_slice_items lines) ++ l) (append-nil (cow_slice_items text))
-
--- of which nothing was printed
-pub nothing-printed : (plan : RangePlan) (schema : List Entry) (o : WriteOptions) (text : List ℕ) (front : Front) → front.end ≡ 0 → front.rows ≡ 0 → front.lines.items ≡ []
-    → IsFrontPrinted plan schema o text front.end front.rows (concat (map cow_slice_items front.lines.items))
-nothing-printed plan schema o text front end rows lines =
-    subst (λ e. IsFrontPrinted plan schema o text e front.rows (concat (map cow_slice_items front.lines.items))) (sym end)
-    (subst (λ n. IsFrontPrinted plan schema o text 0 n (concat (map cow_slice_items front.lines.items))) (sym rows)
-    (subst (λ l. IsFrontPrinted plan schema o text 0 0 (concat (map cow_slice_items l))) (sym lines) (IsFrontPrinted-none plan schema o text)))
 
 -- both fronts have fewer rows than numbers of 64 bits count
 pub rows-fit : (plan : RangePlan) (schema : List Entry) (o : WriteOptions) (records left : List ℕ) (first next : Front) → IsDialect (marks_of plan.dialect) (comment_of plan.dialect)
-    → IsLeftBehind plan schema o records first left → IsFrontPrinted plan schema o left next.end next.rows (concat (map cow_slice_items next.lines.items)) → first.rows + next.rows < 2 ^ 64
+    → IsLeftBehind plan schema o records first left → IsPrintedFront plan schema o left next → first.rows + next.rows < 2 ^ 64
 rows-fit plan schema o records left first next apart is more =
     let lines = concat (map cow_slice_items first.lines.items) ++ concat (map cow_slice_items next.lines.items) in
     let both =
@@ -89,7 +58,7 @@ rows-fit plan schema o records left first next apart is more =
 
 -- what is left of data behind its front, and then behind the front of that
 pub left-behind : (plan : RangePlan) (schema : List Entry) (o : WriteOptions) (records left : List ℕ) (first next joined : Front) → IsDialect (marks_of plan.dialect) (comment_of plan.dialect)
-    → IsLeftBehind plan schema o records first left → IsFrontPrinted plan schema o left next.end next.rows (concat (map cow_slice_items next.lines.items))
+    → IsLeftBehind plan schema o records first left → IsPrintedFront plan schema o left next
     → joined.end ≡ first.end + next.end → joined.rows ≡ first.rows + next.rows → joined.lines.items ≡ first.lines.items ++ next.lines.items
     → IsLeftBehind plan schema o records joined (drop next.end left)
 left-behind plan schema o records left first next joined apart is more end rows lines =
@@ -141,11 +110,6 @@ fault-fits plan schema o records left front read can is range =
     let whole : length (take front.end records ++ rest) < 2 ^ 64 = subst (λ l. length l < 2 ^ 64) (sym (take-append-drop front.end records)) is.small in
     subst (IsRowFit front.rows) (sym (range.end_is ∙ ap (range_end plan columns) is.left_is))
     (subst (λ k. IsRowFit k (range_end plan columns rest)) (sym is.printed.front.count_is) (row-fits plan columns (take front.end records) rest can.dialect.distinct whole))
-
--- columns of one height have that of the first
-level : (n : ℕ) (columns : List ColumnValue) → HaveHeight n columns → HaveHeight (height_of columns) columns
-level n [] have = tt
-level n (c ∷ cs) have = subst (λ k. HaveHeight k (c ∷ cs)) (sym have.0) have
 
 -- those of a range have one
 pub level-frame : (plan : RangePlan) (schema : List Entry) (range : List ℕ) → HaveHeight (height_of (range_frame plan schema range)) (range_frame plan schema range)

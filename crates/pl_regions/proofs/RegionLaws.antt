@@ -1,10 +1,11 @@
 -- Texts that are read and printed apart, one behind the other.
-use Rattle.std.proofs.Common.{◌≡◌, ℕ, true, ◌+◌, ◌<◌, ◌≤◌, List, [], ◌∷◌, ◌++◌, length, take, drop, get_or, map, Option, None, Some, Bor, refl, sym, ◌∙◌, ap, subst, inl, inr, arith, length-append, length-take, append_assoc, append-nil}
-use Rattle.std.specs.Prelude.{◌⊎◌, All, Result, Ok, Err, is_ok, IfSome, OnOk, slice_range}
+use Rattle.std.proofs.Common.{◌≡◌, ℕ, true, ◌+◌, ◌-◌, ◌<◌, ◌≤◌, List, [], ◌∷◌, ◌++◌, length, take, drop, get_or, map, Option, None, Some, Bor, refl, sym, ◌∙◌, ap, subst, arith, Global, length-append, length-take, length-drop, append_assoc, append-nil}
+use Rattle.std.specs.Prelude.{All, Result, Ok, Err, is_ok, IfSome, OnOk, slice_range}
 use Rattle.std.specs.Cow.{cow_slice_items}
 use Rattle.std.specs.Iterator.{Yields}
 use Rattle.std.specs.List.{concat}
 use Rattle.std.specs.Vec.Iter.{into_iter_items, into_iter_steps}
+use Rattle.std.specs.declared.borrow.CowSlice.{CowSlice}
 use Rattle.std.specs.declared.vec.IntoIter.{IntoIter}
 use Rattle.std.proofs.Math.Seq.{take-append_seam, take-append-add}
 use Rattle.std.proofs.lemmas.List.{map-append, take-append-drop, take-append-le, take_all, take_more}
@@ -24,7 +25,7 @@ use Rattle.pl_verbatim.specs.declared.verbatim.Verbatim.{Verbatim}
 use Rattle.pl_verbatim.specs.PrintedTexts.{CanPrint, IsTextPrinted, IsFrontPrinted}
 use Rattle.pl_verbatim.specs.Verbatim.{IsVerbatimOf, AreRowsCopied}
 use Rattle.pl_verbatim.proofs.PrintingLaws.{level-text, IsTextPrinted-nil, IsTextPrinted-append, front-slice, IsFrontPrinted-none, IsFrontPrinted-more}
-use Rattle.pl_regions.specs.Regions.{IsOpenPrinted, IsRegionPrinted, IsRegionOf, ArePlaced}
+use Rattle.pl_regions.specs.Regions.{lines_so_far, lines_in, IsOpenPrinted, IsRegionPrinted, IsRegionOf, ArePlaced}
 use Rattle.pl_regions.specs.declared.region.OpenRegion.{OpenRegion}
 use Rattle.pl_regions.specs.declared.region.Region.{Region}
 
@@ -48,45 +49,48 @@ IsTextPrinted-piece plan schema o text printed read is lines = record {
 pub level-piece : (plan : RangePlan) (schema : List Entry) (text : List ℕ) (read : PieceFrame) → IsPieceFrame plan schema text read → HaveHeight (height_of read.columns.items) read.columns.items
 level-piece plan schema text read is = subst (λ columns. HaveHeight (height_of columns) columns) (sym is.columns_are) (level-text plan schema text)
 
+-- ---- fronts
+
+-- of a text, and of what it leaves
+pub front-behind : (plan : RangePlan) (schema : List Entry) (o : WriteOptions) (text : List ℕ) (end n next k : ℕ) (l m : List ℕ) → IsDialect (marks_of plan.dialect) (comment_of plan.dialect)
+    → IsFrontPrinted plan schema o text end n l → IsFrontPrinted plan schema o (drop end text) next k m → IsFrontPrinted plan schema o text (end + next) (n + k) (l ++ m)
+front-behind plan schema o text end n next k l m apart first more =
+    let size : (end + next) - end ≡ next = omega arith in
+    IsFrontPrinted-more plan schema o text end (end + next) n k l m apart first (omega arith) (omega (arith, first.within, more.within, length-drop end text))
+    (subst (λ (j : ℕ). IsTextPrinted plan schema o (take j (drop end text)) k m) (sym size) more.front)
+
+-- the lines of two
+pub lines-joined : {X : Type 0} (f : X → List ℕ) (a b joined : List X) → joined ≡ a ++ b → concat (map f joined) ≡ concat (map f a) ++ concat (map f b)
+lines-joined f a b joined is = ap (λ l. concat (map f l)) is ∙ ap concat (map-append f a b) ∙ concat-append (map f a) (map f b)
+
+-- one text more
+pub text-pushed : (lines now : List (CowSlice ℕ Global)) (text : CowSlice ℕ Global) → now ≡ lines ++ text ∷ [] → concat (map cow_slice_items now) ≡ concat (map cow_slice_items lines) ++ cow_slice_items text
+text-pushed lines now text is = lines-joined cow_slice_items lines (text ∷ []) now is ∙ ap (λ l. concat (map cow_slice_items lines) ++ l) (append-nil (cow_slice_items text))
+
 -- ---- regions
 
 -- of which nothing was printed
-pub unread : (plan : RangePlan) (schema : List Entry) (o : WriteOptions) (region : OpenRegion) → region.end ≡ 0 → region.rows ≡ 0 → region.lines.items ≡ [] → IsOpenPrinted plan schema o region
-unread plan schema o region end rows lines =
-    subst (λ e. IsFrontPrinted plan schema o region.text.now e region.rows region.lines.items) (sym end)
-    (subst (λ n. IsFrontPrinted plan schema o region.text.now 0 n region.lines.items) (sym rows)
-    (subst (IsFrontPrinted plan schema o region.text.now 0 0) (sym lines) (IsFrontPrinted-none plan schema o region.text.now)))
+pub unread : (plan : RangePlan) (schema : List Entry) (o : WriteOptions) (text : List ℕ) (end n : ℕ) (lines : List ℕ) → end ≡ 0 → n ≡ 0 → lines ≡ [] → IsFrontPrinted plan schema o text end n lines
+unread plan schema o text end n lines end_is n_is lines_are =
+    subst (λ e. IsFrontPrinted plan schema o text e n lines) (sym end_is)
+    (subst (λ k. IsFrontPrinted plan schema o text 0 k lines) (sym n_is) (subst (IsFrontPrinted plan schema o text 0 0) (sym lines_are) (IsFrontPrinted-none plan schema o text)))
 
--- of which nothing was printed, or a front that is written as it was read
-pub begun : (plan : RangePlan) (schema : List Entry) (o : WriteOptions) (text : List ℕ) (end rows : ℕ) (region : OpenRegion) → IsFrontPrinted plan schema o text end rows (take end text) → region.text.now ≡ text
-    → ((region.end ≡ end) × (region.rows ≡ rows) × (region.lines.items ≡ take end text)) ⊎ ((region.end ≡ 0) × (region.rows ≡ 0) × (region.lines.items ≡ [])) → IsOpenPrinted plan schema o region
-begun plan schema o text end rows region front same (inl is) =
-    subst (λ t. IsFrontPrinted plan schema o t region.end region.rows region.lines.items) (sym same)
-    (subst (λ e. IsFrontPrinted plan schema o text e region.rows region.lines.items) (sym is.0)
-    (subst (λ n. IsFrontPrinted plan schema o text end n region.lines.items) (sym is.1)
-    (subst (IsFrontPrinted plan schema o text end rows) (sym is.2) front)))
-begun plan schema o text end rows region front same (inr is) = unread plan schema o region is.0 is.1 is.2
+-- rows more that are written as they were read
+pub found : (plan : RangePlan) (schema : List Entry) (o : WriteOptions) (text : List ℕ) (end n k more : ℕ) (lines : List ℕ) → IsDialect (marks_of plan.dialect) (comment_of plan.dialect)
+    → IsFrontPrinted plan schema o text end n lines → IsFrontPrinted plan schema o (drop end text) k more (take k (drop end text))
+    → IsFrontPrinted plan schema o text (end + k) (n + more) (lines ++ slice_range text end (end + k))
+found plan schema o text end n k more lines apart printed front =
+    let size : end + k - end ≡ k = omega arith in
+    subst (λ (j : ℕ). IsFrontPrinted plan schema o text (end + k) (n + more) (lines ++ take j (drop end text))) (sym size) (front-behind plan schema o text end n k more lines (take k (drop end text)) apart printed front)
 
 -- rows more that were copied
 pub copied : (plan : RangePlan) (schema : List Entry) (o : WriteOptions) (verbatim : Verbatim) (region : OpenRegion) (end rows : ℕ) (lines : List ℕ) → CanPrint plan schema → IsVerbatimOf plan schema o verbatim
-    → IsOpenPrinted plan schema o region → AreRowsCopied verbatim region.text.now region.end end rows region.lines.items lines → IsFrontPrinted plan schema o region.text.now end (region.rows + rows) lines
+    → IsOpenPrinted plan schema o region → AreRowsCopied verbatim region.text.now region.end end rows region.lines.items lines
+    → IsFrontPrinted plan schema o region.text.now end (region.rows + rows) (concat (map cow_slice_items region.done.items) ++ lines)
 copied plan schema o verbatim region end rows lines can is printed are =
-    subst (IsFrontPrinted plan schema o region.text.now end (region.rows + rows)) (sym are.now_is)
-    (IsFrontPrinted-more plan schema o region.text.now region.end end region.rows rows region.lines.items are.copy can.dialect printed are.after are.within (are.printed plan schema o can is))
-
--- a text that is written as it was read
-pub whole : (plan : RangePlan) (schema : List Entry) (o : WriteOptions) (text : List ℕ) (end rows : ℕ) → IsFrontPrinted plan schema o text end rows (take end text) → end ≡ length text
-    → IsFrontPrinted plan schema o text end rows text
-whole plan schema o text end rows front all = subst (IsFrontPrinted plan schema o text end rows) (take_all end text (omega (arith, all))) front
-
--- what was printed of one stays when it is closed
-pub closed : (plan : RangePlan) (schema : List Entry) (o : WriteOptions) (before : OpenRegion) (region : Region) → IsOpenPrinted plan schema o before → region.text.now ≡ before.text.now → region.end ≡ before.end
-    → region.rows ≡ before.rows → cow_slice_items region.lines ≡ before.lines.items → IsRegionPrinted plan schema o region
-closed plan schema o before region is text end rows lines =
-    subst (λ t. IsFrontPrinted plan schema o t region.end region.rows (cow_slice_items region.lines)) (sym text)
-    (subst (λ e. IsFrontPrinted plan schema o before.text.now e region.rows (cow_slice_items region.lines)) (sym end)
-    (subst (λ n. IsFrontPrinted plan schema o before.text.now before.end n (cow_slice_items region.lines)) (sym rows)
-    (subst (IsFrontPrinted plan schema o before.text.now before.end before.rows) (sym lines) is)))
+    let done = concat (map cow_slice_items region.done.items) in
+    subst (IsFrontPrinted plan schema o region.text.now end (region.rows + rows)) (append_assoc done region.lines.items are.copy ∙ ap (λ l. done ++ l) (sym are.now_is))
+    (IsFrontPrinted-more plan schema o region.text.now region.end end region.rows rows (lines_so_far region) are.copy can.dialect printed are.after are.within (are.printed plan schema o can is))
 
 -- ---- texts one behind the other
 
@@ -107,30 +111,29 @@ cut-more records texts now text from end before more after within is =
 -- ---- the front
 
 -- texts that were printed to their ends, one behind the other
-pub record IsFrontOf (plan : RangePlan) (schema : List Entry) (o : WriteOptions) (done : List (List ℕ)) (end n : ℕ) (lines : List (List ℕ)) : Type 0 where
+pub record IsFrontOf (plan : RangePlan) (schema : List Entry) (o : WriteOptions) (done : List (List ℕ)) (end n : ℕ) (lines : List ℕ) : Type 0 where
   pub end_is : end ≡ length (concat done)
-  pub front : IsTextPrinted plan schema o (concat done) n (concat lines)
+  pub front : IsTextPrinted plan schema o (concat done) n lines
 
 pub IsFrontOf-none : (plan : RangePlan) (schema : List Entry) (o : WriteOptions) → IsFrontOf plan schema o [] 0 0 []
 IsFrontOf-none plan schema o = record { end_is = refl; front = IsTextPrinted-nil plan schema o }
 
-pub IsFrontOf-more : (plan : RangePlan) (schema : List Entry) (o : WriteOptions) (done : List (List ℕ)) (region : Region) (end n : ℕ) (lines : List (List ℕ)) → IsDialect (marks_of plan.dialect) (comment_of plan.dialect)
+pub IsFrontOf-more : (plan : RangePlan) (schema : List Entry) (o : WriteOptions) (done : List (List ℕ)) (region : Region) (end n : ℕ) (lines : List ℕ) → IsDialect (marks_of plan.dialect) (comment_of plan.dialect)
     → IsFrontOf plan schema o done end n lines → IsRegionPrinted plan schema o region → region.end ≡ length region.text.now
-    → IsFrontOf plan schema o (done ++ region.text.now ∷ []) (end + region.end) (n + region.rows) (lines ++ cow_slice_items region.lines ∷ [])
+    → IsFrontOf plan schema o (done ++ region.text.now ∷ []) (end + region.end) (n + region.rows) (lines ++ lines_in region)
 IsFrontOf-more plan schema o done region end n lines apart is printed whole =
     let text = region.text.now in
     let more = concat-more done text in
-    let here : IsTextPrinted plan schema o text region.rows (cow_slice_items region.lines) = subst (λ t. IsTextPrinted plan schema o t region.rows (cow_slice_items region.lines)) (take_all region.end text (omega (arith, whole))) printed.front in
-    let both = IsTextPrinted-append plan schema o (concat done) text n region.rows (concat lines) (cow_slice_items region.lines) apart is.front here in
+    let here : IsTextPrinted plan schema o text region.rows (lines_in region) = subst (λ t. IsTextPrinted plan schema o t region.rows (lines_in region)) (take_all region.end text (omega (arith, whole))) printed.front in
+    let both = IsTextPrinted-append plan schema o (concat done) text n region.rows lines (lines_in region) apart is.front here in
     record {
       end_is = omega (arith, is.end_is, whole, ap length more, length-append (concat done) text);
-      front = subst (λ t. IsTextPrinted plan schema o t (n + region.rows) (concat (lines ++ cow_slice_items region.lines ∷ []))) (sym more)
-          (subst (IsTextPrinted plan schema o (concat done ++ text) (n + region.rows)) (sym (concat-more lines (cow_slice_items region.lines))) both);
+      front = subst (λ t. IsTextPrinted plan schema o t (n + region.rows) (lines ++ lines_in region)) (sym more) both;
     }
 
 -- they are the front of the data
-pub front-whole : (plan : RangePlan) (schema : List Entry) (o : WriteOptions) (records : List ℕ) (texts : List (List ℕ)) (count : ℕ) (end n : ℕ) (lines : List (List ℕ)) → concat texts ≡ records
-    → IsFrontOf plan schema o (take count texts) end n lines → IsFrontPrinted plan schema o records end n (concat lines)
+pub front-whole : (plan : RangePlan) (schema : List Entry) (o : WriteOptions) (records : List ℕ) (texts : List (List ℕ)) (count : ℕ) (end n : ℕ) (lines : List ℕ) → concat texts ≡ records
+    → IsFrontOf plan schema o (take count texts) end n lines → IsFrontPrinted plan schema o records end n lines
 front-whole plan schema o records texts count end n lines whole is =
     let D = concat (take count texts) in
     let L = concat (drop count texts) in
@@ -138,14 +141,14 @@ front-whole plan schema o records texts count end n lines whole is =
     let text : D ≡ take end records = sym (take-append_seam D L) ∙ (λ j. take (sym is.end_is j) (all j)) in
     record {
       within = omega (arith, is.end_is, length-append D L, ap length all);
-      front = subst (λ t. IsTextPrinted plan schema o t n (concat lines)) text is.front;
+      front = subst (λ t. IsTextPrinted plan schema o t n lines) text is.front;
     }
 
 -- and so are they with the front of the region behind them
-pub front-part : (plan : RangePlan) (schema : List Entry) (o : WriteOptions) (records : List ℕ) (texts : List (List ℕ)) (count : ℕ) (region : Region) (end n : ℕ) (lines : List (List ℕ))
+pub front-part : (plan : RangePlan) (schema : List Entry) (o : WriteOptions) (records : List ℕ) (texts : List (List ℕ)) (count : ℕ) (region : Region) (end n : ℕ) (lines : List ℕ)
     → IsDialect (marks_of plan.dialect) (comment_of plan.dialect) → concat texts ≡ records → take (count + 1) texts ≡ take count texts ++ region.text.now ∷ []
     → IsFrontOf plan schema o (take count texts) end n lines → IsRegionPrinted plan schema o region
-    → IsFrontPrinted plan schema o records (end + region.end) (n + region.rows) (concat (lines ++ cow_slice_items region.lines ∷ []))
+    → IsFrontPrinted plan schema o records (end + region.end) (n + region.rows) (lines ++ lines_in region)
 front-part plan schema o records texts count region end n lines apart whole next is printed =
     let D = concat (take count texts) in
     let T = region.text.now in
@@ -155,11 +158,10 @@ front-part plan schema o records texts count region end n lines apart whole next
     sym parts ∙ ap (λ l. concat l ++ L) (sym next) ∙ sym (concat-append (take (count + 1) texts) (drop (count + 1) texts)) ∙ ap concat (take-append-drop (count + 1) texts) ∙ whole in
     let text : D ++ take region.end T ≡ take (end + region.end) records =
     sym (take-append-add D (T ++ L) region.end ∙ ap (λ l. D ++ l) (take-append-le region.end T L printed.within)) ∙ (λ j. take (sym is.end_is j + region.end) (all j)) in
-    let both = IsTextPrinted-append plan schema o D (take region.end T) n region.rows (concat lines) (cow_slice_items region.lines) apart is.front printed.front in
+    let both = IsTextPrinted-append plan schema o D (take region.end T) n region.rows lines (lines_in region) apart is.front printed.front in
     record {
       within = omega (arith, is.end_is, printed.within, length-append D (T ++ L), length-append T L, ap length all);
-      front = subst (λ t. IsTextPrinted plan schema o t (n + region.rows) (concat (lines ++ cow_slice_items region.lines ∷ []))) text
-          (subst (IsTextPrinted plan schema o (D ++ take region.end T) (n + region.rows)) (sym (concat-more lines (cow_slice_items region.lines))) both);
+      front = subst (λ t. IsTextPrinted plan schema o t (n + region.rows) (lines ++ lines_in region)) text both;
     }
 
 -- it has no more rows than the data has bytes

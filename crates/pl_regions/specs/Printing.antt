@@ -13,10 +13,14 @@ use Rattle.pl_write.specs.Batches.{all_lines}
 use Rattle.pl_regions.specs.declared.front.Front.{Front}
 use Rattle.pl_regions.specs.declared.printing.PrintedRows.{PrintedRows}
 
+-- the front of data was printed
+abbrev pub IsPrintedFront : RangePlan → List Entry → WriteOptions → List ℕ → Front → Type 0
+IsPrintedFront plan schema o records front = IsFrontPrinted plan schema o records front.end front.rows (concat (map cow_slice_items front.lines.items))
+
 -- the front of data was printed, and this is left of it
 pub record IsLeftBehind (plan : RangePlan) (schema : List Entry) (o : WriteOptions) (records : List ℕ) (front : Front) (left : List ℕ) : Type 0 where
   pub small : length records < 2 ^ 64
-  pub printed : IsFrontPrinted plan schema o records front.end front.rows (concat (map cow_slice_items front.lines.items))
+  pub printed : IsPrintedFront plan schema o records front
   pub left_is : left ≡ drop front.end records
 
 -- data was read, which ended where it has to, and where no row has a fault, these are the lines of all rows

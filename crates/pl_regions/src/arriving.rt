@@ -18,6 +18,7 @@ use crate::front::{Front, front_of, make_room};
 use crate::intake::Intake;
 use crate::printing::{PrintedRows, print_rest};
 use crate::region::Region;
+use crate::rooms::Rooms;
 use crate::taken::Taken;
 use crate::taking::{empty_places, put_regions};
 use crate::texts::{FEW, close_cells, read_texts, take_each, take_texts};
@@ -151,7 +152,7 @@ fn read_and_take<'a, W: Wait, So: Source>(
     alloc: Global,
     others: usize,
     reading: &mut Reading<'a>,
-    rooms: &Mutex<Vec<Vec<u8>>>,
+    rooms: &Mutex<Rooms>,
     next: &AtomicUsize,
     intake: &mut Intake,
     source: &mut So,
@@ -203,7 +204,7 @@ fn read_beside<'a, W: Threads + Wait + Sync, So: Source>(
     alloc: Global,
     others: usize,
     cells: &'a [OnceLock<Vec<u8>>],
-    rooms: &Mutex<Vec<Vec<u8>>>,
+    rooms: &Mutex<Rooms>,
     tokens: &mut Vec<OnceToken<'a, Vec<u8>>>,
     intake: &mut Intake,
     source: &mut So,
@@ -316,7 +317,7 @@ fn read_and_print<'a, W: Threads + Wait + Sync, So: Source>(
     ensures cause { IsErrOf result ReadAllFault.Source → Rose (So.faults source.old) (So.faults source.new) }
     ensures later { So.faults source.old ≤ So.faults source.new }
 {
-    let rooms: Mutex<Vec<Vec<u8>>> = Mutex::new(Vec::new(alloc));
+    let rooms = Mutex::new(Rooms::new(alloc));
     let mut tokens = Vec::new(alloc);
     read_texts(
         rt,
@@ -335,12 +336,12 @@ fn read_and_print<'a, W: Threads + Wait + Sync, So: Source>(
         let workers = workers.min(tokens.len());
         let next = AtomicUsize::new(0);
         close_cells(rt, alloc, cells, tokens.len(), workers);
-        return match take_each(
+        let Ok(all) = take_each(
             rt, alloc, workers, cells, &rooms, &next, schema, plan, options, verbatim, piece_size,
-        ) {
-            Ok(all) => Ok((tokens, all)),
-            Err(_) => Err(ReadAllFault::OutOfMemory),
+        ) else {
+            return Err(ReadAllFault::OutOfMemory);
         };
+        return Ok((tokens, all));
     }
     let others = workers.saturating_sub(1);
     let all = read_beside(

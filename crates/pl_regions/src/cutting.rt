@@ -63,16 +63,16 @@ fn row_length(text: &[u8], dialect: &Dialect<'_>, width: usize) -> Option<usize>
     None
 }
 
-// Whether rows seem to begin at the front of a text: the next lines have as many fields as the schema has columns.
+// Whether rows seem to begin at the front of a text: the next lines, one at least, have as many fields as the schema has columns.
 fn begins_row(text: &[u8], dialect: &Dialect<'_>, width: usize) -> bool {
     let mut rest = text;
     for _ in 0..LINES {
-        if rest.is_empty() || text.len() - rest.len() >= BYTES {
-            return true;
-        }
         match row_length(rest, dialect, width) {
             Some(size) if size <= rest.len() => rest = &rest[size..],
             _ => return false,
+        }
+        if rest.is_empty() || text.len() - rest.len() >= BYTES {
+            return true;
         }
     }
     true
@@ -102,8 +102,8 @@ pub(crate) fn find_row(
     None
 }
 
-// How long regions are: a piece each or less, so that there are as many for each worker; longer where there would be too many.
-fn region_size(length: usize, workers: usize, piece_size: usize) -> usize
+/// How long regions are: a piece each or less, so that there are as many for each worker; longer where there would be too many.
+pub(crate) fn region_size(length: usize, workers: usize, piece_size: usize) -> usize
     requires workers { 0 < workers }
     requires size { 0 < piece_size }
     ensures { 0 < result }
@@ -113,22 +113,19 @@ fn region_size(length: usize, workers: usize, piece_size: usize) -> usize
     share.div_ceil(rounds).max(1)
 }
 
-/// The texts of regions for this number of workers, of about a piece each, which are the data one behind the other. Each ends by a guess: where
+/// The texts of regions of about this size, which are the data one behind the other. Each ends by a guess: where
 /// rows with as many fields as the schema has columns seem to begin. None where that is not told at more than one place. Refuses only want of
 /// memory.
 pub(crate) fn guess_regions<'a>(
     alloc: Global,
-    workers: usize,
-    piece_size: usize,
+    size: usize,
     records: &'a [u8],
     dialect: &Dialect<'_>,
     width: usize,
 ) -> Result<Option<Vec<&'a [u8]>>, AllocError>
-    requires workers { 0 < workers }
-    requires size { 0 < piece_size }
+    requires { 0 < size }
     ensures { IfOk result (λ found. IfSome found (λ texts. concat (map (λ text. text.now) texts.items) ≡ records.now)) }
 {
-    let size = region_size(records.len(), workers, piece_size);
     let look = size.min(LOOK);
     let mut texts = Vec::new(alloc);
     let mut from = 0;

@@ -1,9 +1,9 @@
 //! The front of the data, read and printed by workers.
 ghost use Rattle.std.specs.Prelude.{◌≡◌, ◌<◌, [], IfOk, map};
-ghost use Rattle.std.specs.Cow.{cow_slice_items};
 ghost use Rattle.std.specs.List.{concat};
 ghost use Rattle.pl_write.specs.Options.{cell_options};
-ghost use Rattle.pl_verbatim.specs.PrintedTexts.{CanPrint, IsFrontPrinted};
+ghost use Rattle.pl_verbatim.specs.PrintedTexts.{CanPrint};
+ghost use Rattle.pl_regions.specs.Printing.{IsPrintedFront};
 ghost use Rattle.pl_regions.specs.Regions.{ArePlaced};
 
 use crate::region::Region;
@@ -63,7 +63,7 @@ pub(crate) fn front_of<'a>(
 ) -> Result<Front<'a>, AllocError>
     requires can { CanPrint plan.now schema.now }
     requires placed { ArePlaced plan.now schema.now (cell_options options.now) (map (λ text. text.now) texts.now) places.items }
-    ensures { IfOk result (λ front. IsFrontPrinted plan.now schema.now (cell_options options.now) (concat (map (λ text. text.now) texts.now)) front.end front.rows (concat (map cow_slice_items front.lines.items))) }
+    ensures { IfOk result (IsPrintedFront plan.now schema.now (cell_options options.now) (concat (map (λ text. text.now) texts.now))) }
 {
     let mut front = Front::new(alloc);
     for place in places {
@@ -79,7 +79,8 @@ pub(crate) fn front_of<'a>(
         let is_whole = region.end == region.text.len();
         front.end = end;
         front.rows = rows;
-        front.lines.push(region.lines)?;
+        let mut lines = region.lines;
+        front.lines.append(&mut lines)?;
         if !is_whole {
             return Ok(front);
         }
@@ -101,7 +102,7 @@ pub(crate) fn print_texts<'a, W: Threads + Sync>(
 ) -> Result<Front<'a>, AllocError>
     requires can { CanPrint plan.now schema.now }
     requires size { 0 < piece_size }
-    ensures { IfOk result (λ front. IsFrontPrinted plan.now schema.now (cell_options options.now) (concat (map (λ text. text.now) texts.now)) front.end front.rows (concat (map cow_slice_items front.lines.items))) }
+    ensures { IfOk result (IsPrintedFront plan.now schema.now (cell_options options.now) (concat (map (λ text. text.now) texts.now))) }
 {
     let verbatim = Verbatim::of(alloc, schema, plan, options)?;
     let places = print_regions(

@@ -18,8 +18,11 @@ use std::alloc::{AllocError, Global};
 // How far before the end of a text rows are looked for.
 const NEAR: usize = 1 << 14;
 
-// A text without a line end is read on so often.
-const TIMES: usize = 16;
+// A text that is not cut yet is read on so often,
+const TIMES: usize = 1 << 20;
+
+// and by so many bytes at most at a time, unless texts are longer.
+const STEP: usize = 1 << 20;
 
 /// What came of a source: how many bytes, whether these are all, and those that were not given out yet.
 #[derive(Drop)]
@@ -67,28 +70,57 @@ fn guess_cut(text: &[u8], dialect: &Dialect<'_>, width: usize) -> Option<usize>
     None
 }
 
-// Looks on through a text up to its last line end.
+// The place behind the last line end among the bytes of a text up to a place, but none before another place.
+fn behind_line(text: &[u8], from: usize, to: usize, eol_char: u8) -> usize
+    requires order { from ≤ to }
+    requires within { to ≤ length text.now }
+    ensures after { from ≤ result }
+    ensures within { result ≤ to }
+{
+    match memrchr(eol_char, &text[from..to]) {
+        Some(at) => from + at + 1,
+        None => from,
+    }
+}
+
+// Looks on through a text up to a place.
+fn scan_to(text: &[u8], scanned: Scanned, to: usize, dialect: &Dialect<'_>) -> Scanned
+    requires dialect { IsDialect (marks_of dialect.now) (comment_of dialect.now) }
+    requires order { scanned.to ≤ to }
+    requires within { to ≤ length text.now }
+    ensures after { scanned.to ≤ result.to }
+    ensures within { result.to ≤ length text.now }
+{
+    match state_behind(&text[scanned.to..to], scanned.state, dialect) {
+        Some(state) => Scanned { to, state },
+        None => scanned,
+    }
+}
+
+// Looks on through a text up to its last line end. Where that is within a quoted field, the field may begin with the last quote: then the text
+// is to be cut behind the line end in front of it.
 fn scan_on(text: &[u8], scanned: Scanned, dialect: &Dialect<'_>) -> Scanned
     requires dialect { IsDialect (marks_of dialect.now) (comment_of dialect.now) }
     requires within { scanned.to ≤ length text.now }
     ensures { result.to ≤ length text.now }
 {
-    let left = &text[scanned.to..];
-    let Some(at) = memrchr(dialect.eol_char, left) else {
-        return scanned;
+    let from = scanned.to;
+    let quote = match dialect.quote_char {
+        Some(quote) => memrchr(quote, &text[from..]).unwrap_or(0),
+        None => 0,
     };
-    match state_behind(&left[..at + 1], scanned.state, dialect) {
-        Some(state) => {
-            Scanned {
-                to: scanned.to + at + 1,
-                state,
-            }
-        }
-        None => scanned,
+    let line = behind_line(text, from, from + quote, dialect.eol_char);
+    let front = scan_to(text, scanned, line, dialect);
+    let line = behind_line(text, front.to, text.len(), dialect.eol_char);
+    let all = scan_to(text, front, line, dialect);
+    if all.cut().is_none() && front.cut().is_some() {
+        front
+    } else {
+        all
     }
 }
 
-// Looks for the place where a text is to be cut: where rows seem to begin near its end, or else behind its last line end.
+// Looks for the place where a text is to be cut: where rows seem to begin near its end, or else behind a line end.
 fn look_on(text: &[u8], scanned: Scanned, dialect: &Dialect<'_>, width: usize) -> Scanned
     requires dialect { IsDialect (marks_of dialect.now) (comment_of dialect.now) }
     requires within { scanned.to ≤ length text.now }
@@ -276,7 +308,8 @@ impl Intake {
                 return Ok(text);
             }
             from = filled.to;
-            if text.resize(from.saturating_add(size.max(from)), 0).is_err() {
+            let more = size.max(STEP.min(from / 8));
+            if text.resize(from.saturating_add(more), 0).is_err() {
                 return Err(ReadAllFault::OutOfMemory);
             }
         }

@@ -8,6 +8,7 @@ pub mod intake;
 pub mod printing;
 mod ranges;
 mod region;
+mod rooms;
 mod taken;
 mod taking;
 pub mod texts;

@@ -2,14 +2,16 @@
 ghost use Rattle.std.specs.Prelude.{◌≡◌, ◌+◌, ◌++◌, ◌<◌, ◌^◌, ℕ, List, true, IfOk, OnOk, length, map};
 ghost use Rattle.std.specs.Cow.{cow_slice_items};
 ghost use Rattle.std.specs.List.{concat};
+ghost use Rattle.pl_frame.specs.Dialect.{IsDialect};
 ghost use Rattle.pl_frame.specs.Frame.{HaveHeight, height_of};
+ghost use Rattle.pl_scan.specs.Dialect.{marks_of, comment_of};
 ghost use Rattle.pl_scan.specs.LineCuts.{RiseTo};
 ghost use Rattle.pl_write.specs.Batches.{all_lines};
 ghost use Rattle.pl_write.specs.Options.{cell_options};
-ghost use Rattle.pl_verbatim.specs.PrintedTexts.{CanPrint, IsFrontPrinted};
-ghost use Rattle.pl_regions.specs.Printing.{IsLeftBehind, IsPrinted};
+ghost use Rattle.pl_verbatim.specs.PrintedTexts.{CanPrint};
+ghost use Rattle.pl_regions.specs.Printing.{IsLeftBehind, IsPrinted, IsPrintedFront};
 
-use crate::cutting::guess_regions;
+use crate::cutting::{guess_regions, region_size};
 use crate::front::{Front, make_room, print_texts};
 use pl_board::ranges::cut_into_ranges;
 use pl_frame::column::Column;
@@ -18,6 +20,7 @@ use pl_rows::columns::read_columns;
 use pl_rows::pieces::end_behind;
 use pl_rows::plan::RangePlan;
 use pl_rows::range::RangeEnd;
+use pl_scan::dialect::Dialect;
 use pl_write::options::SerializeOptions;
 use pl_write::row_printer::RowPrinter;
 use std::alloc::{AllocError, Global};
@@ -64,19 +67,44 @@ fn guess_front<'a, W: Threads + Sync>(
     requires workers { 0 < workers }
     requires can { CanPrint plan.now schema.now }
     requires size { 0 < piece_size }
-    ensures { IfOk result (λ front. IsFrontPrinted plan.now schema.now (cell_options options.now) records.now front.end front.rows (concat (map cow_slice_items front.lines.items))) }
+    ensures { IfOk result (IsPrintedFront plan.now schema.now (cell_options options.now) records.now) }
 {
     let dialect = &plan.dialect;
     let width = plan.projection.width;
-    let Some(texts) = guess_regions(alloc, workers, piece_size, records, dialect, width)? else {
+    let size = region_size(records.len(), workers, piece_size);
+    let Some(texts) = guess_regions(alloc, size, records, dialect, width)? else {
         return Ok(Front::new(alloc));
     };
-    print_texts(
-        rt, alloc, workers, &texts, schema, plan, options, piece_size,
-    )
+    print_texts(rt, alloc, workers, &texts, schema, plan, options, size)
 }
 
-// The front of a text that is cut into ranges, each of which begins where an item does. Refuses only want of memory.
+// The texts of regions of about this size that begin where items do; for one worker all is one, since it finds item ends as it comes to them.
+// Refuses only want of memory.
+fn range_texts<'a, W: Threads + Wait + Sync>(
+    rt: &W,
+    alloc: Global,
+    workers: usize,
+    records: &'a [u8],
+    dialect: &Dialect<'_>,
+    size: usize,
+) -> Result<Vec<&'a [u8]>, AllocError>
+    requires workers { 0 < workers }
+    requires dialect { IsDialect (marks_of dialect.now) (comment_of dialect.now) }
+    requires size { 0 < size }
+    ensures { IfOk result (λ texts. concat (map (λ text. text.now) texts.items) ≡ records.now) }
+{
+    if workers == 1 {
+        let mut texts = Vec::new(alloc);
+        texts.push(records)?;
+        return Ok(texts);
+    }
+    match cut_into_ranges(rt, alloc, records, dialect, size, workers) {
+        Ok(ends) => texts_between(alloc, records, &ends),
+        Err(_) => Err(AllocError),
+    }
+}
+
+// The front of a text whose regions begin where items do. Refuses only want of memory.
 fn range_front<'a, W: Threads + Wait + Sync>(
     rt: &W,
     alloc: Global,
@@ -90,15 +118,11 @@ fn range_front<'a, W: Threads + Wait + Sync>(
     requires workers { 0 < workers }
     requires can { CanPrint plan.now schema.now }
     requires size { 0 < piece_size }
-    ensures { IfOk result (λ front. IsFrontPrinted plan.now schema.now (cell_options options.now) records.now front.end front.rows (concat (map cow_slice_items front.lines.items))) }
+    ensures { IfOk result (IsPrintedFront plan.now schema.now (cell_options options.now) records.now) }
 {
-    let Ok(ends) = cut_into_ranges(rt, alloc, records, &plan.dialect, piece_size, workers) else {
-        return Err(AllocError);
-    };
-    let texts = texts_between(alloc, records, &ends)?;
-    print_texts(
-        rt, alloc, workers, &texts, schema, plan, options, piece_size,
-    )
+    let size = region_size(records.len(), workers, piece_size);
+    let texts = range_texts(rt, alloc, workers, records, &plan.dialect, size)?;
+    print_texts(rt, alloc, workers, &texts, schema, plan, options, size)
 }
 
 // Two fronts, the second of what the first leaves. Refuses only want of memory.

@@ -1,5 +1,5 @@
 //! A region of the data: its pieces are read one after another, and the rows of each are printed.
-ghost use Rattle.std.specs.Prelude.{◌≡◌, ◌⊎◌, ◌<◌, ◌≤◌, [], length, take};
+ghost use Rattle.std.specs.Prelude.{◌≡◌, ◌<◌, ◌≤◌, ◌++◌, [], length, slice_range, if◌then◌else◌};
 ghost use Rattle.std.specs.Bool.{OnTrue};
 ghost use Rattle.std.specs.Cow.{cow_slice_items};
 ghost use Rattle.pl_frame.specs.Dialect.{IsDialect};
@@ -7,39 +7,54 @@ ghost use Rattle.pl_scan.specs.Dialect.{marks_of, comment_of};
 ghost use Rattle.pl_write.specs.Options.{cell_options};
 ghost use Rattle.pl_verbatim.specs.PrintedTexts.{CanPrint};
 ghost use Rattle.pl_verbatim.specs.Verbatim.{IsVerbatimOf};
-ghost use Rattle.pl_regions.specs.Regions.{IsOpenPrinted, IsRegionPrinted};
+ghost use Rattle.pl_regions.specs.Regions.{lines_so_far, IsOpenPrinted, IsRegionPrinted};
 
 use crate::ranges::range_len;
 use pl_frame::schema::Schema;
 use pl_rows::plan::RangePlan;
 use pl_rows::whole_pieces::read_piece_frame;
 use pl_scan::dialect::Dialect;
-use pl_verbatim::verbatim::{Verbatim, VerbatimFront};
+use pl_verbatim::verbatim::Verbatim;
 use pl_write::options::SerializeOptions;
 use pl_write::row_printer::RowPrinter;
 use std::alloc::Global;
 use std::borrow::CowSlice;
 
-// How long a piece is behind rows that were copied.
+// How long a piece is behind rows that were found or copied.
 const SHORT: usize = 1 << 12;
 
+// So many bytes that are lines as they stand are lent; fewer are copied.
+const MANY: usize = 1 << 14;
+
 /// A region of the data, by its place among all, and what was printed of it: the lines of so many rows, which are those of so many of
-/// its bytes. Where the lines are these bytes, they are lent.
+/// its bytes, one text behind the other. Lines that are the bytes they were read from are lent from there.
 #[derive(Drop)]
 pub(crate) struct Region<'a> {
     pub(crate) place: usize,
     pub(crate) text: &'a [u8],
     pub(crate) end: usize,
     pub(crate) rows: usize,
-    pub(crate) lines: CowSlice<'a, u8, Global>,
+    pub(crate) lines: Vec<CowSlice<'a, u8, Global>>,
 }
 
-// A region while it is read, and what was printed of it so far.
+// Lines, which may be lent, and are where they are what was read.
+fn as_read<'a>(lines: Vec<u8>, read: &'a [u8], may_lend: bool) -> CowSlice<'a, u8, Global>
+    ensures { cow_slice_items result ≡ lines.items }
+{
+    if may_lend && lines.as_slice() == read {
+        CowSlice::Borrowed(read)
+    } else {
+        CowSlice::Owned(lines)
+    }
+}
+
+// A region while it is read, and what was printed of it so far: texts, and the lines behind them.
 #[derive(Drop)]
 struct OpenRegion<'a> {
     text: &'a [u8],
     end: usize,
     rows: usize,
+    done: Vec<CowSlice<'a, u8, Global>>,
     lines: Vec<u8>,
 }
 
@@ -49,31 +64,62 @@ impl<'a> OpenRegion<'a> {
         ensures text { result.text.now ≡ text.now }
         ensures end { result.end ≡ 0 }
         ensures rows { result.rows ≡ 0 }
-        ensures lines { result.lines.items ≡ [] }
+        ensures lines { lines_so_far result ≡ [] }
     {
         OpenRegion {
             text,
             end: 0,
             rows: 0,
+            done: Vec::new(alloc),
             lines: Vec::new(alloc),
         }
     }
 
-    // One whose front is written as it was read; where memory is wanting, one of which nothing was printed. It has room for lines as
-    // long as the text; where there is no such room, they get it bit by bit.
-    fn behind(alloc: Global, text: &'a [u8], front: VerbatimFront) -> OpenRegion<'a>
-        requires within { front.end ≤ length text.now }
-        ensures text { result.text.now ≡ text.now }
-        ensures front { (result.end ≡ front.end) × (result.rows ≡ front.rows) × (result.lines.items ≡ take front.end text.now)
-            ⊎ (result.end ≡ 0) × (result.rows ≡ 0) × (result.lines.items ≡ []) }
+    // Appends the bytes up to a place to the lines so far, and answers whether it did: many are lent. The lines have room for what is left.
+    fn append(&mut self, alloc: Global, to: usize) -> bool
+        requires after { self.old.end ≤ to }
+        requires within { to ≤ length self.old.text.now }
+        ensures text { self.new.text.now ≡ self.old.text.now }
+        ensures end { self.new.end ≡ self.old.end }
+        ensures rows { self.new.rows ≡ self.old.rows }
+        ensures lines { lines_so_far self.new ≡ (if result then lines_so_far self.old ++ slice_range self.old.text.now self.old.end to else lines_so_far self.old) }
     {
-        let mut region = OpenRegion::new(alloc, text);
-        let _ = region.lines.reserve(text.len());
-        if region.lines.extend_from_slice(&text[..front.end]).is_ok() {
-            region.end = front.end;
-            region.rows = front.rows;
+        let read = &self.text[self.end..to];
+        if read.len() < MANY {
+            let _ = self.lines.reserve(self.text.len() - self.end);
+            return self.lines.extend_from_slice(read).is_ok();
         }
-        region
+        if self.done.reserve(2).is_err() {
+            return false;
+        }
+        let lines = std::mem::replace(&mut self.lines, Vec::new(alloc));
+        self.done.push_reserved(CowSlice::Owned(lines));
+        self.done.push_reserved(CowSlice::Borrowed(read));
+        true
+    }
+
+    // Finds the rows behind those so far that are written as they were read; their lines are these bytes.
+    fn find(
+        &mut self,
+        alloc: Global,
+        schema: &Schema,
+        plan: &RangePlan<'_>,
+        options: &SerializeOptions,
+        verbatim: &Verbatim,
+    )
+        requires can { CanPrint plan.now schema.now }
+        requires verbatim { IsVerbatimOf plan.now schema.now (cell_options options.now) verbatim.now }
+        requires printed { IsOpenPrinted plan.now schema.now (cell_options options.now) self.old }
+        ensures text { self.new.text.now ≡ self.old.text.now }
+        ensures after { self.old.end ≤ self.new.end }
+        ensures printed { IsOpenPrinted plan.now schema.now (cell_options options.now) self.new }
+    {
+        let front = verbatim.front(&self.text[self.end..]);
+        let to = self.end + front.end;
+        if self.append(alloc, to) {
+            self.end = to;
+            self.rows += front.rows;
+        }
     }
 
     // Appends what is written of the rows behind those so far, as far as it stands in their fields.
@@ -149,8 +195,8 @@ impl<'a> OpenRegion<'a> {
     }
 
     // Reads the region piece by piece, and prints the rows of each, as far as pieces end where an item does, no row has a fault and
-    // memory suffices. Behind a piece rows are copied again. Pieces are short where rows were copied in front of them, and longer the less
-    // is copied behind them.
+    // memory suffices. Behind a piece rows are found and copied again. Pieces are short where rows were in front of them, and longer the
+    // less is found and copied behind them.
     fn print(
         &mut self,
         alloc: Global,
@@ -178,6 +224,7 @@ impl<'a> OpenRegion<'a> {
             if !self.print_piece(alloc, printer, schema, plan, options, to) {
                 return;
             }
+            self.find(alloc, schema, plan, options, verbatim);
             self.copy(schema, plan, options, verbatim);
             size = if self.end - to < size {
                 piece_size.min(size.saturating_mul(2))
@@ -187,40 +234,51 @@ impl<'a> OpenRegion<'a> {
         }
     }
 
-    // Lends the lines, where they are what was read, and lets their memory go.
-    fn close(self, place: usize) -> Region<'a>
-        requires within { self.end ≤ length self.text.now }
+    // Lends the lines, where they are what was read, and lets their memory go. Where memory is wanting, nothing was printed.
+    fn close(
+        self,
+        alloc: Global,
+        place: usize,
+        schema: &Schema,
+        plan: &RangePlan<'_>,
+        options: &SerializeOptions,
+    ) -> Region<'a>
+        requires printed { IsOpenPrinted plan.now schema.now (cell_options options.now) self }
         ensures place { result.place ≡ place }
         ensures text { result.text.now ≡ self.entry.text.now }
-        ensures end { result.end ≡ self.entry.end }
-        ensures rows { result.rows ≡ self.entry.rows }
-        ensures lines { cow_slice_items result.lines ≡ self.entry.lines.items }
+        ensures printed { IsRegionPrinted plan.now schema.now (cell_options options.now) result }
     {
         let OpenRegion {
             text,
             end,
             rows,
+            mut done,
             lines,
         } = self;
-        let read = &text[..end];
-        let lines = if lines.as_slice() == read {
-            CowSlice::Borrowed(read)
-        } else {
-            CowSlice::Owned(lines)
-        };
-        Region {
-            place,
-            text,
-            end,
-            rows,
-            lines,
+        let is_first = done.is_empty();
+        let last = as_read(lines, &text[..end], is_first);
+        match done.push(last) {
+            Ok(()) => Region {
+                place,
+                text,
+                end,
+                rows,
+                lines: done,
+            },
+            Err(_) => Region {
+                place,
+                text,
+                end: 0,
+                rows: 0,
+                lines: Vec::new(alloc),
+            },
         }
     }
 }
 
 impl<'a> Region<'a> {
-    /// The region of a place, and the lines of its rows: those at the front that are written as they were read are these bytes; the
-    /// others are read piece by piece and printed, as far as pieces end where an item does, no row has a fault and memory suffices.
+    /// The region of a place, and the lines of its rows: those that are written as they were read are these bytes; the others are copied
+    /// cell by cell, or read piece by piece and printed, as far as pieces end where an item does, no row has a fault and memory suffices.
     pub(crate) fn printed(
         alloc: Global,
         place: usize,
@@ -239,19 +297,10 @@ impl<'a> Region<'a> {
         ensures text { result.text.now ≡ text.now }
         ensures printed { IsRegionPrinted plan.now schema.now (cell_options options.now) result }
     {
-        let front = verbatim.front(text);
-        if front.end == text.len() {
-            return Region {
-                place,
-                text,
-                end: front.end,
-                rows: front.rows,
-                lines: CowSlice::Borrowed(text),
-            };
-        }
-        let mut region = OpenRegion::behind(alloc, text, front);
+        let mut region = OpenRegion::new(alloc, text);
+        region.find(alloc, schema, plan, options, verbatim);
         region.copy(schema, plan, options, verbatim);
         region.print(alloc, printer, schema, plan, options, verbatim, piece_size);
-        region.close(place)
+        region.close(alloc, place, schema, plan, options)
     }
 }

@@ -14,6 +14,7 @@ ghost use Rattle.pl_regions.specs.Intake.{HasGiven, HasStopped, IsPastLimit};
 
 use crate::intake::Intake;
 use crate::region::Region;
+use crate::rooms::{Rooms, make_ahead};
 use crate::taken::Taken;
 use pl_frame::read_all::ReadAllFault;
 use pl_frame::schema::Schema;
@@ -41,9 +42,6 @@ pub(crate) const FEW: usize = 8;
 // and a text is short beside what came before it.
 const SHORT: usize = 1 << 17;
 
-// So much memory for texts to come is ready at a time, each for one text.
-const ROOMS: usize = 2;
-
 // So often a worker looks for a text before it sleeps until it is there.
 const LOOKS: usize = 64;
 
@@ -67,25 +65,13 @@ fn text_size(piece_size: usize, place: usize) -> usize {
     size.min(SHORT << (place / FEW).min(30))
 }
 
-// Puts memory for a text there, where there is not enough ahead. Its pages are written before, so that who reads into it does not wait for
-// them.
-fn make_ahead<W: Wait>(rt: &W, alloc: Global, rooms: &Mutex<Vec<Vec<u8>>>, size: usize) {
-    if rooms.lock(rt).len() >= ROOMS {
-        return;
-    }
-    let mut room = Vec::new(alloc);
-    if room.resize(size, 0).is_ok() {
-        let _ = rooms.lock(rt).push(room);
-    }
-}
-
 /// Reads texts of a source into cells behind those that hold one, one after another, until so many do or there are no more. Keeps what shows
 /// them.
 pub(crate) fn read_texts<'a, W: Wait, So: Source>(
     rt: &W,
     alloc: Global,
     cells: &'a [OnceLock<Vec<u8>>],
-    rooms: &Mutex<Vec<Vec<u8>>>,
+    rooms: &Mutex<Rooms>,
     tokens: &mut Vec<OnceToken<'a, Vec<u8>>>,
     count: usize,
     intake: &mut Intake,
@@ -112,12 +98,10 @@ pub(crate) fn read_texts<'a, W: Wait, So: Source>(
         if intake.is_ended() {
             return Ok(());
         }
-        let room = match rooms.lock(rt).pop() {
-            Some(room) => room,
-            None => Vec::new(alloc),
-        };
+        let room = rooms.lock(rt).take(alloc);
         let size = text_size(piece_size, place);
         let text = intake.next_text(source, room, size, limit, dialect, width)?;
+        rooms.lock(rt).keep_len(text.len());
         match cells[place].set(rt, text) {
             Ok(token) => {
                 if tokens.push(token).is_err() {
@@ -168,7 +152,7 @@ pub(crate) fn take_texts<'a, W: Wait>(
     rt: &W,
     alloc: Global,
     cells: &'a [OnceLock<Vec<u8>>],
-    rooms: &Mutex<Vec<Vec<u8>>>,
+    rooms: &Mutex<Rooms>,
     next: &AtomicUsize,
     schema: &Schema,
     plan: &RangePlan<'_>,
@@ -228,7 +212,7 @@ pub(crate) fn take_each<'a, W: Threads + Wait + Sync>(
     alloc: Global,
     workers: usize,
     cells: &'a [OnceLock<Vec<u8>>],
-    rooms: &Mutex<Vec<Vec<u8>>>,
+    rooms: &Mutex<Rooms>,
     next: &AtomicUsize,
     schema: &Schema,
     plan: &RangePlan<'_>,

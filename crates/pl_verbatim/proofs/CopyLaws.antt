@@ -6,7 +6,7 @@ use Rattle.pl_frame.specs.declared.data_type.DataType.{DataType}
 use Rattle.pl_frame.specs.declared.data_type.DataType.TheVariants as dtype
 use Rattle.pl_frame.specs.Frame.{Scalar, Truth, Number, Letters}
 use Rattle.pl_text.specs.ValueText.{padded, date_text, clock_text, printed}
-use Rattle.pl_text.specs.FrameText.{WriteOptions, is_special, needs_quotes, doubled, quoted, written_text, written_value, written_null, written_cell}
+use Rattle.pl_text.specs.FrameText.{WriteOptions, is_special, needs_quotes, quoted, written_text, written_value, written_null, written_cell}
 use Rattle.pl_frame.specs.Types.{is_numeric, is_text, is_readable, is_whole_number}
 use Rattle.pl_cells.specs.Cells.{Reading, cell}
 use Rattle.pl_cells.specs.NullValues.{means_null}

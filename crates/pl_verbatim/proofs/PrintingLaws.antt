@@ -24,7 +24,7 @@ use Rattle.pl_verbatim.specs.PrintedTexts.{IsTextPrinted, IsFrontPrinted}
 -- ---- texts
 
 -- columns of one height have that of the first
-level : (n : ℕ) (columns : List ColumnValue) → HaveHeight n columns → HaveHeight (height_of columns) columns
+pub level : (n : ℕ) (columns : List ColumnValue) → HaveHeight n columns → HaveHeight (height_of columns) columns
 level n [] have = tt
 level n (c ∷ cs) have = subst (λ k. HaveHeight k (c ∷ cs)) (sym have.0) have
 

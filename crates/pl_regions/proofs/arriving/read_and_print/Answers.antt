@@ -12,6 +12,9 @@ read_beside-requires-clause-within g c κs within =
     HasGiven-first _ _ _ _ _ c.new-tokens.result.items c.read_texts.new.tokens.items c.new-tokens.ensures.items c.requires.within c.requires.ended c.in_ok-read_texts.ensures.given in
     first.gained.within
 
+pub returns-then-is_ended-clause-given : goal.returns-then-is_ended-clause-given
+returns-then-is_ended-clause-given g c = HasGiven-first _ _ _ _ _ c.new-tokens.result.items c.read_texts.new.tokens.items c.new-tokens.ensures.items c.requires.within c.requires.ended c.in_ok-read_texts.ensures.given
+
 pub returns-in_err-all-clause-too_long : goal.returns-in_err-all-clause-too_long
 returns-in_err-all-clause-too_long g c = λ fault.
     let left = g.So.Source.left in

@@ -2,23 +2,20 @@ use Rattle.std.proofs.Common.{◌≡◌, ℕ, ◌+◌, List, [], ◌∷◌, ◌+
 use Rattle.std.specs.Cow.{cow_slice_items}
 use Rattle.std.specs.List.{concat}
 use Rattle.std.specs.declared.borrow.CowSlice.{CowSlice}
-use Rattle.std.proofs.lemmas.List.{map-append, length_push}
+use Rattle.std.proofs.lemmas.List.{length_push}
 use Rattle.pl_write.specs.Options.{cell_options}
 use Rattle.pl_verbatim.specs.PrintedTexts.{IsFrontPrinted}
-use Rattle.pl_regions.proofs.RegionLaws.{IsFrontOf, IsFrontOf-none, IsFrontOf-more, front-part, front-whole, next-region}
+use Rattle.pl_regions.specs.Regions.{lines_in}
+use Rattle.pl_regions.proofs.RegionLaws.{lines-joined, IsFrontOf, IsFrontOf-none, IsFrontOf-more, front-part, front-whole, next-region}
 use Rattle.pl_regions.proofs.front.front_of.Goals as goal
 
 -- the lines of texts
-abbrev items_of : List (CowSlice ℕ Global) → List (List ℕ)
-items_of lines = map cow_slice_items lines
+abbrev items_of : List (CowSlice ℕ Global) → List ℕ
+items_of lines = concat (map cow_slice_items lines)
 
 -- the bytes of texts
 abbrev bytes_of : List (Bor (List ℕ)) → List (List ℕ)
 bytes_of texts = map (λ t. t.now) texts
-
--- with one more
-items-more : (now lines : List (CowSlice ℕ Global)) (one : CowSlice ℕ Global) → now ≡ lines ++ one ∷ [] → items_of now ≡ items_of lines ++ cow_slice_items one ∷ []
-items-more now lines one more = ap items_of more ∙ map-append cow_slice_items lines (one ∷ [])
 
 pub loop-place-init : goal.loop-place-init
 loop-place-init c =
@@ -45,12 +42,12 @@ returns-then-not-is_whole c =
     let front = c.loop-place.front in
     let lines = items_of front.lines.items in
     let part = front-part plan schema o records (bytes_of texts) (length done) region front.end front.rows lines c.requires.can.dialect refl next.next c.loop-place.invariant next.printed in
-    let more : items_of c.push.new.self.items ≡ lines ++ cow_slice_items region.lines ∷ [] = items-more c.push.new.self.items front.lines.items region.lines c.in_ok-push.ensures.items in
+    let more : items_of c.append.new.self.items ≡ lines ++ lines_in region = lines-joined cow_slice_items front.lines.items region.lines.items c.append.new.self.items c.in_ok-append.ensures.items in
     let end : c.in-Some-checked_add.end ≡ front.end + region.end = omega (arith, c.in-Some-checked_add.ensures) in
     let rows : c.in-Some-checked_add-2.rows ≡ front.rows + region.rows = omega (arith, c.in-Some-checked_add-2.ensures) in
-    subst (λ e. IsFrontPrinted plan schema o records e c.in-Some-checked_add-2.rows (concat (items_of c.push.new.self.items))) (sym end)
-    (subst (λ n. IsFrontPrinted plan schema o records (front.end + region.end) n (concat (items_of c.push.new.self.items))) (sym rows)
-    (subst (λ l. IsFrontPrinted plan schema o records (front.end + region.end) (front.rows + region.rows) (concat l)) (sym more) part))
+    subst (λ e. IsFrontPrinted plan schema o records e c.in-Some-checked_add-2.rows (items_of c.append.new.self.items)) (sym end)
+    (subst (λ n. IsFrontPrinted plan schema o records (front.end + region.end) n (items_of c.append.new.self.items)) (sym rows)
+    (subst (IsFrontPrinted plan schema o records (front.end + region.end) (front.rows + region.rows)) (sym more) part))
 
 pub loop-place-preserved : goal.loop-place-preserved
 loop-place-preserved c =
@@ -65,14 +62,14 @@ loop-place-preserved c =
     refl c.requires.placed c.into_iter-place-iterator.ensures.into_iter_gives.0 c.loop-place.yielded_by c.in-Some.ensures.steps.0 c.in-Some-place.is in
     let front = c.loop-place.front in
     let lines = items_of front.lines.items in
-    let more : items_of c.push.new.self.items ≡ lines ++ cow_slice_items region.lines ∷ [] = items-more c.push.new.self.items front.lines.items region.lines c.in_ok-push.ensures.items in
+    let more : items_of c.append.new.self.items ≡ lines ++ lines_in region = lines-joined cow_slice_items front.lines.items region.lines.items c.append.new.self.items c.in_ok-append.ensures.items in
     let whole : region.end ≡ length region.text.now = omega (arith, c.if-not-is_whole.false) in
     let count : length (done ++ c.in-Some.place ∷ []) ≡ length done + 1 = length_push done c.in-Some.place in
     let end : c.in-Some-checked_add.end ≡ front.end + region.end = omega (arith, c.in-Some-checked_add.ensures) in
     let rows : c.in-Some-checked_add-2.rows ≡ front.rows + region.rows = omega (arith, c.in-Some-checked_add-2.ensures) in
-    subst (λ t. IsFrontOf plan schema o t c.in-Some-checked_add.end c.in-Some-checked_add-2.rows (items_of c.push.new.self.items)) (sym (ap (λ k. take k (bytes_of texts)) count ∙ next.next))
-    (subst (λ e. IsFrontOf plan schema o (take (length done) (bytes_of texts) ++ region.text.now ∷ []) e c.in-Some-checked_add-2.rows (items_of c.push.new.self.items)) (sym end)
-    (subst (λ n. IsFrontOf plan schema o (take (length done) (bytes_of texts) ++ region.text.now ∷ []) (front.end + region.end) n (items_of c.push.new.self.items)) (sym rows)
+    subst (λ t. IsFrontOf plan schema o t c.in-Some-checked_add.end c.in-Some-checked_add-2.rows (items_of c.append.new.self.items)) (sym (ap (λ k. take k (bytes_of texts)) count ∙ next.next))
+    (subst (λ e. IsFrontOf plan schema o (take (length done) (bytes_of texts) ++ region.text.now ∷ []) e c.in-Some-checked_add-2.rows (items_of c.append.new.self.items)) (sym end)
+    (subst (λ n. IsFrontOf plan schema o (take (length done) (bytes_of texts) ++ region.text.now ∷ []) (front.end + region.end) n (items_of c.append.new.self.items)) (sym rows)
     (subst (IsFrontOf plan schema o (take (length done) (bytes_of texts) ++ region.text.now ∷ []) (front.end + region.end) (front.rows + region.rows)) (sym more)
     (IsFrontOf-more plan schema o (take (length done) (bytes_of texts)) region front.end front.rows lines c.requires.can.dialect c.loop-place.invariant next.printed whole))))
 

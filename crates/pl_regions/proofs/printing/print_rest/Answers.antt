@@ -1,4 +1,4 @@
-use Rattle.std.proofs.Common.{◌-◌, sym, subst}
+use Rattle.std.proofs.Common.{sym, subst}
 use Rattle.std.proofs.lemmas.List.{take_rest}
 use Rattle.pl_write.specs.Options.{cell_options}
 use Rattle.pl_regions.specs.Printing.{IsLeftBehind}

@@ -1,4 +1,4 @@
-use Rattle.pl_regions.proofs.PrintingLaws.{text-pushed}
+use Rattle.pl_regions.proofs.RegionLaws.{text-pushed}
 use Rattle.pl_regions.proofs.printing.push_text.Goals as goal
 
 pub returns : goal.returns

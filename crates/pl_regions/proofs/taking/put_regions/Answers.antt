@@ -32,12 +32,6 @@ loop-region-preserved-in-Some c = record {
   put = put-more c.loop-region.yielded c.args.places.now c.loop-region.places c.in-Some.region c.loop-region.invariant.len c.loop-region.invariant.put;
 }
 
-pub loop-region-preserved-in-Some-2 : goal.loop-region-preserved-in-Some-2
-loop-region-preserved-in-Some-2 c = record {
-  len = search rules;
-  put = put-more c.loop-region.yielded c.args.places.now c.loop-region.places c.in-Some.region c.loop-region.invariant.len c.loop-region.invariant.put;
-}
-
 pub loop-region-preserved : goal.loop-region-preserved
 loop-region-preserved c = record {
   len = search rules;

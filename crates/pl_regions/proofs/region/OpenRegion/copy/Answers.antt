@@ -10,7 +10,7 @@ overflow_add-self c =
     let o = cell_options c.args.options.now in
     let region = c.args.self.now in
     let all = copied plan schema o c.args.verbatim.now region c.copy-copied.result.end c.copy-copied.result.rows c.copy-copied.new.lines.items c.requires.can c.requires.verbatim c.requires.printed c.copy-copied.ensures in
-    record { fits = omega (arith, few-printed plan schema o region.text.now c.copy-copied.result.end _ c.copy-copied.new.lines.items c.requires.can.dialect all) }
+    record { fits = omega (arith, few-printed plan schema o region.text.now c.copy-copied.result.end _ _ c.requires.can.dialect all) }
 
 pub returns-clause-printed : goal.returns-clause-printed
 returns-clause-printed c =

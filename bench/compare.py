@@ -79,6 +79,13 @@ TASKS = [
     ("miller", lambda: shutil.which("mlr"), lambda w, i, o: (["mlr", *(["--hash-records"] if w == "wide" else []), "--icsv", "--ocsv", "cat", i], None, o), "no types"),
     ("csvtool", lambda: shutil.which("csvtool"), lambda w, i, o: (["csvtool", "cat", i], None, o), "no types"),
 ]
+# The tasks that read alone, where the program is there that does (--read-program).
+READS = [
+    ("pl_csv_read", lambda: True, lambda w, i, o: ([MADE["pl_csv_read"], "--schema", ours(w), "--workers", "1"], i, o), "types as told; every cell, date and UTF-8 text is checked"),
+    ("pl_csv_read, 4 workers", lambda: True, lambda w, i, o: ([MADE["pl_csv_read"], "--schema", ours(w), "--workers", "4"], i, o), "the same; four workers read"),
+    ("fread", has_data_table, lambda w, i, o: (["Rscript", f"{HERE}/peers/datatable.R", i, "", neutral(w), "1"], None, None), "types by a sample; decimals as doubles; doubled quotes stay"),
+    ("fread, 4 threads", has_data_table, lambda w, i, o: (["Rscript", f"{HERE}/peers/datatable.R", i, "", neutral(w), "4"], None, None), "the same; four threads parse"),
+]
 
 
 def run(command, source, target):
@@ -119,26 +126,41 @@ def processor():
     return names[0] if names else platform.machine()
 
 
-def page(workloads, tasks, sizes, best, rounds):
-    """Returns docs/speed.md."""
+def table(workloads, tasks, sizes, best):
+    """Returns the lines of a table of MB a second, by task and workload."""
     speed = lambda at: f"{sizes[at[1]] / 1e6 / best[at][0]:.0f}" if best.get(at) else "failed"
+    lines = ["| | " + " | ".join(workloads) + " |", "|---|" + "--:|" * len(workloads)]
+    return lines + [f"| {task[0]} | " + " | ".join(speed((task[0], it)) for it in workloads) + " |" for task in tasks]
+
+
+def memory(workloads, tasks, sizes, best):
+    """Returns the lines of a table of the most memory in bytes a byte of input, by task and workload."""
+    most = lambda at: f"{best[at][1] / sizes[at[1]]:.1f}" if best.get(at) else "failed"
+    lines = ["| | " + " | ".join(workloads) + " |", "|---|" + "--:|" * len(workloads)]
+    return lines + [f"| {task[0]} | " + " | ".join(most((task[0], it)) for it in workloads) + " |" for task in tasks]
+
+
+def page(workloads, tasks, reads, sizes, best, rounds):
+    """Returns docs/speed.md."""
     lines = [
         "# Speed", "",
         "A transcode, on one thread but where workers are named: a file is read into typed columns and written as CSV again, from one file in memory to another. The numbers are MB of input a second, "
         f"the best of {rounds} rounds in which all programs ran in turn. [bench/README.md](../bench/README.md) says how to run it.", "",
         f"Machine: {processor()}, {os.cpu_count()} processors, {platform.system()} {platform.release()}.", "",
         "![MB of input a second by workload and program](speed.svg)", "",
-        "| | " + " | ".join(workloads) + " |", "|---|" + "--:|" * len(workloads),
-        "| MB of input | " + " | ".join(f"{sizes[it] / 1e6:.0f}" for it in workloads) + " |",
+        *table(workloads, tasks, sizes, best), "",
+        "Inputs have " + ", ".join(f"{sizes[it] / 1e6:.0f} ({it})" for it in workloads) + " MB.",
     ]
-    for task in tasks:
-        lines.append(f"| {task[0]} | " + " | ".join(speed((task[0], it)) for it in workloads) + " |")
     lines += ["", "| Workload | |", "|---|---|", *[f"| {it} | {ABOUT[it]} |" for it in workloads]]
     lines += ["", "Not all do the same work:", "", "| Program | What it checks |", "|---|---|", *[f"| {task[0]} | {task[3]} |" for task in tasks]]
+    if reads:
+        lines += ["", "## A read alone", "", "From a file in memory to typed columns, and no text of them: `pl_csv_read` makes the frame and lets it go, `fread` is that of data.table. MB of input a second:", "",
+                  *table(workloads, reads, sizes, best), "", "The most memory that a process had, in bytes for each byte of input; R itself has some 60 MB:", "",
+                  *memory(workloads, reads, sizes, best), "", "## What the numbers are"]
     lines += ["", "The time of R and of pandas is without the start of the language; that of the others is the whole process. Programs that are not in the table were not run. "
               "Without a schema and with dates tried, `pl_csv` takes decimals for texts, since it infers none.", "",
               "The rows of mixed, ints, strings and wide are written as they were read, and of quoted and taxi what is written stands in the fields but for zeros. So `pl_csv` tests each cell and copies it "
-              "([workers.md](workers.md#rows-that-are-written-as-they-were-read)). Where it writes another separator it reads and prints each cell: that is what a conversion costs that changes values.", "",
+              "([regions.md](regions.md#rows-that-are-written-as-they-were-read)). Where it writes another separator it reads and prints each cell: that is what a conversion costs that changes values.", "",
               "`pl_csv` writes nothing before it knows that all rows are sound, and `copy` does no more than that, on one thread: it reads, and then writes. "
               "It is no bound: several workers make memory ready for the one that reads, and `copy` has to wait for its own."]
     return "\n".join(lines) + "\n"
@@ -174,11 +196,14 @@ def main():
     words.add_argument("--workloads", default=",".join(WORKLOADS), help="a list, of " + ", ".join(WORKLOADS))
     words.add_argument("--patience", type=float, default=5, help="a task that takes more seconds is run once")
     words.add_argument("--data", default="/dev/shm" if os.path.isdir("/dev/shm") else tempfile.gettempdir(), help="where inputs and outputs lie")
+    words.add_argument("--read-program", help="the program of crates/pl_csv_read, as rt run builds it: reads alone are measured too")
     words.add_argument("--print", action="store_true", help="print the page, and write no file")
     given = words.parse_args()
     workloads = given.workloads.split(",")
     tasks = [task for task in TASKS if task[1]()]
     MADE["pl_csv"] = own_program()
+    MADE["pl_csv_read"] = given.read_program and os.path.abspath(given.read_program)
+    reads = [task for task in READS if task[1]()] if given.read_program else []
     with tempfile.TemporaryDirectory(dir=given.data) as data:
         for name, source in ("make_data", "make_data.c"), ("copy", "peers/copy.c"):
             MADE[name] = f"{data}/{name}"
@@ -188,15 +213,15 @@ def main():
             with open(f"{data}/{it}.csv", "wb") as made:
                 subprocess.run([MADE["make_data"], it, "--mb", str(given.mb)], stdout=made, check=True)
             sizes[it] = os.path.getsize(f"{data}/{it}.csv")
-        best = measured(workloads, tasks, data, given.rounds, given.patience)
-    text = page(workloads, tasks, sizes, best, given.rounds)
+        best = measured(workloads, tasks + reads, data, given.rounds, given.patience)
+    text = page(workloads, tasks, reads, sizes, best, given.rounds)
     if given.print:
         print(text)
         return
     with open(f"{TOP}/docs/speed.md", "w", encoding="utf-8") as it:
         it.write(text)
     with open(f"{TOP}/docs/speed.svg", "w", encoding="utf-8") as it:
-        it.write(plot(workloads, tasks, sizes, best))
+        it.write(plot(workloads, tasks, sizes, {at: found for at, found in best.items() if at[0] in [task[0] for task in tasks]}))
 
 
 if __name__ == "__main__":

@@ -23,6 +23,7 @@ ghost use Rattle.pl_csv.specs.Sources.{ArePrintedOf};
 ghost use Rattle.pl_csv.specs.Transcoding.{IsUnread, IsConverted, IsTranscodeFault};
 ghost use Rattle.pl_csv.specs.Views.{sink_view};
 
+use crate::one_piece::in_one_piece;
 use pl_board::gate::OpenGate;
 use pl_frame::data_type::DataType;
 use pl_frame::error::{ComputeFault, PolarsError, PolarsResult};
@@ -158,6 +159,26 @@ fn print_data<'a, W: Threads + Wait + Sync>(
     }
 }
 
+// The frame of an input, each column in one piece, where it is known what the rows are read by.
+fn read_whole<W: Threads + Wait + Sync>(
+    rt: &W,
+    alloc: Global,
+    input: &[u8],
+    read: &CsvReadOptions,
+    prepared: &Prepared,
+) -> PolarsResult<DataFrame>
+    requires allowed { MayRead read.now }
+    requires prepared { IsPrepared read.now prepared.now.schema input.now prepared.now }
+    ensures frame { IfOk result (λ frame. frame ≡ data_frame read.now prepared.now.schema (drop prepared.now.start input.now)) }
+    ensures sound { OnOk result (data_cause read.now prepared.now.schema (drop prepared.now.start input.now) ≡ None) }
+    ensures refused { IfErr result (IsFault (data_cause read.now prepared.now.schema (drop prepared.now.start input.now))) }
+{
+    in_one_piece(
+        alloc,
+        read_prepared(rt, alloc, &OpenGate, input, read, prepared)?,
+    )
+}
+
 // What an input is, of which it is known what its rows are read by.
 fn print_prepared<'a, W: Threads + Wait + Sync>(
     rt: &W,
@@ -189,7 +210,7 @@ fn print_prepared<'a, W: Threads + Wait + Sync>(
             write,
         );
     }
-    match read_prepared(rt, alloc, &OpenGate, input, read, prepared) {
+    match read_whole(rt, alloc, input, read, prepared) {
         Ok(rest) => Ok(Printed {
             lines: Vec::new(alloc),
             rest,

@@ -2,6 +2,7 @@
 #![tactic(auto)]
 
 pub mod adapters;
+pub mod arguments;
 mod conversion;
 pub mod convert;
 pub mod convert_source;
@@ -11,6 +12,7 @@ pub mod laws;
 pub mod make_input;
 mod making;
 pub mod matching;
+mod one_piece;
 pub mod read_all;
 pub mod run;
 mod telling;

@@ -29,16 +29,6 @@ marked-needed xs flags h = by (list_all (λ flag. flag) flags) refl
     by true e = marked-all xs flags h e
     by false e = marked-flagged xs flags h
 
-length-needed : (flags : List Bool) → length (needed flags) ≤ length flags
-length-needed flags = by (list_all (λ flag. flag) flags)
-  where
-    by : (b : Bool) → length (if b then [] else flags) ≤ length flags
-    by true = omega arith
-    by false = omega arith
-
-pub packed_are : (bytes ends : List ℕ) (flags : List Bool) → AreTexts bytes ends flags → ArePacked bytes ends (needed flags)
-packed_are bytes ends flags t = record { marked = let l = length-needed flags in let h = t.one_length in omega (arith, l, h); rising = t.rising; utf8 = t.utf8 }
-
 pub packed_same : (bytes ends : List ℕ) (flags : List Bool) → AreTexts bytes ends flags →
     marked (parts_between 0 ends bytes) (needed flags) ≡ flagged (parts_between 0 ends bytes) flags
 packed_same bytes ends flags t = marked-needed (parts_between 0 ends bytes) flags (length-parts_between 0 ends bytes ∙ t.one_length)

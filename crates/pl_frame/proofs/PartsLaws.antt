@@ -1,7 +1,7 @@
 -- Laws of parts, one behind the other.
 use Rattle.std.proofs.Common.{◌≡◌, ℕ, zero, suc, ◌+◌, ◌-◌, ◌<◌, ◌≤◌, List, [], ◌∷◌, ◌++◌, length, take, drop, get_or, slice_get, Option, None, is_none, count_by, cond, refl, sym, ◌∙◌, ap, subst, arith}
 use Rattle.std.specs.List.{flat_map}
-use Rattle.std.proofs.lemmas.List.{length-append, flat_map_more, take_at, drop_at, drop-drop, drop-take, take-take}
+use Rattle.std.proofs.lemmas.List.{length-append, take_at, drop_at, drop-drop, drop-take, take-take}
 use Rattle.std.proofs.lemmas.List.Sums.{sum_by-append, count_by-le-length}
 use Rattle.pl_frame.specs.declared.data_type.DataType.{DataType}
 use Rattle.pl_frame.specs.declared.part.Part.{Part}
@@ -22,9 +22,6 @@ last-end from (p ∷ ps) =
     let here = last-end (from + length (part_cells p)) ps in let size = length-append (part_cells p) (parts_cells ps) in omega (arith, here, size)
 
 -- one part more
-pub cells-more : (parts : List Part) (part : Part) → parts_cells (parts ++ part ∷ []) ≡ parts_cells parts ++ part_cells part
-cells-more parts part = sym (flat_map_more part_cells [] parts part)
-
 ends-step : (from : ℕ) (parts : List Part) (part : Part) →
     ends_from from (parts ++ part ∷ []) ≡ ends_from from parts ++ (from + length (parts_cells parts) + length (part_cells part)) ∷ []
 ends-step from [] part = ap (λ n. (n + length (part_cells part)) ∷ []) (omega arith)

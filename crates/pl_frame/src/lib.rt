@@ -29,6 +29,7 @@ pub mod places;
 pub mod plain;
 pub mod range;
 pub mod read_all;
+mod rechunk;
 pub mod row_index;
 mod runs;
 pub mod schema;

@@ -18,7 +18,7 @@ use std::alloc::Global;
 pub struct CsvReadOptions {
     /// Where the input lies, for the calls that open it. Default: nowhere (docs/options.md).
     pub path: Option<PlSmallStr>,
-    /// Has no effect: a column lies in one piece. Default: off (docs/options.md).
+    /// Whether the frame of a read has each column in one piece; its values are the same either way. Default: off (docs/options.md).
     pub rechunk: bool,
     /// How many workers read; `None`, the default, means four (docs/options.md).
     pub n_threads: Option<usize>,
@@ -150,7 +150,7 @@ impl CsvReadOptions {
         self
     }
 
-    /// Sets an option without an effect: a column lies in one piece.
+    /// Sets whether the frame of a read has each column in one piece; its values are the same either way.
     pub fn with_rechunk(mut self, rechunk: bool) -> Self
         ensures { result ≡ record self { rechunk = rechunk } }
     {

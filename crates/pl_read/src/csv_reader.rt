@@ -41,7 +41,7 @@ pub trait SerReader<R: MmapBytesReader> {
     fn new(alloc: Global, reader: R) -> Self
         ensures { state result ≡ record { source = reader; options = default_read_options } };
 
-    /// The reader as it is: a column lies in one piece, whatever is asked.
+    /// The reader as it is: what decides is the option `rechunk`, which `with_options` takes.
     fn set_rechunk(self, rechunk: bool) -> Self
         ensures { state result ≡ state self };
 

@@ -1,6 +1,7 @@
 //! From the bytes of an input to the frame that they mean.
-ghost use Rattle.std.specs.Prelude.{◌≡◌, drop, IfOk, OnOk, IfErr, MatchResult, None};
+ghost use Rattle.std.specs.Prelude.{◌≡◌, drop, IfOk, OnOk, IfErr, IsOkUnless, MatchResult, None};
 ghost use Rattle.std.specs.Option.{option_copied, option_map};
+ghost use Rattle.pl_frame.specs.declared.error.PolarsError.TheVariants as error;
 ghost use Rattle.pl_frame.specs.Schema.{HaveDistinctNames};
 ghost use Rattle.pl_cells.specs.NullValues.{compiled_for};
 ghost use Rattle.pl_options.specs.FirstCause.{IsFault};
@@ -83,7 +84,22 @@ pub fn read_prepared<W: Threads + Wait + Sync, G: Gate + Sync>(
     let records = &input[prepared.start..];
     let n_threads = prepared.n_threads;
     let schema = &prepared.schema;
-    read_data(rt, alloc, gate, n_threads, records, options, schema, &plan)
+    match read_data(rt, alloc, gate, n_threads, records, options, schema, &plan) {
+        Ok(frame) => rechunked(alloc, options, frame),
+        Err(fault) => Err(fault),
+    }
+}
+
+// The same frame, each column in one piece where the options ask for it. Refuses only want of memory.
+fn rechunked(alloc: Global, options: &CsvReadOptions, frame: DataFrame) -> PolarsResult<DataFrame>
+    ensures same { IfOk result (λ given. given ≡ frame) }
+    ensures refused { IsOkUnless result error.OutOfMemory }
+{
+    if options.rechunk {
+        frame.rechunk(alloc)
+    } else {
+        Ok(frame)
+    }
 }
 
 /// How the columns that are read are read, with the null values of the schema's columns.

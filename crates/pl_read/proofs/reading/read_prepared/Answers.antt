@@ -1,5 +1,8 @@
-use Rattle.std.proofs.Common.{rules, ◌≡◌, List, ℕ, drop, refl, sym, subst, arith}
-use Rattle.std.specs.Prelude.{IfOk, OnOk, IfErr, None}
+use Rattle.std.proofs.Common.{rules, ◌≡◌, List, ℕ, drop, refl, sym, subst, arith, inr}
+use Rattle.std.specs.Prelude.{IfOk, OnOk, IfErr, IsOkUnless, None, Option, Result, Ok, Err}
+use Rattle.pl_frame.specs.Frame.{ColumnValue}
+use Rattle.pl_frame.specs.declared.error.PolarsError.{PolarsError}
+use Rattle.pl_frame.specs.declared.error.PolarsError.TheVariants as error
 use Rattle.pl_options.specs.FirstCause.{IsFault}
 use Rattle.pl_read.specs.Rows.{data_frame}
 use Rattle.pl_read.specs.Steps.{data_cause, CanReadData}
@@ -20,14 +23,27 @@ read_data-requires g c =
       ),
     )
 
-pub returns-clause-frame : goal.returns-clause-frame
-returns-clause-frame g c =
-    subst (λ (l : List ℕ). IfOk c.read_data.result (λ frame. frame ≡ data_frame c.args.options.now c.args.prepared.now.schema l)) (rest-is c.args.prepared.now.start c.args.input.now c.args.input.now refl) c.read_data.ensures.frame
+-- a frame of a cause that does not hold, which is refused for want of memory alone
+kept : (result : Result (List ColumnValue) PolarsError) (cause : Option PolarsError) → cause ≡ None → OnOk result (cause ≡ None)
+kept (Ok frame) cause none = none
+kept (Err fault) cause none = tt
 
-pub returns-clause-sound : goal.returns-clause-sound
-returns-clause-sound g c =
-    subst (λ (l : List ℕ). OnOk c.read_data.result (data_cause c.args.options.now c.args.prepared.now.schema l ≡ None)) (rest-is c.args.prepared.now.start c.args.input.now c.args.input.now refl) c.read_data.ensures.sound
+wanting : (result : Result (List ColumnValue) PolarsError) (cause : Option PolarsError) → IsOkUnless result error.OutOfMemory → IfErr result (IsFault cause)
+wanting (Ok frame) cause refused = tt
+wanting (Err fault) cause refused = inr refused
 
-pub returns-clause-refused : goal.returns-clause-refused
-returns-clause-refused g c =
-    subst (λ (l : List ℕ). IfErr c.read_data.result (IsFault (data_cause c.args.options.now c.args.prepared.now.schema l))) (rest-is c.args.prepared.now.start c.args.input.now c.args.input.now refl) c.read_data.ensures.refused
+pub returns-in-Ok : goal.returns-in-Ok
+returns-in-Ok g c =
+    let o = c.args.options.now in
+    let schema = c.args.prepared.now.schema in
+    let rest = rest-is c.args.prepared.now.start c.args.input.now c.args.input.now refl in
+    let result = c.rechunked.result in
+    record {
+      frame = subst (λ (l : List ℕ). IfOk result (λ frame. frame ≡ data_frame o schema l)) rest (subst (λ is. IfOk result (λ frame. frame ≡ is)) c.in-Ok.ensures.frame c.rechunked.ensures.same);
+      sound = kept result _ (subst (λ (l : List ℕ). data_cause o schema l ≡ None) rest c.in-Ok.ensures.sound);
+      refused = wanting result _ c.rechunked.ensures.refused;
+    }
+
+pub returns-in-Err-clause-refused : goal.returns-in-Err-clause-refused
+returns-in-Err-clause-refused g c =
+    subst (λ (l : List ℕ). IsFault (data_cause c.args.options.now c.args.prepared.now.schema l) c.in-Err.fault) (rest-is c.args.prepared.now.start c.args.input.now c.args.input.now refl) c.in-Err.ensures.refused

@@ -4,7 +4,6 @@ ghost use Rattle.pl_read.specs.Options.{settled_schema};
 ghost use Rattle.pl_csv.specs.Transcoding.{IsValidRead, IsUnread, IsTranscoded, IsTranscodeFault, ReturnsFrame};
 ghost use Rattle.pl_csv.specs.Views.{sink_view};
 
-use crate::one_piece::in_one_piece;
 use pl_frame::error::{ComputeFault, PolarsError, PolarsResult};
 use pl_frame::frame::DataFrame;
 use pl_frame::sink::{Sink, SinkFault};
@@ -19,9 +18,9 @@ use std::alloc::Global;
 use std::sync::Wait;
 use std::thread::Threads;
 
-// The frame that an input means under its settled schema, which can be written; its columns may lie in parts. Refuses the
-// first cause against it, and want of memory.
-fn read_parts<W: Threads + Wait + Sync>(
+// The frame that an input means under its settled schema, which can be written. Refuses the first cause against it,
+// and want of memory.
+fn read_valid<W: Threads + Wait + Sync>(
     rt: &W,
     alloc: Global,
     input: &[u8],
@@ -39,19 +38,6 @@ fn read_parts<W: Threads + Wait + Sync>(
         }
         Err(fault) => Err(fault),
     }
-}
-
-// The same frame with each column in one piece, as a writer asks for one row after another.
-fn read_valid<W: Threads + Wait + Sync>(
-    rt: &W,
-    alloc: Global,
-    input: &[u8],
-    read: &CsvReadOptions,
-    write: &CsvWriterOptions,
-) -> PolarsResult<DataFrame>
-    ensures { MatchResult result (IsValidRead read.now (settled_schema read.now input.now) input.now write.now) (IsUnread read.now (settled_schema read.now input.now) input.now write.now) }
-{
-    in_one_piece(alloc, read_parts(rt, alloc, input, read, write)?)
 }
 
 /// Reads an input under the schema of the options, or else under the one that is inferred from it, writes the text of its

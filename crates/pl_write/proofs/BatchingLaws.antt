@@ -1,5 +1,5 @@
 -- Batches that are written one behind the other.
-use Rattle.std.proofs.Common.{◌≡◌, ℕ, ◌+◌, ◌<◌, Bool, true, if◌then◌else◌, List, [], ◌∷◌, ◌++◌, length, take, get_or, Option, sym, ◌∙◌, ap, subst, append_assoc, append-nil}
+use Rattle.std.proofs.Common.{◌≡◌, ℕ, ◌+◌, ◌<◌, Bool, true, if◌then◌else◌, List, [], ◌∷◌, ◌++◌, length, take, get_or, Option, sym, ◌∙◌, ap, append_assoc, append-nil}
 use Rattle.std.specs.Io.KnownBytes.{Appends}
 use Rattle.std.specs.List.{flat_map}
 use Rattle.std.proofs.lemmas.Grind.{flat_map-append}
@@ -11,7 +11,6 @@ use Rattle.pl_frame.proofs.Known.{Appends-more}
 use Rattle.pl_write.specs.Batches.{BatchWriter, all_lines, batch_text, head_to_come}
 use Rattle.pl_write.specs.JoinedBatches.{batches_text}
 use Rattle.pl_write.specs.Options.{frame_options}
-use Rattle.pl_write.proofs.WriteLaws.{Appends-nil}
 
 -- what was written, and what of byte order mark and header is to come, are the text of some batches
 pub record IsBatching {S : Type 0} (received : S → Option (List ℕ)) (old now : BatchWriter S) (batches : List (List ColumnValue)) : Type 0 where

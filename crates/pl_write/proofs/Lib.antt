@@ -18,5 +18,6 @@ pub mod PutLaws
 pub mod SourceLaws
 mod SpecialLaws
 pub mod StackLaws
+mod StripLaws
 mod WordLaws
 pub mod WriteLaws

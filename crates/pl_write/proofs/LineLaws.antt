@@ -1,11 +1,12 @@
 -- Lines, text by text.
-use Rattle.std.proofs.Common.{◌≡◌, ℕ, zero, suc, ◌+◌, ◌<◌, ◌≤◌, List, [], ◌∷◌, ◌++◌, map, length, take, get_or, refl, sym, ◌∙◌, ap, append_assoc, arith}
+use Rattle.std.proofs.Common.{◌≡◌, ℕ, suc, ◌+◌, ◌-◌, ◌<◌, ◌≤◌, List, [], ◌∷◌, ◌++◌, map, length, take, get_or, refl, sym, ◌∙◌, ap, append_assoc, arith}
 use Rattle.std.specs.List.{flat_map, join_with_byte}
 use Rattle.std.proofs.lemmas.List.{take_more, map-append, length-map, length-take-le}
-use Rattle.pl_frame.specs.Frame.{ColumnValue, cell_at}
-use Rattle.pl_text.specs.FrameText.{WriteOptions, written_cell, row_line, row_lines}
-use Rattle.pl_write.specs.Lines.{cell_in_line, joined_cells, AreLines, HaveRows}
+use Rattle.pl_text.specs.FrameText.{WriteOptions}
+use Rattle.pl_write.specs.Lines.{cell_in_line, AreLines}
+use Rattle.pl_write.specs.Strips.{cell_in_strip, joined_strips, strip_line, strip_lines}
 use Rattle.pl_write.specs.Writing.{separator_before}
+use Rattle.pl_write.specs.declared.strips.Strip.{Strip}
 
 join-push : (s : ℕ) (x y : List ℕ) (xs : List (List ℕ)) → join_with_byte s ((x ∷ xs) ++ y ∷ []) ≡ join_with_byte s (x ∷ xs) ++ (s ∷ y)
 join-push s x y [] = refl
@@ -37,19 +38,26 @@ joined_more s f xs i d old now after inside so_far next =
     length-map-take f xs i inside = simp length-map (length-take-le i xs (omega arith))
 
 -- a column more in the line of a row
-pub line-more : (o : WriteOptions) (columns : List ColumnValue) (i : ℕ) (column : ColumnValue) (row : ℕ) (now after : List ℕ) → i < length columns → column ≡ get_or columns i column
-    → now ≡ joined_cells o (take i columns) row → after ≡ now ++ cell_in_line o column i row → after ≡ joined_cells o (take (i + 1) columns) row
-line-more o columns i column row now after inside is so_far next =
-    let f = λ (x : ColumnValue). written_cell o x.dtype (cell_at x row) in
-    joined_more o.separator f columns i column [] now after inside so_far
-    (next ∙ sym (append_assoc now (separator_before o.separator i) (f column)) ∙ ap (λ x. (now ++ separator_before o.separator i) ++ f x) is)
+pub line-more : (o : WriteOptions) (strips : List Strip) (i : ℕ) (strip : Strip) (row : ℕ) (now after : List ℕ) → i < length strips → strip ≡ get_or strips i strip
+    → now ≡ joined_strips o (take i strips) row → after ≡ now ++ (separator_before o.separator i ++ cell_in_strip o strip row) → after ≡ joined_strips o (take (i + 1) strips) row
+line-more o strips i strip row now after inside is so_far next =
+    let f = λ (x : Strip). cell_in_strip o x row in
+    joined_more o.separator f strips i strip [] now after inside so_far
+    (next ∙ sym (append_assoc now (separator_before o.separator i) (f strip)) ∙ ap (λ x. (now ++ separator_before o.separator i) ++ f x) is)
+
+-- the cell of a row, counted from the first that the strip has
+pub cell-behind : (o : WriteOptions) (strip : Strip) (place first k : ℕ) → strip.before ≤ first
+    → cell_in_line o strip.column.now place (first - strip.before + k) ≡ separator_before o.separator place ++ cell_in_strip o strip (first + k)
+cell-behind o strip place first k begins =
+    let row : first - strip.before + k ≡ first + k - strip.before = omega (arith, begins) in
+    ap (cell_in_line o strip.column.now place) row
 
 -- lines with their ends are those of the rows
-pub lines-are : (o : WriteOptions) (columns : List ColumnValue) (first : ℕ) (lines : List (List ℕ)) → AreLines (joined_cells o columns) first lines
-    → flat_map (λ line. line ++ o.terminator) lines ≡ row_lines o columns first (length lines)
-lines-are o columns first [] are = refl
-lines-are o columns first (line ∷ lines) are =
-    let here : line ≡ joined_cells o columns first = are 0 (omega arith) ∙ ap (joined_cells o columns) (omega arith) in
-    let rest : AreLines (joined_cells o columns) (first + 1) lines = λ k h. are (suc k) (omega arith) ∙ ap (joined_cells o columns) (omega arith) in
+pub lines-are : (o : WriteOptions) (strips : List Strip) (first : ℕ) (lines : List (List ℕ)) → AreLines (joined_strips o strips) first lines
+    → flat_map (λ line. line ++ o.terminator) lines ≡ strip_lines o strips first (length lines)
+lines-are o strips first [] are = refl
+lines-are o strips first (line ∷ lines) are =
+    let here : line ≡ joined_strips o strips first = are 0 (omega arith) ∙ ap (joined_strips o strips) (omega arith) in
+    let rest : AreLines (joined_strips o strips) (first + 1) lines = λ k h. are (suc k) (omega arith) ∙ ap (joined_strips o strips) (omega arith) in
     ap (λ l. (l ++ o.terminator) ++ flat_map (λ line. line ++ o.terminator) lines) here
-    ∙ ap (λ l. row_line o columns first ++ l) (lines-are o columns (first + 1) lines rest)
+    ∙ ap (λ l. strip_line o strips first ++ l) (lines-are o strips (first + 1) lines rest)

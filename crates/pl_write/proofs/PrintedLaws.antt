@@ -1,7 +1,6 @@
 -- The text of a frame whose first rows were printed before.
-use Rattle.std.proofs.Common.{◌≡◌, ℕ, List, [], ◌∷◌, ◌++◌, refl, sym, ◌∙◌, ap, append-nil}
+use Rattle.std.proofs.Common.{◌≡◌, ℕ, List, ◌++◌, refl, sym, ◌∙◌, ap}
 use Rattle.std.specs.List.{concat}
-use Rattle.std.proofs.lemmas.List.Folds.{concat-append}
 use Rattle.pl_frame.specs.Frame.{ColumnValue, HaveHeight, height_of, names_of}
 use Rattle.pl_frame.specs.FrameParts.{HaveSameColumns, schema_of, stacked}
 use Rattle.pl_text.specs.FrameText.{WriteOptions, head_text, text_of_frame}

@@ -1,5 +1,5 @@
 -- Where the cells of columns come from.
-use Rattle.std.proofs.Common.{◌≡◌, ℕ, ℤ, zero, suc, ◌<◌, true, false, List, [], ◌∷◌, ◌++◌, length, take, get_or, refl, sym, ◌∙◌, ap, arith}
+use Rattle.std.proofs.Common.{◌≡◌, ℕ, ℤ, zero, suc, ◌<◌, true, false, List, [], ◌∷◌, ◌++◌, length, take, refl, sym, ◌∙◌, ap}
 use Rattle.std.specs.Option.{option_map, option_map_or}
 use Rattle.std.specs.Prelude.{Option, None, Some, IfSome, unwrap_or, slice_get}
 use Rattle.pl_frame.specs.Columns.{number_cells, text_cells}
@@ -8,35 +8,10 @@ use Rattle.pl_text.specs.ValueText.{number_text}
 use Rattle.pl_text.specs.FrameText.{WriteOptions, written_cell, written_value}
 use Rattle.pl_frame.specs.Types.{Range, is_numeric, is_within}
 use Rattle.pl_frame.specs.declared.data_type.DataType.{DataType}
-use Rattle.pl_write.specs.declared.cell_source.CellSource.{CellSource}
 use Rattle.pl_write.specs.CellForms.{number_or_null, text_or_null}
-use Rattle.pl_write.specs.CellSources.{WritesNumbers, LieWithin, IsSourceOf, HaveSources}
+use Rattle.pl_write.specs.CellSources.{WritesNumbers, LieWithin}
 use Rattle.pl_write.proofs.HeldLaws.{held_number}
 use Rattle.pl_write.proofs.PutLaws.{some_map}
-
--- one column and its source more
-pub HaveSources-push : (o : WriteOptions) (columns : List ColumnValue) (sources : List CellSource) (column : ColumnValue) (next : CellSource) → HaveSources o columns sources → IsSourceOf next o column
-    → HaveSources o (columns ++ column ∷ []) (sources ++ next ∷ [])
-HaveSources-push o [] [] column next have fits = (fits, tt)
-HaveSources-push o [] (first ∷ sources) column next have fits = absurd have
-HaveSources-push o (x ∷ columns) [] column next have fits = absurd have
-HaveSources-push o (x ∷ columns) (first ∷ sources) column next have fits = (have.0, HaveSources-push o columns sources column next have.1 fits)
-
--- there are as many
-pub HaveSources-length : (o : WriteOptions) (columns : List ColumnValue) (sources : List CellSource) → HaveSources o columns sources → length sources ≡ length columns
-HaveSources-length o [] [] have = refl
-HaveSources-length o [] (first ∷ sources) have = absurd have
-HaveSources-length o (x ∷ columns) [] have = absurd have
-HaveSources-length o (x ∷ columns) (first ∷ sources) have = ap suc (HaveSources-length o columns sources have.1)
-
--- the source at a place is that of the column there
-pub HaveSources-at : (o : WriteOptions) (columns : List ColumnValue) (sources : List CellSource) (i : ℕ) (column : ColumnValue) (source : CellSource) → HaveSources o columns sources → i < length columns
-    → IsSourceOf (get_or sources i source) o (get_or columns i column)
-HaveSources-at o [] [] i column source have inside = absurd (omega arith)
-HaveSources-at o [] (first ∷ sources) i column source have inside = absurd have
-HaveSources-at o (x ∷ columns) [] i column source have inside = absurd have
-HaveSources-at o (x ∷ columns) (first ∷ sources) zero column source have inside = have.0
-HaveSources-at o (x ∷ columns) (first ∷ sources) (suc i) column source have inside = HaveSources-at o columns sources i column source have.1 (omega arith)
 
 -- ---- numbers and texts, each written as its text
 

@@ -1,5 +1,5 @@
 -- Where the cells of a column come from when rows are written, settled once for the column.
-use Rattle.std.specs.Prelude.{◌≡◌, ℕ, ℤ, ◌≤◌, List, [], ◌∷◌, Option, Some}
+use Rattle.std.specs.Prelude.{◌≡◌, ℕ, ℤ, ◌≤◌, List, Option, Some}
 use Rattle.std.specs.Fmt.{signed_decimal}
 use Rattle.pl_frame.specs.Columns.{HoldsType, number_cells, text_cells}
 use Rattle.pl_frame.specs.Frame.{ColumnValue}
@@ -29,10 +29,3 @@ IsSourceOf (source.Decimals scale numbers) o column = WritesNumbers (decimal_tex
 IsSourceOf (source.WideDecimals scale numbers) o column = WritesNumbers (decimal_text scale) numbers.now o column × (1 ≤ scale) × (scale ≤ 7)
 IsSourceOf (source.Texts texts) o column = (o.style ≡ 0) × (text_cells texts.now ≡ column.values)
 IsSourceOf (source.Cells form) o column = FitsForm form o column.dtype
-
--- one such source for each column
-abbrev pub HaveSources : WriteOptions → List ColumnValue → List CellSource → Type 0
-HaveSources o [] [] = Unit {0}
-HaveSources o [] (source ∷ sources) = ⊥
-HaveSources o (column ∷ columns) [] = ⊥
-HaveSources o (column ∷ columns) (source ∷ sources) = IsSourceOf source o column × HaveSources o columns sources

@@ -1,5 +1,5 @@
 -- Batches that are written one behind the other, and the frame that they make when joined (docs/quoting.md).
-use Rattle.std.specs.Prelude.{ℕ, List, [], ◌∷◌, ◌++◌, All}
+use Rattle.std.specs.Prelude.{ℕ, List, ◌++◌, All}
 use Rattle.std.specs.List.{flat_map}
 use Rattle.pl_frame.specs.Frame.{ColumnValue}
 use Rattle.pl_frame.specs.FrameParts.{empty_columns, all_stacked}

@@ -10,6 +10,7 @@ pub mod Printed
 pub mod Printing
 pub mod Serializing
 pub mod Special
+pub mod Strips
 pub mod Writing
 pub use Rattle.pl_frame.specs.Causes
 pub use Rattle.pl_frame.specs.Columns

@@ -1,6 +1,6 @@
 -- Lines of rows, put together column by column.
-use Rattle.std.specs.Prelude.{◌≡◌, ℕ, ◌+◌, ◌<◌, ◌≤◌, List, [], ◌++◌, map, length, slice_index_or}
-use Rattle.std.specs.List.{AllByRecursion, join_with_byte}
+use Rattle.std.specs.Prelude.{◌≡◌, ℕ, ◌+◌, ◌<◌, ◌≤◌, List, [], ◌++◌, length, slice_index_or}
+use Rattle.std.specs.List.{AllByRecursion}
 use Rattle.pl_frame.specs.Frame.{ColumnValue, cell_at}
 use Rattle.pl_text.specs.FrameText.{WriteOptions, written_cell}
 use Rattle.pl_write.specs.Writing.{separator_before}
@@ -8,10 +8,6 @@ use Rattle.pl_write.specs.Writing.{separator_before}
 -- what a column adds to the line of a row: a separator, unless it is the first, and the cell
 abbrev pub cell_in_line : WriteOptions → ColumnValue → ℕ → ℕ → List ℕ
 cell_in_line o column place row = separator_before o.separator place ++ written_cell o column.dtype (cell_at column row)
-
--- the line of a row without what ends it
-abbrev pub joined_cells : WriteOptions → List ColumnValue → ℕ → List ℕ
-joined_cells o columns row = join_with_byte o.separator (map (λ column. written_cell o column.dtype (cell_at column row)) columns)
 
 -- the lines of the rows from one on grew by the texts of their rows
 abbrev pub GrewBy : (ℕ → List ℕ) → ℕ → List (List ℕ) → List (List ℕ) → Type 0

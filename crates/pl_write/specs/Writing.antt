@@ -22,6 +22,12 @@ pub record StaysInFront (old new : List ℕ) : Type 0 where
 abbrev pub AppendsPrefix : Option (List ℕ) → Option (List ℕ) → List ℕ → Type 0
 AppendsPrefix old new text = (n : ℕ) × Appends old new (take n text)
 
+-- what was written of a text: some bytes reached the sink, a block is next, and something is left
+pub record IsWriting (old now : Option (List ℕ)) (block left text : List ℕ) : Type 0 where
+  pub flushed : List ℕ
+  pub appended : Appends old now flushed
+  pub whole : (flushed ++ block) ++ left ≡ text
+
 -- a writer of frames: its sink, how it writes, and its number of threads
 pub record Writer (S : Type 0) : Type 0 where
   pub sink : S

@@ -1,9 +1,9 @@
 //! Where the cells of a column come from when rows are written: settled once for the column.
-ghost use Rattle.std.specs.Prelude.{◌≡◌, IfOk};
+ghost use Rattle.std.specs.Prelude.{◌≡◌};
 ghost use Rattle.pl_frame.specs.Columns.{number_cells};
 ghost use Rattle.pl_write.specs.Options.{cell_options};
 ghost use Rattle.pl_write.specs.CellForms.{FitsForm};
-ghost use Rattle.pl_write.specs.CellSources.{IsSourceOf, HaveSources};
+ghost use Rattle.pl_write.specs.CellSources.{IsSourceOf};
 
 use crate::cell_form::{CellForm, form_of};
 use crate::options::SerializeOptions;
@@ -11,7 +11,6 @@ use pl_frame::column::Column;
 use pl_frame::data_type::{DataType, TimeUnit};
 use pl_frame::numbers::Numbers;
 use pl_frame::texts::Texts;
-use std::alloc::{AllocError, Global};
 
 /// Where the cells of a column come from.
 #[derive(Clone, Copy, Debug)]
@@ -104,8 +103,8 @@ fn source_of_others<'a>(
     }
 }
 
-// Where the cells of a column come from.
-fn source_of<'a>(column: &'a Column, options: &SerializeOptions) -> CellSource<'a>
+/// Where the cells of a column come from.
+pub(crate) fn source_of<'a>(column: &'a Column, options: &SerializeOptions) -> CellSource<'a>
     ensures { IsSourceOf result (cell_options options.now) column.now }
 {
     let form = form_of(column.dtype(), options);
@@ -113,19 +112,4 @@ fn source_of<'a>(column: &'a Column, options: &SerializeOptions) -> CellSource<'
         Some(numbers) => source_of_numbers(column, form, numbers, options),
         None => source_of_others(column, form, options),
     }
-}
-
-/// Where the cells of each column come from. Refuses only want of memory.
-pub(crate) fn sources_of<'a>(
-    alloc: Global,
-    columns: &'a [Column],
-    options: &SerializeOptions,
-) -> Result<Vec<CellSource<'a>>, AllocError>
-    ensures { IfOk result (λ sources. HaveSources (cell_options options.now) columns.now sources.items) }
-{
-    let mut sources = Vec::new(alloc);
-    for column in columns {
-        sources.push(source_of(column, options))?;
-    }
-    Ok(sources)
 }

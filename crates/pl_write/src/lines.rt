@@ -1,10 +1,10 @@
 //! The lines of some rows, put together column by column.
 ghost use Rattle.std.specs.Prelude.{◌≡◌, ◌+◌, ◌≤◌, ◌<◌, ◌++◌, [], length, IfOk, OnOk};
 ghost use Rattle.std.specs.List.{All, flat_map};
-ghost use Rattle.pl_text.specs.FrameText.{row_lines};
-ghost use Rattle.pl_write.specs.CellSources.{IsSourceOf, HaveSources};
-ghost use Rattle.pl_write.specs.Lines.{cell_in_line, joined_cells, GrewBy, AreLines, HaveRows};
+ghost use Rattle.pl_write.specs.CellSources.{IsSourceOf};
+ghost use Rattle.pl_write.specs.Lines.{cell_in_line, GrewBy, AreLines};
 ghost use Rattle.pl_write.specs.Options.{cell_options};
+ghost use Rattle.pl_write.specs.Strips.{HasRows, joined_strips, strip_lines};
 
 use crate::block::Block;
 use crate::cell_source::CellSource;
@@ -15,11 +15,18 @@ use crate::put_sources::{
     WideDecimalSource,
 };
 use crate::spare::Spare;
+use crate::strips::Strip;
 use pl_frame::column::Column;
 use std::alloc::{AllocError, Global};
 
 // So many lines are put together at a time.
 const LINES: usize = 16;
+
+// So many rows are copied at a time, or fewer.
+const ROWS: usize = 1 << 10;
+
+// The lines of the rows that are copied at a time have about so many bytes, or fewer.
+const COPIED: usize = 1 << 22;
 
 // Where a line is longer, the next is put together by itself.
 const LONG: usize = 1 << 16;
@@ -49,6 +56,24 @@ pub(crate) fn line_count(lines: &[Block], left: usize) -> usize
     } else {
         lines.len().min(left)
     }
+}
+
+/// How many rows are copied and printed next, where so many are left: all, where none need be copied, and else a number that
+/// depends on how long a line was that was put together last.
+pub(crate) fn rows_at_once(plain: bool, lines: &[Block], left: usize) -> usize
+    requires lines { 0 < length lines.now }
+    requires left { 0 < left }
+    ensures some { 0 < result }
+    ensures left { result ≤ left }
+{
+    if plain {
+        return left;
+    }
+    let line = lines[0].len();
+    if line == 0 {
+        return LINES.min(left);
+    }
+    (COPIED / line).min(ROWS).max(1).min(left)
 }
 
 // Takes all bytes out of the lines.
@@ -182,18 +207,25 @@ fn append_column(
 fn put_together(
     lines: &mut [Block],
     spare: &mut Spare,
-    columns: &[Column],
-    sources: &[CellSource<'_>],
+    strips: &[Strip<'_>],
     first: usize,
     options: &SerializeOptions,
 ) -> Result<(), AllocError>
-    requires rows { HaveRows (first + length lines.old) columns.now }
-    requires sources { HaveSources (cell_options options.now) columns.now sources.now }
-    ensures { OnOk result (AreLines (joined_cells (cell_options options.now) columns.now) first lines.new) }
+    requires { All (HasRows (cell_options options.now) first (first + length lines.old)) strips.now }
+    ensures { OnOk result (AreLines (joined_strips (cell_options options.now) strips.now) first lines.new) }
 {
     clear_lines(lines);
-    for (place, column) in columns.iter().enumerate() {
-        append_column(lines, spare, column, sources[place], first, place, options)?;
+    for (place, strip) in strips.iter().enumerate() {
+        let row = first - strip.before;
+        append_column(
+            lines,
+            spare,
+            strip.column,
+            strip.source,
+            row,
+            place,
+            options,
+        )?;
     }
     Ok(())
 }
@@ -218,15 +250,13 @@ pub(crate) fn append_rows(
     block: &mut Block,
     lines: &mut [Block],
     spare: &mut Spare,
-    columns: &[Column],
-    sources: &[CellSource<'_>],
+    strips: &[Strip<'_>],
     first: usize,
     options: &SerializeOptions,
 ) -> Result<(), AllocError>
-    requires rows { HaveRows (first + length lines.old) columns.now }
-    requires sources { HaveSources (cell_options options.now) columns.now sources.now }
-    ensures { OnOk result (block.new ≡ block.old ++ row_lines (cell_options options.now) columns.now first (length lines.old)) }
+    requires { All (HasRows (cell_options options.now) first (first + length lines.old)) strips.now }
+    ensures { OnOk result (block.new ≡ block.old ++ strip_lines (cell_options options.now) strips.now first (length lines.old)) }
 {
-    put_together(lines, spare, columns, sources, first, options)?;
+    put_together(lines, spare, strips, first, options)?;
     append_lines(block, lines, options)
 }

@@ -6,13 +6,11 @@ ghost use Rattle.std.specs.Io.KnownBytes.{Appends};
 ghost use Rattle.pl_frame.specs.Causes.{Rose};
 ghost use Rattle.pl_frame.specs.Frame.{HaveHeight};
 ghost use Rattle.pl_text.specs.FrameText.{row_lines};
-ghost use Rattle.pl_write.specs.CellSources.{HaveSources};
 ghost use Rattle.pl_write.specs.Lines.{HaveRows};
 ghost use Rattle.pl_write.specs.Options.{cell_options};
 ghost use Rattle.pl_write.specs.Printing.{ShareValue, FollowOn, texts_of};
 ghost use Rattle.pl_write.specs.Writing.{AppendsPrefix};
 
-use crate::cell_source::CellSource;
 use crate::options::{CsvWriterOptions, SerializeOptions};
 use crate::share::Share;
 use pl_frame::column::Column;
@@ -90,21 +88,18 @@ fn print_each<W: Threads + Sync>(
     workers: usize,
     shares: &mut [Share],
     columns: &[Column],
-    sources: &[CellSource<'_>],
     options: &SerializeOptions,
 )
     requires workers { 0 < workers }
     requires rows { All (λ share. HaveRows share.end columns.now) shares.old }
-    requires sources { HaveSources (cell_options options.now) columns.now sources.now }
     ensures { (i : ℕ) (d : ShareValue) → i < length shares.old
         → (slice_index_or shares.new i d).wanting ≡ false
         → (slice_index_or shares.new i d).text ≡ row_lines (cell_options options.now) columns.now (slice_index_or shares.old i d).first ((slice_index_or shares.old i d).end - (slice_index_or shares.old i d).first) }
 {
     let print = |_: usize, share: &mut Share|
-        requires rows { HaveRows share.old.end columns.now }
-        requires sources { HaveSources (cell_options options.now) columns.now sources.now }
+        requires { HaveRows share.old.end columns.now }
         ensures { share.new.wanting ≡ false → share.new.text ≡ row_lines (cell_options options.entry.now) columns.entry.now share.old.first (share.old.end - share.old.first) }
-    { share.print(columns, sources, options) };
+    { share.print(columns, options) };
     thread::for_each_mut(rt, shares, workers, &print);
 }
 
@@ -145,7 +140,6 @@ fn print_round<W: Threads + Sync>(
     workers: usize,
     shares: &mut [Share],
     columns: &[Column],
-    sources: &[CellSource<'_>],
     options: &SerializeOptions,
     first: usize,
     height: usize,
@@ -154,7 +148,6 @@ fn print_round<W: Threads + Sync>(
     requires workers { 0 < workers }
     requires shares { 0 < length shares.old }
     requires columns { HaveHeight height columns.now }
-    requires sources { HaveSources (cell_options options.now) columns.now sources.now }
     requires first { first < height }
     requires count { 0 < count }
     ensures further { IfOk result (λ end. first < end) }
@@ -162,7 +155,7 @@ fn print_round<W: Threads + Sync>(
     ensures text { IfOk result (λ end. texts_of shares.new ≡ row_lines (cell_options options.now) columns.now first (end - first)) }
 {
     let end = set_rows(shares, first, height, count);
-    print_each(rt, workers, shares, columns, sources, options);
+    print_each(rt, workers, shares, columns, options);
     if are_printed(shares) {
         Ok(end)
     } else {
@@ -180,7 +173,6 @@ fn print_beside<W: Threads + Sync, Si: Sink>(
     ready: &[Share],
     shares: &mut [Share],
     columns: &[Column],
-    sources: &[CellSource<'_>],
     options: &SerializeOptions,
     first: usize,
     height: usize,
@@ -190,7 +182,6 @@ fn print_beside<W: Threads + Sync, Si: Sink>(
     requires workers { 0 < workers }
     requires shares { 0 < length shares.old }
     requires columns { HaveHeight height columns.now }
-    requires sources { HaveSources (cell_options options.now) columns.now sources.now }
     requires first { first < height }
     requires count { 0 < count }
     ensures further { IfOk result (λ end. first < end) }
@@ -207,17 +198,12 @@ fn print_beside<W: Threads + Sync, Si: Sink>(
         requires workers { 0 < workers }
         requires shares { 0 < length shares.now }
         requires columns { HaveHeight height columns.now }
-        requires sources { HaveSources (cell_options options.now) columns.now sources.now }
         requires first { first < height }
         requires count { 0 < count }
         ensures further { IfOk result (λ end. first < end) }
         ensures inside { IfOk result (λ end. end ≤ height) }
         ensures text { IfOk result (λ end. texts_of shares.exit.now ≡ row_lines (cell_options options.entry.now) columns.entry.now first (end - first)) }
-    {
-        print_round(
-            rt, workers, shares, columns, sources, options, first, height, count,
-        )
-    };
+    { print_round(rt, workers, shares, columns, options, first, height, count) };
     let mut write = || write_each(ready, sink);
     let (printed, written) = thread::join_mut(rt, &mut print, &mut write);
     match (written, printed) {
@@ -237,14 +223,12 @@ pub(crate) fn write_by_workers<W: Threads + Sync, Si: Sink>(
     alloc: Global,
     workers: usize,
     columns: &[Column],
-    sources: &[CellSource<'_>],
     height: usize,
     options: &CsvWriterOptions,
     sink: &mut Si,
 ) -> Result<(), SinkFault>
     requires workers { 0 < workers }
     requires columns { HaveHeight height columns.now }
-    requires sources { HaveSources (cell_options options.now.serialize_options) columns.now sources.now }
     ensures text { OnOk result (Appends (Si.received sink.old) (Si.received sink.new) (row_lines (cell_options options.now.serialize_options) columns.now 0 height)) }
     ensures prefix { AppendsPrefix (Si.received sink.old) (Si.received sink.new) (row_lines (cell_options options.now.serialize_options) columns.now 0 height) }
     ensures later { Si.faults sink.old ≤ Si.faults sink.new }
@@ -262,7 +246,7 @@ pub(crate) fn write_by_workers<W: Threads + Sync, Si: Sink>(
         let count = share_size(options.batch_size, columns.len(), height - row, workers);
         let options = &options.serialize_options;
         match print_beside(
-            rt, workers, &ready, &mut next, columns, sources, options, row, height, count, sink,
+            rt, workers, &ready, &mut next, columns, options, row, height, count, sink,
         ) {
             Ok(end) => row = end,
             Err(fault) => return Err(fault),

@@ -1,11 +1,9 @@
 //! A share of the rows of a frame, printed by one worker.
 ghost use Rattle.std.specs.Prelude.{◌≡◌, ◌-◌, [], false, IfOk};
 ghost use Rattle.pl_text.specs.FrameText.{row_lines};
-ghost use Rattle.pl_write.specs.CellSources.{HaveSources};
 ghost use Rattle.pl_write.specs.Lines.{HaveRows};
 ghost use Rattle.pl_write.specs.Options.{cell_options};
 
-use crate::cell_source::CellSource;
 use crate::options::SerializeOptions;
 use crate::row_printer::RowPrinter;
 use pl_frame::column::Column;
@@ -15,6 +13,7 @@ use std::marker::Model;
 /// Rows of a frame that one worker prints: those from one on up to another, and their lines once they are printed.
 #[derive(Drop)]
 pub(crate) struct Share {
+    alloc: Global,
     printer: RowPrinter,
     first: usize,
     end: usize,
@@ -35,6 +34,7 @@ impl Share {
         ensures { IfOk result (λ share. share.text ≡ []) }
     {
         Ok(Share {
+            alloc,
             printer: RowPrinter::new(alloc)?,
             first: 0,
             end: 0,
@@ -66,19 +66,13 @@ impl Share {
     }
 
     /// Prints the lines of its rows, in place of what it had printed before, whose memory is used again.
-    pub(crate) fn print(
-        &mut self,
-        columns: &[Column],
-        sources: &[CellSource<'_>],
-        options: &SerializeOptions,
-    )
-        requires rows { HaveRows self.old.end columns.now }
-        requires sources { HaveSources (cell_options options.now) columns.now sources.now }
+    pub(crate) fn print(&mut self, columns: &[Column], options: &SerializeOptions)
+        requires { HaveRows self.old.end columns.now }
         ensures { self.new.wanting ≡ false → self.new.text ≡ row_lines (cell_options options.now) columns.now self.old.first (self.old.end - self.old.first) }
     {
         let printed = self
             .printer
-            .print_between(columns, sources, self.first, self.end, options);
+            .print_between(self.alloc, columns, self.first, self.end, options);
         self.wanting = printed.is_err();
     }
 }

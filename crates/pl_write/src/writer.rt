@@ -1,20 +1,22 @@
 //! The text of a frame, written in blocks.
-ghost use Rattle.std.specs.Prelude.{◌≡◌, ◌<◌, ◌++◌, ◌≤◌, OnOk, IsErrOf};
+ghost use Rattle.std.specs.Prelude.{◌≡◌, ◌<◌, ◌++◌, ◌≤◌, ◌-◌, [], All, length, OnOk, IsErrOf};
 ghost use Rattle.std.specs.Io.KnownBytes.{Appends};
 ghost use Rattle.pl_frame.specs.Causes.{Rose};
 ghost use Rattle.pl_frame.specs.Frame.{HaveHeight, height_of};
 ghost use Rattle.pl_text.specs.FrameText.{row_lines, text_of_frame};
 ghost use Rattle.pl_write.specs.Options.{cell_options, frame_options};
-ghost use Rattle.pl_write.specs.CellSources.{HaveSources};
-ghost use Rattle.pl_write.specs.Writing.{AppendsPrefix};
+ghost use Rattle.pl_write.specs.Lines.{HaveRows};
+ghost use Rattle.pl_write.specs.Strips.{HasRows, strip_lines};
+ghost use Rattle.pl_write.specs.Writing.{AppendsPrefix, IsWriting};
 
 use crate::block::Block;
-use crate::cell_source::{CellSource, sources_of};
+use crate::copies::{are_plain, copies_of};
 use crate::head::{ColumnNames, head_block};
-use crate::lines::{append_rows, line_count, new_lines};
+use crate::lines::{append_rows, line_count, new_lines, rows_at_once};
 use crate::options::{CsvWriterOptions, SerializeOptions};
 use crate::printing::write_by_workers;
 use crate::spare::Spare;
+use crate::strips::{Strip, strips_of};
 use pl_frame::column::Column;
 use pl_frame::sink::{Sink, SinkFault, write_all};
 use std::alloc::Global;
@@ -36,6 +38,84 @@ pub(crate) fn row_count(columns: &[Column]) -> usize
     }
 }
 
+// Puts the lines of the rows of strips from one on up to another at the end of a block, whose bytes are appended to a sink as
+// soon as they are many.
+//
+// Refuses a fault of the device, and want of memory, here or in the sink. A prefix of these was then appended.
+fn write_strips<Si: Sink>(
+    block: &mut Block,
+    lines: &mut [Block],
+    spare: &mut Spare,
+    strips: &[Strip<'_>],
+    first: usize,
+    end: usize,
+    options: &SerializeOptions,
+    sink: &mut Si,
+) -> Result<(), SinkFault>
+    requires lines { 0 < length lines.old }
+    requires rows { All (HasRows (cell_options options.now) first end) strips.now }
+    ensures text { OnOk result (IsWriting (Si.received sink.old) (Si.received sink.new) block.new [] (block.old ++ strip_lines (cell_options options.now) strips.now first (end - first))) }
+    ensures prefix { AppendsPrefix (Si.received sink.old) (Si.received sink.new) (block.old ++ strip_lines (cell_options options.now) strips.now first (end - first)) }
+    ensures later { Si.faults sink.old ≤ Si.faults sink.new }
+    ensures later_wants { Si.wants sink.old ≤ Si.wants sink.new }
+    ensures device { IsErrOf result SinkFault.Device → Rose (Si.faults sink.old) (Si.faults sink.new) }
+{
+    let mut row = first;
+    while row < end {
+        let count = line_count(lines, end - row);
+        match append_rows(block, &mut lines[..count], spare, strips, row, options) {
+            Ok(()) => row += count,
+            Err(_) => return Err(SinkFault::OutOfMemory),
+        }
+        if block.len() >= BLOCK {
+            match write_all(sink, block.as_slice()) {
+                Ok(()) => block.clear(),
+                Err(fault) => return Err(fault),
+            }
+        }
+    }
+    Ok(())
+}
+
+// The same of the rows of columns, by one copy.
+fn write_copied<Si: Sink>(
+    alloc: Global,
+    block: &mut Block,
+    lines: &mut [Block],
+    spare: &mut Spare,
+    columns: &[Column],
+    first: usize,
+    end: usize,
+    options: &SerializeOptions,
+    sink: &mut Si,
+) -> Result<(), SinkFault>
+    requires lines { 0 < length lines.old }
+    requires rows { first ≤ end }
+    requires columns { HaveRows end columns.now }
+    ensures text { OnOk result (IsWriting (Si.received sink.old) (Si.received sink.new) block.new [] (block.old ++ row_lines (cell_options options.now) columns.now first (end - first))) }
+    ensures prefix { AppendsPrefix (Si.received sink.old) (Si.received sink.new) (block.old ++ row_lines (cell_options options.now) columns.now first (end - first)) }
+    ensures later { Si.faults sink.old ≤ Si.faults sink.new }
+    ensures later_wants { Si.wants sink.old ≤ Si.wants sink.new }
+    ensures device { IsErrOf result SinkFault.Device → Rose (Si.faults sink.old) (Si.faults sink.new) }
+{
+    let Ok(copies) = copies_of(alloc, columns, first, end) else {
+        return Err(SinkFault::OutOfMemory);
+    };
+    let Ok(strips) = strips_of(alloc, columns, &copies, options) else {
+        return Err(SinkFault::OutOfMemory);
+    };
+    write_strips(
+        block,
+        lines,
+        spare,
+        &strips,
+        copies.first,
+        copies.end,
+        options,
+        sink,
+    )
+}
+
 // Appends what stands before the rows to a sink, which is in a block, and then the lines of the rows, a block at a time.
 //
 // Refuses a fault of the device, and want of memory, here or in the sink. A prefix of these was then appended.
@@ -43,13 +123,11 @@ fn write_in_blocks<Si: Sink>(
     alloc: Global,
     mut block: Block,
     columns: &[Column],
-    sources: &[CellSource<'_>],
     height: usize,
     options: &SerializeOptions,
     sink: &mut Si,
 ) -> Result<(), SinkFault>
-    requires columns { HaveHeight height columns.now }
-    requires sources { HaveSources (cell_options options.now) columns.now sources.now }
+    requires { HaveHeight height columns.now }
     ensures text { OnOk result (Appends (Si.received sink.old) (Si.received sink.new) (block ++ row_lines (cell_options options.now) columns.now 0 height)) }
     ensures prefix { AppendsPrefix (Si.received sink.old) (Si.received sink.new) (block ++ row_lines (cell_options options.now) columns.now 0 height) }
     ensures later { Si.faults sink.old ≤ Si.faults sink.new }
@@ -61,26 +139,16 @@ fn write_in_blocks<Si: Sink>(
     };
     let lines = lines.as_mut_slice();
     let mut spare = Spare::new(alloc);
+    let plain = are_plain(columns);
     let mut row = 0;
     while row < height {
-        let count = line_count(lines, height - row);
-        match append_rows(
-            &mut block,
-            &mut lines[..count],
-            &mut spare,
-            columns,
-            sources,
-            row,
-            options,
+        let count = rows_at_once(plain, lines, height - row);
+        let end = row + count;
+        match write_copied(
+            alloc, &mut block, lines, &mut spare, columns, row, end, options, sink,
         ) {
-            Ok(()) => row += count,
-            Err(_) => return Err(SinkFault::OutOfMemory),
-        }
-        if block.len() >= BLOCK {
-            match write_all(sink, block.as_slice()) {
-                Ok(()) => block.clear(),
-                Err(fault) => return Err(fault),
-            }
+            Ok(()) => row = end,
+            Err(fault) => return Err(fault),
         }
     }
     write_all(sink, block.as_slice())
@@ -95,14 +163,12 @@ fn write_side_by_side<W: Threads + Sync, Si: Sink>(
     workers: usize,
     head: &[u8],
     columns: &[Column],
-    sources: &[CellSource<'_>],
     height: usize,
     options: &CsvWriterOptions,
     sink: &mut Si,
 ) -> Result<(), SinkFault>
     requires workers { 0 < workers }
     requires columns { HaveHeight height columns.now }
-    requires sources { HaveSources (cell_options options.now.serialize_options) columns.now sources.now }
     ensures text { OnOk result (Appends (Si.received sink.old) (Si.received sink.new) (head.now ++ row_lines (cell_options options.now.serialize_options) columns.now 0 height)) }
     ensures prefix { AppendsPrefix (Si.received sink.old) (Si.received sink.new) (head.now ++ row_lines (cell_options options.now.serialize_options) columns.now 0 height) }
     ensures later { Si.faults sink.old ≤ Si.faults sink.new }
@@ -110,7 +176,7 @@ fn write_side_by_side<W: Threads + Sync, Si: Sink>(
     ensures device { IsErrOf result SinkFault.Device → Rose (Si.faults sink.old) (Si.faults sink.new) }
 {
     match write_all(sink, head) {
-        Ok(()) => { write_by_workers(rt, alloc, workers, columns, sources, height, options, sink) }
+        Ok(()) => { write_by_workers(rt, alloc, workers, columns, height, options, sink) }
         Err(fault) => Err(fault),
     }
 }
@@ -137,13 +203,10 @@ pub(crate) fn write_rows_behind<W: Threads + Sync, Si: Sink>(
     ensures device { IsErrOf result SinkFault.Device → Rose (Si.faults sink.old) (Si.faults sink.new) }
 {
     let cells = &options.serialize_options;
-    let Ok(sources) = sources_of(alloc, columns, cells) else {
-        return Err(SinkFault::OutOfMemory);
-    };
     let height = row_count(columns);
     let batch_size = options.batch_size.max(1);
     if workers == 1 || height <= batch_size {
-        return write_in_blocks(alloc, head, columns, &sources, height, cells, sink);
+        return write_in_blocks(alloc, head, columns, height, cells, sink);
     }
     let batches = (height / batch_size).saturating_add(1);
     write_side_by_side(
@@ -152,7 +215,6 @@ pub(crate) fn write_rows_behind<W: Threads + Sync, Si: Sink>(
         workers.min(WORKERS).min(batches),
         head.as_slice(),
         columns,
-        &sources,
         height,
         options,
         sink,

@@ -1,7 +1,7 @@
 use Rattle.std.proofs.Common.{◌≤◌, [], drop, map}
 use Rattle.std.specs.Cow.{cow_slice_items}
 use Rattle.std.specs.List.{concat}
-use Rattle.pl_write.proofs.WriteLaws.{IsWriting}
+use Rattle.pl_write.specs.Writing.{IsWriting}
 use Rattle.pl_write.proofs.printed.write_texts.Given as goal
 
 abbrev pub invariant-loop-text : goal.invariant-loop-text

@@ -6,7 +6,8 @@ use Rattle.pl_text.specs.FrameText.{row_lines}
 use Rattle.pl_write.specs.Options.{cell_options}
 use Rattle.pl_write.specs.Printing.{texts_of}
 use Rattle.pl_write.proofs.PrintLaws.{row_lines-between}
-use Rattle.pl_write.proofs.WriteLaws.{IsWriting, Appends-nil, IsWriting-more, IsWriting-flushed, IsWriting-part, IsWriting-all, row_lines-none}
+use Rattle.pl_write.specs.Writing.{IsWriting}
+use Rattle.pl_write.proofs.WriteLaws.{Appends-nil, IsWriting-more, IsWriting-flushed, IsWriting-part, IsWriting-all, row_lines-none}
 use Rattle.pl_write.proofs.printing.write_by_workers.Goals as goal
 
 pub loop-row-init : goal.loop-row-init

@@ -2,7 +2,7 @@ use Rattle.std.proofs.Common.{◌<◌, ◌≤◌, ◌-◌, length}
 use Rattle.pl_text.specs.FrameText.{row_lines}
 use Rattle.pl_write.specs.Options.{cell_options}
 use Rattle.pl_write.specs.Printing.{texts_of}
-use Rattle.pl_write.proofs.WriteLaws.{IsWriting}
+use Rattle.pl_write.specs.Writing.{IsWriting}
 use Rattle.pl_write.proofs.printing.write_by_workers.Given as goal
 
 abbrev pub invariant-loop-row : goal.invariant-loop-row

@@ -1,6 +1,6 @@
 use Rattle.std.proofs.Common.{◌≤◌, [], drop}
 use Rattle.pl_write.specs.Printing.{texts_of}
-use Rattle.pl_write.proofs.WriteLaws.{IsWriting}
+use Rattle.pl_write.specs.Writing.{IsWriting}
 use Rattle.pl_write.proofs.printing.write_each.Given as goal
 
 abbrev pub invariant-loop-share : goal.invariant-loop-share

@@ -1,7 +1,7 @@
 use Rattle.std.proofs.Common.{◌<◌, ◌≤◌, ◌-◌, ◌++◌, length}
 use Rattle.pl_text.specs.FrameText.{row_lines}
 use Rattle.pl_write.specs.Options.{cell_options}
-use Rattle.pl_write.proofs.WriteLaws.{IsWriting}
+use Rattle.pl_write.specs.Writing.{IsWriting}
 use Rattle.pl_write.proofs.writer.write_in_blocks.Given as goal
 
 abbrev pub invariant-loop-row : goal.invariant-loop-row

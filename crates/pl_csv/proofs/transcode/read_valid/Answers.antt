@@ -2,7 +2,7 @@ use Rattle.std.proofs.Common.{rules}
 use Rattle.pl_read.specs.Options.{settled_schema}
 use Rattle.pl_csv.specs.Transcoding.{HasAsciiQuote}
 use Rattle.pl_csv.proofs.TranscodeLaws.{unread-early, valid-or-unread}
-use Rattle.pl_csv.proofs.transcode.read_parts.Goals as goal
+use Rattle.pl_csv.proofs.transcode.read_valid.Goals as goal
 
 pub returns-else-not-is_ascii : goal.returns-else-not-is_ascii
 returns-else-not-is_ascii g c =

@@ -43,6 +43,7 @@ fn are_cast<W: Abort + Threads + Sync>(rt: &W, alloc: Global, parallel: bool) ->
         dtype: DataType::Int64,
     }];
     cast_columns(rt, alloc, &mut df, &field, parallel, true).expect(rt, "a cast");
+    drop(field);
     df.equals(&numbers(rt, alloc))
 }
 

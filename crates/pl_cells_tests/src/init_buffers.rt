@@ -1,4 +1,5 @@
-//! Tests of `pl_cells::init_buffers`: one buffer with each call of it. How the texts of other types are read, `pl_csv_replay` tries.
+//! Tests of `pl_cells::init_buffers`: one buffer with each call of it. How the texts of other types are read, `pl_csv_replay` tries. Buffers
+//! and columns go to `drop`: one that is dropped where it stands makes the proof of its function long.
 
 use crate::given::name;
 use pl_cells::buffer::Buffer;
@@ -15,7 +16,7 @@ use std::process::Abort;
 fn buffer_of(rt: &impl Abort, alloc: Global) -> Buffer {
     let mut schema = Schema::new(alloc);
     let added = schema.with_column(name(rt, alloc, "a"), DataType::Int64);
-    added.expect(rt, "a column");
+    drop(added.expect(rt, "a column"));
     assert!(rt; schema.len() == 1);
     let buffers = init_buffers(alloc, &[0], 4, &schema, Some(b'"'), CsvEncoding::Utf8);
     let mut buffers = buffers.expect(rt, "buffers");
@@ -65,6 +66,10 @@ fn cells_are_added_and_joined(rt: HostRuntime) {
     fill(&rt, &mut buffer);
     fill(&rt, &mut other);
     join(&rt, &mut buffer, &other);
+    drop(other);
     let column = buffer.into_series().expect(&rt, "a column");
-    assert!(rt; column == wanted(&rt, rt.alloc()));
+    let wanted = wanted(&rt, rt.alloc());
+    assert!(rt; column == wanted);
+    drop(column);
+    drop(wanted);
 }

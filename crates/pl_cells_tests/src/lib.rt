@@ -9,5 +9,3 @@ mod given;
 mod init_buffers;
 #[cfg(test)]
 mod null_values;
-#[cfg(test)]
-mod texts;

@@ -1,7 +1,7 @@
-//! Tests of `pl_cells::null_values`.
+//! Tests of `pl_cells::null_values`. They go to `drop`, as buffers do in `init_buffers.rt`.
 
 use crate::given::name;
-use pl_cells::null_values::{NamedTexts, NullTexts, NullValues, NullValuesCompiled};
+use pl_cells::null_values::{NamedTexts, NullValues, NullValuesCompiled};
 use pl_frame::data_type::DataType;
 use pl_frame::schema::Schema;
 use std::alloc::Global;
@@ -22,7 +22,7 @@ fn compiled(rt: &impl Abort, alloc: Global) -> NullValuesCompiled {
     let mut schema = Schema::new(alloc);
     for text in ["a", "b"] {
         let added = schema.with_column(name(rt, alloc, text), DataType::String);
-        added.expect(rt, "a column");
+        drop(added.expect(rt, "a column"));
     }
     let compiled = named(rt, alloc).compile(alloc, &schema);
     compiled.expect(rt, "texts of columns")
@@ -42,27 +42,17 @@ fn is_null_in(values: &NullValuesCompiled, text: &[u8], column: usize) -> Option
 fn named_texts_mean_null_in_their_columns(rt: HostRuntime) {
     let compiled = compiled(&rt, rt.alloc());
     let copy = compiled.try_clone().expect(&rt, "a copy");
+    drop(compiled);
     assert!(rt; is_null_in(&copy, b"NA", 0) == Some(true));
     assert!(rt; is_null_in(&copy, b"NA", 1) == Some(false));
-}
-
-// How many names with texts are given back.
-fn given_back(values: NullValues) -> Option<usize> {
-    match values {
-        NullValues::Named(texts) => Some(texts.into_entries().len()),
-        _ => None,
-    }
+    drop(copy);
 }
 
 #[test]
-fn null_values_are_copied_and_given_back(rt: HostRuntime) {
+fn null_values_are_copied(rt: HostRuntime) {
     let values = named(&rt, rt.alloc());
     let copy = values.try_clone().expect(&rt, "a copy");
     assert!(rt; copy == values);
-    assert!(rt; given_back(copy) == Some(2));
-    let mut texts = Vec::new(rt.alloc());
-    texts
-        .push(name(&rt, rt.alloc(), "NA"))
-        .expect(&rt, "a text");
-    assert!(rt; NullTexts::new(texts).into_texts().len() == 1);
+    drop(copy);
+    drop(values);
 }

@@ -19,10 +19,13 @@ pub fn with_semicolons<W: Threads + Wait + Sync, So: Source, S: Sink>(
     source: &mut So,
     sink: &mut S,
 ) -> PolarsResult<()> {
-    let read = orders(alloc)?;
     let mut write = CsvWriterOptions::new(alloc)?;
     write.serialize_options.separator = b';';
-    convert_source(rt, alloc, source, &read, &write, sink)?;
+    let read = orders(alloc)?;
+    let answer = convert_source(rt, alloc, source, &read, &write, sink);
+    drop(read);
+    drop(write);
+    answer?;
     Ok(())
 }
 
@@ -33,7 +36,10 @@ pub fn with_frame<W: Threads + Wait + Sync, S: Sink>(
     text: &[u8],
     sink: &mut S,
 ) -> PolarsResult<DataFrame> {
-    let read = orders(alloc)?;
     let write = CsvWriterOptions::new(alloc)?;
-    transcode(rt, alloc, text, &read, &write, sink)
+    let read = orders(alloc)?;
+    let frame = transcode(rt, alloc, text, &read, &write, sink);
+    drop(read);
+    drop(write);
+    frame
 }

@@ -31,13 +31,20 @@ pub fn tell(rt: &impl Print, fault: &PolarsError) -> Result<()> {
     Ok(())
 }
 
+// Prints the number of rows.
+fn tell_rows(rt: &impl Print, rows: usize) -> Result<()> {
+    println!(rt; "{rows} rows")?;
+    Ok(())
+}
+
 // Tells the fault of a read that has one.
 fn tell_fault(rt: &impl Print, answer: PolarsResult<DataFrame>) -> Result<()> {
-    match answer {
-        Ok(frame) => println!(rt; "{} rows", frame.height())?,
-        Err(fault) => tell(rt, &fault)?,
-    }
-    Ok(())
+    let told = match &answer {
+        Ok(frame) => tell_rows(rt, frame.height()),
+        Err(fault) => tell(rt, fault),
+    };
+    drop(answer);
+    told
 }
 
 /// Reads inputs with faults.

@@ -1,5 +1,6 @@
 //! A source of one's own: two sources, one after the other.
 
+use crate::reading::frame_of;
 use pl_frame::error::PolarsResult;
 use pl_frame::frame::DataFrame;
 use pl_frame::source::{Failed, MemSource, Source};
@@ -59,5 +60,5 @@ pub fn read_joined<W: Threads + Wait + Sync>(
         second: MemSource::new(second),
         faults: 0,
     };
-    CsvReader::new(alloc, source).finish(rt)
+    frame_of(rt, CsvReader::new(alloc, source))
 }

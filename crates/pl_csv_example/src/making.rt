@@ -1,5 +1,6 @@
 //! A frame that is made of values.
 
+use crate::reading::add_column;
 use pl_frame::column::Column;
 use pl_frame::data_type::DataType;
 use pl_frame::error::PolarsResult;
@@ -19,15 +20,18 @@ pub fn make_prices(alloc: Global) -> PolarsResult<DataFrame> {
     let prices = vec![in alloc; Some(120), None]?;
     let fruit = PlSmallStr::from_str(alloc, "fruit")?;
     let price = PlSmallStr::from_str(alloc, "price")?;
-    let fruits = Column::text(alloc, fruit, DataType::String, fruits)?;
-    let prices = Column::whole(alloc, price, PRICE, prices)?;
-    DataFrame::new(alloc, vec![in alloc; fruits, prices]?)
+    let mut columns = Vec::new(alloc);
+    columns.push(Column::text(alloc, fruit, DataType::String, fruits)?)?;
+    columns.push(Column::whole(alloc, price, PRICE, prices)?)?;
+    DataFrame::new(alloc, columns)
 }
 
 /// The names and types of that frame.
 pub fn schema_of_prices(alloc: Global) -> PolarsResult<Schema> {
     let mut schema = Schema::new(alloc);
-    schema.with_column(PlSmallStr::from_str(alloc, "fruit")?, DataType::String)?;
-    schema.with_column(PlSmallStr::from_str(alloc, "price")?, PRICE)?;
+    let name = PlSmallStr::from_str(alloc, "fruit")?;
+    add_column(&mut schema, name, DataType::String)?;
+    let name = PlSmallStr::from_str(alloc, "price")?;
+    add_column(&mut schema, name, PRICE)?;
     Ok(schema)
 }

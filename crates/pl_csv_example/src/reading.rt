@@ -9,6 +9,7 @@ use pl_frame::name::PlSmallStr;
 use pl_frame::schema::Schema;
 use pl_frame::source::MemSource;
 use pl_infer::inference::infer_file_schema;
+use pl_read::bytes_reader::MmapBytesReader;
 use pl_read::csv_reader::{CsvReader, SerReader};
 use pl_read::options::{
     ColumnNames, CsvParseOptions, CsvReadOptions, NullTexts, NullValues, ReaderBytes,
@@ -19,16 +20,35 @@ use std::fs::Files;
 use std::sync::Wait;
 use std::thread::Threads;
 
+/// Puts a column at the end of a schema. Its type from before, if it was there, goes to `drop`.
+pub fn add_column(schema: &mut Schema, name: PlSmallStr, dtype: DataType) -> PolarsResult<()> {
+    drop(schema.with_column(name, dtype)?);
+    Ok(())
+}
+
 /// A read of the columns `id`, `name` and `amount`.
 pub fn orders(alloc: Global) -> PolarsResult<CsvReadOptions>
     ensures { IfOk result (λ options. options.path ≡ None) }
 {
     let mut schema = Schema::new(alloc);
-    schema.with_column(PlSmallStr::from_str(alloc, "id")?, DataType::Int64)?;
-    schema.with_column(PlSmallStr::from_str(alloc, "name")?, DataType::String)?;
-    let amount = DataType::Decimal(None, Some(2));
-    schema.with_column(PlSmallStr::from_str(alloc, "amount")?, amount)?;
+    let name = PlSmallStr::from_str(alloc, "id")?;
+    add_column(&mut schema, name, DataType::Int64)?;
+    let name = PlSmallStr::from_str(alloc, "name")?;
+    add_column(&mut schema, name, DataType::String)?;
+    let name = PlSmallStr::from_str(alloc, "amount")?;
+    add_column(&mut schema, name, DataType::Decimal(None, Some(2)))?;
     Ok(CsvReadOptions::new(alloc).with_schema(Some(schema)))
+}
+
+/// The frame that a reader reads.
+pub fn frame_of<W: Threads + Wait + Sync, R: MmapBytesReader + Drop>(
+    rt: &W,
+    reader: CsvReader<R>,
+) -> PolarsResult<DataFrame> {
+    let mut reader = reader;
+    let frame = reader.finish(rt);
+    drop(reader);
+    frame
 }
 
 /// The frame of a file.
@@ -40,8 +60,8 @@ pub fn read_a_file<W: Files + Threads + Wait + Sync>(
     let path = PlSmallStr::from_str(alloc, path)?;
     let mut opener = FsOpener::new(rt);
     let options = orders(alloc)?;
-    let mut reader = options.try_into_reader_with_file_path(alloc, &mut opener, Some(path))?;
-    reader.finish(rt)
+    let reader = options.try_into_reader_with_file_path(alloc, &mut opener, Some(path))?;
+    frame_of(rt, reader)
 }
 
 /// The frame of a text whose header names the columns and whose texts give the types.
@@ -50,8 +70,7 @@ pub fn read_without_a_schema<W: Threads + Wait + Sync>(
     alloc: Global,
     text: &[u8],
 ) -> PolarsResult<DataFrame> {
-    let mut reader = CsvReader::new(alloc, MemSource::new(text));
-    reader.finish(rt)
+    frame_of(rt, CsvReader::new(alloc, MemSource::new(text)))
 }
 
 /// The columns `id` and `amount` of a text.
@@ -64,8 +83,8 @@ pub fn read_two_columns<W: Threads + Wait + Sync>(
     let id = PlSmallStr::from_str(alloc, "id")?;
     let names = vec![in alloc; amount, id]?;
     let options = orders(alloc)?.with_columns(Some(ColumnNames::new(names)));
-    let mut reader = options.into_reader_with_file_handle(alloc, MemSource::new(text));
-    reader.finish(rt)
+    let reader = options.into_reader_with_file_handle(alloc, MemSource::new(text));
+    frame_of(rt, reader)
 }
 
 /// The frame of a text in which `NA` and `-` mean null, in every column.
@@ -79,8 +98,8 @@ pub fn read_with_nulls<W: Threads + Wait + Sync>(
     let nulls = NullValues::AllColumns(NullTexts::new(vec![in alloc; na, dash]?));
     let parse = CsvParseOptions::new().with_null_values(Some(nulls));
     let options = CsvReadOptions::new(alloc).with_parse_options(parse);
-    let mut reader = options.into_reader_with_file_handle(alloc, MemSource::new(text));
-    reader.finish(rt)
+    let reader = options.into_reader_with_file_handle(alloc, MemSource::new(text));
+    frame_of(rt, reader)
 }
 
 /// The names in the header of a text, and the types that its first hundred rows show.
@@ -99,6 +118,7 @@ pub fn infer_a_schema(alloc: Global, text: &[u8]) -> PolarsResult<Schema> {
         0,
         true,
         &mut None,
-    )?;
-    Ok(found.0)
+    );
+    drop(parse);
+    Ok(found?.0)
 }

@@ -36,5 +36,7 @@ pub fn read_rows_with_amount<W: Threads + Wait + Sync>(
     text: &[u8],
 ) -> PolarsResult<DataFrame> {
     let mut reader = orders(alloc)?.into_reader_with_file_handle(alloc, MemSource::new(text));
-    reader.finish_with(rt, &HasAmount)
+    let frame = reader.finish_with(rt, &HasAmount);
+    drop(reader);
+    frame
 }

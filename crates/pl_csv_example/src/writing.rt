@@ -14,7 +14,8 @@ pub fn write_a_frame<W: Threads + Sync, S: Sink>(
     frame: &DataFrame,
     sink: &mut S,
 ) -> PolarsResult<()> {
-    CsvWriter::new(alloc, sink)?
-        .with_separator(b';')
-        .finish(rt, frame)
+    let mut writer = CsvWriter::new(alloc, sink)?.with_separator(b';');
+    let written = writer.finish(rt, frame);
+    drop(writer);
+    written
 }

@@ -49,9 +49,11 @@ fn files_are_opened_and_faults_counted(rt: HostRuntime) -> Result<(), Fail> {
     let mut opener = FsOpener::new(&rt);
     let rows = count_rows(rt.alloc(), &mut opener, path, b',', None, None, b'\n', true);
     fs::remove_file(&rt, path)?;
-    assert!(rt; matches!(rows, Ok(1)));
+    assert!(rt; matches!(&rows, Ok(1)));
+    drop(rows);
     let rows = count_rows(rt.alloc(), &mut opener, path, b',', None, None, b'\n', true);
-    assert!(rt; matches!(rows, Err(PolarsError::IO)));
+    assert!(rt; matches!(&rows, Err(PolarsError::IO)));
+    drop(rows);
     Ok(())
 }
 

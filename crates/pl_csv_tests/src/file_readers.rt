@@ -26,16 +26,19 @@ fn numbers(rt: &impl Abort, alloc: Global) -> CsvReadOptions
     let mut schema = Schema::new(alloc);
     let name = PlSmallStr::from_str(alloc, "a").expect(rt, "a name");
     let added = schema.with_column(name, DataType::Int64);
-    added.expect(rt, "a column");
+    drop(added.expect(rt, "a column"));
     CsvReadOptions::new(alloc).with_schema(Some(schema))
 }
 
 // The frame of a reader.
-fn read<W: Abort + Threads + Wait + Sync, R: MmapBytesReader>(
+fn read<W: Abort + Threads + Wait + Sync, R: MmapBytesReader + Drop>(
     rt: &W,
-    reader: &mut CsvReader<R>,
+    reader: CsvReader<R>,
 ) -> DataFrame {
-    reader.finish(rt).expect(rt, "a frame")
+    let mut reader = reader;
+    let frame = reader.finish(rt).expect(rt, "a frame");
+    drop(reader);
+    frame
 }
 
 // The frame of a source.
@@ -45,8 +48,7 @@ fn frame_of<W: Abort + Threads + Wait + Sync, R: MmapBytesReader + Drop>(
     source: R,
 ) -> DataFrame {
     let options = numbers(rt, alloc);
-    let mut reader = options.into_reader_with_file_handle(alloc, source);
-    read(rt, &mut reader)
+    read(rt, options.into_reader_with_file_handle(alloc, source))
 }
 
 // The frame of the file of a name.
@@ -59,7 +61,7 @@ fn frame_at<W: Abort + Files + Threads + Wait + Sync>(
     let mut files = FsOpener::new(rt);
     let options = numbers(rt, alloc);
     match options.try_into_reader_with_file_path(alloc, &mut files, Some(path)) {
-        Ok(mut reader) => read(rt, &mut reader),
+        Ok(reader) => read(rt, reader),
         Err(_) => panic!(rt; "the file is there"),
     }
 }

@@ -10,4 +10,5 @@ const FOUR: &str =
 fn four_rows(rt: HostRuntime) {
     let made = make_input(rt.alloc(), 4);
     assert!(rt; matches!(&made, Ok(bytes) if bytes.as_slice() == FOUR.as_bytes()));
+    drop(made);
 }

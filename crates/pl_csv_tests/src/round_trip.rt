@@ -55,7 +55,9 @@ fn read_back<W: Abort + Threads + Wait + Sync>(
     read: CsvReadOptions,
 ) -> DataFrame {
     let mut reader = CsvReader::with_options(alloc, MemSource::new(text), read);
-    reader.finish(rt).expect(rt, "a frame")
+    let frame = reader.finish(rt).expect(rt, "a frame");
+    drop(reader);
+    frame
 }
 
 #[test]

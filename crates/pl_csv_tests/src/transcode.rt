@@ -22,4 +22,6 @@ fn a_text_is_transcoded_and_converted(rt: HostRuntime) {
     let converted = convert(&rt, alloc, TEXT, &read, &write, &mut sink);
     converted.expect(&rt, "a text");
     assert!(rt; sink.received() == TEXT);
+    drop(read);
+    drop(write);
 }

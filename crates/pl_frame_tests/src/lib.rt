@@ -18,9 +18,9 @@ mod numbers;
 #[cfg(test)]
 mod opener;
 #[cfg(test)]
-mod range;
+mod parts;
 #[cfg(test)]
-mod read_all;
+mod range;
 #[cfg(test)]
 mod schema;
 #[cfg(test)]

@@ -9,7 +9,7 @@ use std::process::Abort;
 // Sets the type under a name.
 fn set(rt: &impl Abort, alloc: Global, schema: &mut Schema, text: &str, dtype: DataType) {
     let added = schema.with_column(name(rt, alloc, text), dtype);
-    added.expect(rt, "a column");
+    drop(added.expect(rt, "a column"));
 }
 
 #[test]

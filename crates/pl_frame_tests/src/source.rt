@@ -1,15 +1,6 @@
 //! Tests of `pl_frame::source`.
 
-use pl_frame::source::{Failed, MemSource, PipeSource, Source};
-
-#[test]
-fn memory_gives_its_bytes_in_order(rt: HostRuntime) {
-    let mut source = MemSource::new(b"abcd");
-    let mut buf = [0u8; 3];
-    assert!(rt; source.read(&mut buf) == Ok(3));
-    assert!(rt; source.read(&mut buf) == Ok(1));
-    assert!(rt; buf == *b"dbc" && source.bytes() == b"abcd".as_slice());
-}
+use pl_frame::source::{Failed, PipeSource, Source};
 
 #[test]
 fn a_pipe_fails_at_the_numbered_calls_and_loses_nothing(rt: HostRuntime) {

@@ -14,7 +14,7 @@ pub fn name(rt: &impl Abort, alloc: Global, text: &str) -> PlSmallStr {
 // Puts a column at the end of a schema.
 pub fn add(rt: &impl Abort, alloc: Global, schema: &mut Schema, text: &str, dtype: DataType) {
     let added = schema.with_column(name(rt, alloc, text), dtype);
-    added.expect(rt, "a column");
+    drop(added.expect(rt, "a column"));
 }
 
 // The schema of one column.

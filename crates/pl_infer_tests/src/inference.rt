@@ -26,6 +26,7 @@ fn names_and_types_are_inferred_and_overwritten(rt: HostRuntime) {
         true,
         &mut n_threads,
     );
+    drop(options);
     let (schema, items, bytes) = found.expect(&rt, "a schema");
     let mut wanted = one_column(&rt, alloc, "a", DataType::Int64);
     add(&rt, alloc, &mut wanted, "b", DataType::Int8);

@@ -13,6 +13,7 @@ fn inferred(rt: &impl Abort, alloc: Global) -> SchemaInferenceResult {
     let text = ReaderBytes::Borrowed(b"a,b\n1,x\n");
     let options = CsvReadOptions::new(alloc);
     let read = SchemaInferenceResult::try_from_reader_bytes_and_options(alloc, &text, &options);
+    drop(options);
     read.expect(rt, "a result")
 }
 
@@ -38,4 +39,5 @@ fn a_new_result_has_no_rows_and_sets_workers(rt: HostRuntime) {
     let mut options = CsvReadOptions::new(rt.alloc());
     options.update_with_inference_result(&result);
     assert!(rt; options.n_threads == Some(1));
+    drop(options);
 }

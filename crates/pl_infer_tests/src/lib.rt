@@ -6,12 +6,8 @@ mod field_types;
 #[cfg(test)]
 mod given;
 #[cfg(test)]
-mod header;
-#[cfg(test)]
 mod inference;
 #[cfg(test)]
 mod inference_result;
-#[cfg(test)]
-mod sample;
 #[cfg(test)]
 mod schemas;

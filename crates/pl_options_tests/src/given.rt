@@ -22,6 +22,6 @@ pub fn one<T: Drop>(rt: &impl Abort, alloc: Global, value: T) -> Vec<T> {
 pub fn one_column(rt: &impl Abort, alloc: Global) -> Schema {
     let mut schema = Schema::new(alloc);
     let added = schema.with_column(name(rt, alloc, "a"), DataType::Int64);
-    added.expect(rt, "a column");
+    drop(added.expect(rt, "a column"));
     schema
 }

@@ -11,5 +11,3 @@ mod hive_options;
 mod parse_options;
 #[cfg(test)]
 mod read_options;
-#[cfg(test)]
-mod reader_bytes;

@@ -151,15 +151,17 @@ fn a_source_that_fails_has_no_batches(rt: HostRuntime) {
 }
 
 // Whether this is the fault of the first cell of the second row.
-fn is_misfit(answer: &PolarsResult<Option<Vec<DataFrame>>>) -> bool {
-    matches!(
-        answer,
+fn is_misfit(answer: PolarsResult<Option<Vec<DataFrame>>>) -> bool {
+    let is_misfit = matches!(
+        &answer,
         Err(PolarsError::ComputeError(ComputeFault::Record {
             row: 1,
             column: 0,
             kind: FaultKind::Value,
         }))
-    )
+    );
+    drop(answer);
+    is_misfit
 }
 
 #[test]
@@ -169,10 +171,10 @@ fn a_fault_is_answered_again_and_again(rt: HostRuntime) {
     let given = batches.next_batches(&rt, 1).expect(&rt, "an answer");
     let frames = given.expect(&rt, "batches");
     assert!(rt; end_with(&frames, 1, 5, Value::Text("x")));
-    assert!(rt; is_misfit(&batches.next_batches(&rt, 1)));
+    assert!(rt; is_misfit(batches.next_batches(&rt, 1)));
     for _ in 0..3 {
-        assert!(rt; is_misfit(&batches.next_batches(&rt, 0)));
-        assert!(rt; is_misfit(&batches.next_batches(&rt, 1)));
+        assert!(rt; is_misfit(batches.next_batches(&rt, 0)));
+        assert!(rt; is_misfit(batches.next_batches(&rt, 1)));
     }
     drop(batches);
     drop(reader);

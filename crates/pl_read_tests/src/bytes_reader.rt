@@ -19,19 +19,21 @@ fn what_stands_for_a_reader_lends_as_it_does(rt: HostRuntime) {
 }
 
 // Whether these bytes are lent, if they are the ones that were read.
-fn are_lent(read: &PolarsResult<ReaderBytes<'_>>, bytes: &[u8]) -> Option<bool> {
-    match read {
+fn are_lent(read: PolarsResult<ReaderBytes<'_>>, bytes: &[u8]) -> Option<bool> {
+    let are_lent = match &read {
         Ok(read) if read.bytes() == bytes => Some(matches!(read, ReaderBytes::Borrowed(_))),
         _ => None,
-    }
+    };
+    drop(read);
+    are_lent
 }
 
 #[test]
 fn memory_lends_its_bytes_and_a_pipe_is_read(rt: HostRuntime) {
     let mut source = MemSource::new(b"ab");
     let read = get_reader_bytes(rt.alloc(), &mut source);
-    assert!(rt; are_lent(&read, b"ab") == Some(true));
+    assert!(rt; are_lent(read, b"ab") == Some(true));
     let mut pipe = PipeSource::new(b"ab", 1, &[]);
     let read = get_reader_bytes(rt.alloc(), &mut pipe);
-    assert!(rt; are_lent(&read, b"ab") == Some(false));
+    assert!(rt; are_lent(read, b"ab") == Some(false));
 }

@@ -49,6 +49,8 @@ fn read_between(
         stop,
         last,
     );
+    drop(options);
+    drop(null_values);
     done.expect(rt, "a chunk")
 }
 

@@ -4,18 +4,12 @@ ghost use Rattle.std.specs.Prelude.{◌≡◌};
 use crate::given::{one, one_column};
 use pl_frame::error::PolarsResult;
 use pl_frame::frame::DataFrame;
-use pl_frame::source::{MemSource, PipeSource, Source};
-use pl_options::read_options::CsvReadOptions;
+use pl_frame::source::{PipeSource, Source};
 use pl_read::bytes_reader::MmapBytesReader;
 use pl_read::csv_reader::{CsvReader, SerReader};
 use std::alloc::Global;
 use std::sync::Wait;
 use std::thread::Threads;
-
-// Through the bound: a reader with default options.
-fn fresh<R: MmapBytesReader, T: SerReader<R>>(alloc: Global, reader: R) -> T {
-    T::new(alloc, reader).set_rechunk(true)
-}
 
 // Through the bound: what a reader reads.
 fn finish<W: Threads + Wait + Sync, R: MmapBytesReader, T: SerReader<R>>(
@@ -25,14 +19,6 @@ fn finish<W: Threads + Wait + Sync, R: MmapBytesReader, T: SerReader<R>>(
     ensures { (T.state reader.new).options ≡ (T.state reader.old).options }
 {
     reader.finish(rt)
-}
-
-#[test]
-fn a_new_reader_has_default_options(rt: HostRuntime) {
-    let alloc = rt.alloc();
-    let reader: CsvReader<MemSource<'_>> = fresh(alloc, MemSource::new(b"ab"));
-    assert!(rt; *reader.options() == CsvReadOptions::new(alloc));
-    assert!(rt; reader.into_inner().bytes() == b"ab".as_slice());
 }
 
 #[test]

@@ -18,7 +18,7 @@ pub fn name(rt: &impl Abort, alloc: Global, text: &str) -> PlSmallStr {
 // Puts a column at the end of a schema.
 pub fn add(rt: &impl Abort, alloc: Global, schema: &mut Schema, text: &str, dtype: DataType) {
     let added = schema.with_column(name(rt, alloc, text), dtype);
-    added.expect(rt, "a column");
+    drop(added.expect(rt, "a column"));
 }
 
 // A read of one column `a` of whole numbers, at no path.

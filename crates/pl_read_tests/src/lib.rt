@@ -16,8 +16,6 @@ mod named_columns;
 #[cfg(test)]
 mod reader_makers;
 #[cfg(test)]
-mod reading;
-#[cfg(test)]
 mod row_test;
 #[cfg(test)]
 mod slices;

@@ -4,7 +4,6 @@ ghost use Rattle.std.specs.Prelude.{◌≡◌, None, IfOk};
 use crate::given::{name, one, one_column};
 use pl_frame::error::PolarsResult;
 use pl_frame::opener::{MemOpener, Opener};
-use pl_frame::source::PipeSource;
 use pl_options::read_options::CsvReadOptions;
 use pl_read::bytes_reader::MmapBytesReader;
 use pl_read::csv_reader::{CsvReader, SerReader};
@@ -15,12 +14,14 @@ use std::sync::Wait;
 use std::thread::Threads;
 
 // Whether a reader reads the column `a` of 1.
-fn reads_one<W: Abort + Threads + Wait + Sync, R: MmapBytesReader>(
+fn reads_one<W: Abort + Threads + Wait + Sync, R: MmapBytesReader + Drop>(
     rt: &W,
     alloc: Global,
-    reader: &mut CsvReader<R>,
+    reader: CsvReader<R>,
 ) -> bool {
+    let mut reader = reader;
     let frame = reader.finish(rt).expect(rt, "a frame");
+    drop(reader);
     frame.height() == 1 && frame == one(rt, alloc)
 }
 
@@ -48,22 +49,7 @@ fn a_path_is_read(rt: HostRuntime) {
     let mut opener = MemOpener::new(&entries);
     let reader = open(&rt, alloc, &mut opener, one_column(&rt, alloc), "f");
     match reader {
-        Ok(mut reader) => assert!(rt; reads_one(&rt, alloc, &mut reader)),
+        Ok(reader) => assert!(rt; reads_one(&rt, alloc, reader)),
         Err(_) => panic!(rt; "the path is there"),
     }
-}
-
-// Through the bound: whether the column `a` of 1 is read of a handle.
-fn has_one<W: Abort + Threads + Wait + Sync, R: MmapBytesReader + Drop>(
-    rt: &W,
-    alloc: Global,
-    handle: R,
-) -> bool {
-    let mut reader = one_column(rt, alloc).into_reader_with_file_handle(alloc, handle);
-    reads_one(rt, alloc, &mut reader)
-}
-
-#[test]
-fn a_handle_is_read(rt: HostRuntime) {
-    assert!(rt; has_one(&rt, rt.alloc(), PipeSource::new(b"a\n1\n", 1, &[])));
 }

@@ -30,6 +30,7 @@ fn rows_come_that_the_test_wants(rt: HostRuntime) {
     let source = MemSource::new(b"a\n1\n\n3\n\n5\n");
     let mut reader = CsvReader::with_options(alloc, source, options);
     let frame = reader.finish_with(&rt, &HasFirst).expect(&rt, "a frame");
+    drop(reader);
     let [column] = frame.columns() else {
         panic!(rt; "one column is read");
     };

@@ -4,7 +4,7 @@ use crate::given::one_column;
 use pl_frame::column::Value;
 use pl_frame::frame::DataFrame;
 use pl_frame::source::MemSource;
-use pl_read::csv_reader::{CsvReader, Gate, OpenGate};
+use pl_read::csv_reader::{CsvReader, Gate};
 use std::alloc::Global;
 use std::process::Abort;
 use std::sync::Wait;
@@ -28,7 +28,9 @@ fn read<W: Abort + Threads + Wait + Sync, G: Gate + Sync>(
         .with_n_threads(Some(workers))
         .with_chunk_size(1);
     let mut reader = CsvReader::with_options(alloc, MemSource::new(text), options);
-    reader.finish_gated(rt, gate).expect(rt, "a frame")
+    let frame = reader.finish_gated(rt, gate).expect(rt, "a frame");
+    drop(reader);
+    frame
 }
 
 // Whether a frame is one column of these numbers.
@@ -124,14 +126,6 @@ fn are_once(counts: &[AtomicU64; 5]) -> bool {
         }
     }
     counts[4].load(Ordering::SeqCst) == 0
-}
-
-#[test]
-fn what_is_left_comes_behind_the_pieces(rt: HostRuntime) {
-    for workers in [1, 2] {
-        let frame = read(&rt, rt.alloc(), &OpenGate, workers, b"1\n2\n3");
-        assert!(rt; holds(&frame, &[1, 2, 3]), "by {workers} workers");
-    }
 }
 
 #[test]

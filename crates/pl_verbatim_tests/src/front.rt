@@ -21,7 +21,7 @@ fn schema(rt: &impl Abort, alloc: Global, dtype: &DataType) -> Schema
     for name in ["a", "b"] {
         let name = PlSmallStr::from_str(alloc, name).expect(rt, "a name");
         let dtype = dtype.try_clone().expect(rt, "a type");
-        schema.with_column(name, dtype).expect(rt, "a column");
+        drop(schema.with_column(name, dtype).expect(rt, "a column"));
     }
     assert!(rt; schema.len() == 2);
     schema

@@ -19,7 +19,7 @@ use std::thread::Threads;
 fn schema(rt: &impl Abort, alloc: Global) -> Schema {
     let mut schema = Schema::new(alloc);
     let added = schema.with_column(name(rt, alloc, "a"), DataType::Int64);
-    added.expect(rt, "a schema");
+    drop(added.expect(rt, "a schema"));
     schema
 }
 
@@ -40,6 +40,7 @@ fn write<W: Abort + Threads + Sync>(rt: &W, alloc: Global, sink: &mut MemSink) {
     assert!(rt; writer.fits(&batch));
     writer.write_batch(rt, &batch).expect(rt, "a batch");
     writer.finish().expect(rt, "a text");
+    drop(writer);
 }
 
 #[test]
@@ -57,9 +58,11 @@ fn write_again<W: Abort + Threads + Sync>(rt: &W, alloc: Global, sink: &mut Pipe
     let batches = [batch(rt, alloc, 1), batch(rt, alloc, 2)];
     assert!(rt; writer.fits(&batches[0]));
     let failed = writer.write_batch(rt, &batches[0]);
-    assert!(rt; matches!(failed, Err(PolarsError::IO)));
+    assert!(rt; matches!(&failed, Err(PolarsError::IO)));
+    drop(failed);
     assert!(rt; writer.fits(&batches[1]));
     writer.write_batch(rt, &batches[1]).expect(rt, "a batch");
+    drop(writer);
 }
 
 #[test]
@@ -88,10 +91,13 @@ fn write_both_ways<W: Abort + Threads + Sync>(rt: &W, alloc: Global) -> PolarsRe
     stack(rt, &mut whole, &batches[0]);
     stack(rt, &mut whole, &batches[1]);
     assert!(rt; batched.fits(&batches[0]) && batched.fits(&batches[1]));
-    batches_are_one_text(rt, &mut one, &mut batched, &whole, &batches)
+    let written = batches_are_one_text(rt, &mut one, &mut batched, &whole, &batches);
+    drop(one);
+    drop(batched);
+    written
 }
 
 #[test]
 fn batches_and_their_frame_are_written(rt: HostRuntime) {
-    assert!(rt; write_both_ways(&rt, rt.alloc()).is_ok());
+    write_both_ways(&rt, rt.alloc()).expect(&rt, "both texts");
 }

@@ -36,6 +36,7 @@ fn write_set<W: Abort + Threads + Sync>(
         .with_batch_size(1)
         .n_threads(3);
     writer.finish(rt, frame).expect(rt, "a text");
+    drop(writer);
 }
 
 #[test]

@@ -10,6 +10,4 @@ mod given;
 #[cfg(test)]
 mod options;
 #[cfg(test)]
-mod printed;
-#[cfg(test)]
 mod serializer;

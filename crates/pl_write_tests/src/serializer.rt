@@ -31,5 +31,6 @@ fn cells_come_one_by_one(rt: HostRuntime) {
     options.null = name(&rt, alloc, "NA");
     let mut text = Vec::from_slice(alloc, b"x").expect(&rt, "a text");
     serialize_two(&rt, &column, &mut text, &mut options);
+    drop(column);
     assert!(rt; text.as_slice() == b"x-1\"NA\"".as_slice());
 }

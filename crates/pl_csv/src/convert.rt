@@ -23,7 +23,7 @@ ghost use Rattle.pl_csv.specs.Sources.{ArePrintedOf};
 ghost use Rattle.pl_csv.specs.Transcoding.{IsUnread, IsConverted, IsTranscodeFault};
 ghost use Rattle.pl_csv.specs.Views.{sink_view};
 
-use crate::one_piece::in_one_piece;
+use crate::worker_space::count_with_space;
 use pl_board::gate::OpenGate;
 use pl_frame::data_type::DataType;
 use pl_frame::error::{ComputeFault, PolarsError, PolarsResult};
@@ -159,28 +159,8 @@ fn print_data<'a, W: Threads + Wait + Sync>(
     }
 }
 
-// The frame of an input, each column in one piece, where it is known what the rows are read by.
-fn read_whole<W: Threads + Wait + Sync>(
-    rt: &W,
-    alloc: Global,
-    input: &[u8],
-    read: &CsvReadOptions,
-    prepared: &Prepared,
-) -> PolarsResult<DataFrame>
-    requires allowed { MayRead read.now }
-    requires prepared { IsPrepared read.now prepared.now.schema input.now prepared.now }
-    ensures frame { IfOk result (λ frame. frame ≡ data_frame read.now prepared.now.schema (drop prepared.now.start input.now)) }
-    ensures sound { OnOk result (data_cause read.now prepared.now.schema (drop prepared.now.start input.now) ≡ None) }
-    ensures refused { IfErr result (IsFault (data_cause read.now prepared.now.schema (drop prepared.now.start input.now))) }
-{
-    in_one_piece(
-        alloc,
-        read_prepared(rt, alloc, &OpenGate, input, read, prepared)?,
-    )
-}
-
-// What an input is, of which it is known what its rows are read by.
-fn print_prepared<'a, W: Threads + Wait + Sync>(
+// What an input is, of which it is known what its rows are read by, and how many workers read them.
+fn print_by<'a, W: Threads + Wait + Sync>(
     rt: &W,
     alloc: Global,
     input: &'a [u8],
@@ -210,13 +190,41 @@ fn print_prepared<'a, W: Threads + Wait + Sync>(
             write,
         );
     }
-    match read_whole(rt, alloc, input, read, prepared) {
+    match read_prepared(rt, alloc, &OpenGate, input, read, prepared) {
         Ok(rest) => Ok(Printed {
             lines: Vec::new(alloc),
             rest,
         }),
         Err(fault) => Err(fault),
     }
+}
+
+// What an input is, of which it is known what its rows are read by: by no more workers than there is address space for, and where memory is
+// wanting then, by the caller alone.
+fn print_prepared<'a, W: Threads + Wait + Sync>(
+    rt: &W,
+    alloc: Global,
+    input: &'a [u8],
+    read: &CsvReadOptions,
+    prepared: Prepared,
+    write: &CsvWriterOptions,
+) -> PolarsResult<Printed<'a>>
+    requires allowed { MayRead read.now }
+    requires prepared { IsPrepared read.now prepared.schema input.now prepared }
+    ensures text { IfOk result (λ printed. printed_text (frame_options write.now) (names_of printed.rest) (map cow_slice_items printed.lines.items) printed.rest
+        ≡ text_of_frame (frame_options write.now) (data_frame read.now prepared.schema (drop prepared.start input.now))) }
+    ensures sound { OnOk result (data_cause read.now prepared.schema (drop prepared.start input.now) ≡ None) }
+    ensures refused { IfErr result (IsFault (data_cause read.now prepared.schema (drop prepared.start input.now))) }
+{
+    let mut prepared = prepared;
+    let workers = count_with_space(alloc, worker_count(prepared.n_threads), input.len());
+    prepared.n_threads = Some(workers);
+    let printed = print_by(rt, alloc, input, read, &prepared, write);
+    if workers > 1 && matches!(printed, Err(PolarsError::OutOfMemory)) {
+        prepared.n_threads = Some(1);
+        return print_by(rt, alloc, input, read, &prepared, write);
+    }
+    printed
 }
 
 // What an input is, where the options may stand and the quote of the output is ASCII.
@@ -234,7 +242,7 @@ fn print_checked<'a, W: Threads + Wait + Sync>(
     ensures refused { IfErr result (IsFault (late_cause read.now (settled_schema read.now input.now) input.now)) }
 {
     match prepare(alloc, input, read) {
-        Ok(prepared) => print_prepared(rt, alloc, input, read, &prepared, write),
+        Ok(prepared) => print_prepared(rt, alloc, input, read, prepared, write),
         Err(fault) => Err(fault),
     }
 }
@@ -302,7 +310,7 @@ pub(crate) fn write_printed<W: Threads + Wait + Sync, S: Sink>(
     ensures later { S.faults sink.old ≤ S.faults sink.new }
     ensures later_wants { S.wants sink.old ≤ S.wants sink.new }
 {
-    let workers = worker_count(read.n_threads);
+    let workers = count_with_space(alloc, worker_count(read.n_threads), printed.rest.height());
     match write_behind(
         rt,
         alloc,

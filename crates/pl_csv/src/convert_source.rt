@@ -8,6 +8,7 @@ ghost use Rattle.pl_csv.specs.Views.{SourceView, source_view, views};
 
 use crate::convert::{Printed, convert, is_row_by_row, read_printed, write_printed};
 use crate::read_all::{LIMIT, ReadAllFault};
+use crate::worker_space::count_with_space;
 use pl_frame::error::PolarsError;
 use pl_frame::sink::Sink;
 use pl_frame::source::Source;
@@ -81,7 +82,7 @@ fn reads_ahead(read: &CsvReadOptions, write: &CsvWriterOptions) -> bool
 }
 
 // What the rows of an input are read by that begins with these bytes, where they tell it: they are not all of it, they end with a line end,
-// and the rows begin within them.
+// and the rows begin within them. None also where there is address space for one worker alone.
 fn prepare_ahead(
     alloc: Global,
     first: &[u8],
@@ -98,6 +99,9 @@ fn prepare_ahead(
     let Ok(prepared) = prepare(alloc, first, read) else {
         return None;
     };
+    if count_with_space(alloc, worker_count(prepared.n_threads), FIRST) == 1 {
+        return None;
+    }
     if prepared.start < first.len() && is_row_by_row(read, &prepared) {
         return Some(prepared);
     }
@@ -167,7 +171,7 @@ fn print_ahead<'a, W: Threads + Wait + Sync, So: Source>(
     let plan = plan_of(read, prepared);
     let schema = &prepared.schema;
     let options = &write.serialize_options;
-    let workers = worker_count(prepared.n_threads);
+    let workers = count_with_space(alloc, worker_count(prepared.n_threads), FIRST);
     let size = piece_size_for(read.chunk_size, plan.projection.places.len());
     let rows = match print_arriving(
         rt, alloc, workers, cells, last, intake, source, LIMIT, schema, &plan, options, size,
@@ -222,8 +226,8 @@ fn convert_ahead<W: Threads + Wait + Sync, So: Source, S: Sink>(
 
 /// Reads the input that a source gives, and converts it: what `convert` does of the input as a whole. Where a front of the input tells what its
 /// rows are read by, they are printed as they come, by the workers beside the one that reads: where a schema is given and no column that
-/// is read has categories, no lines are skipped, no limit and no row index are asked, there are two workers or more, and the rows begin within
-/// the first 64 KiB, or within a piece where that is shorter, and don't end there.
+/// is read has categories, no lines are skipped, no limit and no row index are asked, there are two workers or more and address space for them,
+/// and the rows begin within the first 64 KiB, or within a piece where that is shorter, and don't end there.
 ///
 /// Refuses a source that fails, and one that gives more than 2^36 bytes, whatever the input means; then as `convert` does. Before the last
 /// byte came, nothing is written.

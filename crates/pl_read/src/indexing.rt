@@ -96,8 +96,8 @@ fn index_past(index: Option<&RowIndex>, rows: usize, columns: &[Column]) -> Opti
     }
 }
 
-// The number of rows of columns of one height.
-pub(crate) fn rows_of(columns: &[Column]) -> usize
+/// The number of rows of columns of one height, without taking memory.
+pub fn rows_of(columns: &[Column]) -> usize
     ensures { result ≡ height_of columns.now }
 {
     match columns {
@@ -146,7 +146,7 @@ fn number_behind(offset: u64, before: usize, rows: usize) -> u64
 /// The frame of columns of one height behind their row index, where one is asked, whose numbers begin so many later; with it
 /// their names are distinct. Refuses the last number of the row index up to their end that does not fit 64 bits, or else the
 /// last code of the first column that does not fit 32 (`Index`), and want of memory.
-pub(crate) fn with_index_behind(
+pub fn with_index_behind(
     alloc: Global,
     index: Option<&RowIndex>,
     before: usize,

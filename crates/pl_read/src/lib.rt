@@ -8,7 +8,7 @@ pub mod bytes_reader;
 pub mod checks;
 pub mod chunk;
 pub mod csv_reader;
-mod indexing;
+pub mod indexing;
 pub mod laws;
 pub mod named_columns;
 mod next_frames;

@@ -13,5 +13,5 @@ pub mod plan;
 pub mod range;
 mod row;
 mod row_rest;
-mod stack;
+pub mod stack;
 pub mod whole_pieces;

@@ -13,7 +13,7 @@ use std::marker::Model;
 
 /// A column of which the parts are not linked yet.
 #[derive(Drop)]
-pub(crate) struct Stack {
+pub struct Stack {
     name: PlSmallStr,
     dtype: DataType,
     parts: Vec<Column>,
@@ -32,8 +32,8 @@ impl Model for Stack {
 }
 
 impl Stack {
-    // One without cells.
-    fn new(alloc: Global, name: PlSmallStr, dtype: DataType) -> Stack
+    /// One without cells, without taking memory.
+    pub fn new(alloc: Global, name: PlSmallStr, dtype: DataType) -> Stack
         ensures { result ≡ record { name = name; dtype = dtype; values = [] } }
     {
         Stack {
@@ -64,7 +64,7 @@ impl Stack {
 }
 
 /// A stack without cells for each of these columns of a schema. Refuses only want of memory.
-pub(crate) fn empty_stacks(
+pub fn empty_stacks(
     alloc: Global,
     schema: &Schema,
     places: &[usize],
@@ -87,7 +87,7 @@ pub(crate) fn empty_stacks(
 }
 
 /// Puts a column behind each stack. Refuses only want of memory.
-pub(crate) fn push_columns(stacks: &mut [Stack], columns: Vec<Column>) -> Result<(), AllocError>
+pub fn push_columns(stacks: &mut [Stack], columns: Vec<Column>) -> Result<(), AllocError>
     requires { HaveSameColumns stacks.old columns.items }
     ensures { OnOk result (stacks.new ≡ stacked stacks.old columns.items) }
 {
@@ -100,7 +100,7 @@ pub(crate) fn push_columns(stacks: &mut [Stack], columns: Vec<Column>) -> Result
 }
 
 /// The columns, in which the parts of each stack are linked. Refuses only want of memory.
-pub(crate) fn into_columns(alloc: Global, stacks: Vec<Stack>) -> Result<Vec<Column>, AllocError>
+pub fn into_columns(alloc: Global, stacks: Vec<Stack>) -> Result<Vec<Column>, AllocError>
     ensures { IfOk result (λ columns. columns.items ≡ stacks.items) }
 {
     let mut columns = Vec::new(alloc);

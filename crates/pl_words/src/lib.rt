@@ -11,7 +11,7 @@ mod option_values;
 mod parts;
 mod read_words;
 pub mod schema_text;
-mod splitting;
+pub mod splitting;
 mod type_text;
 pub mod words;
 mod write_words;

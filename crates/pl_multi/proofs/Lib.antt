@@ -1,0 +1,6 @@
+mod HeldLaws
+mod HiveLaws
+mod JoinedLaws
+mod NameLaws
+mod RowsLaws
+mod ScanLaws

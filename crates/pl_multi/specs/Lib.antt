@@ -1,0 +1,4 @@
+pub mod Hive
+pub mod Parts
+pub mod Scan
+pub mod Joining

@@ -1,0 +1,10 @@
+//! Many files read as one: under one schema, one behind the other, numbered over all, and cut to a slice.
+#![tactic(auto)]
+
+mod checking;
+pub mod hive;
+mod joining;
+pub mod part;
+mod paths;
+pub mod scan;
+mod values;

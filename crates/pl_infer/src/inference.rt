@@ -131,13 +131,15 @@ fn sample_of(
         null_values: null_values.as_ref(),
         dates: options.parse_options.try_parse_dates,
     };
-    take_sample(
+    let sample = take_sample(
         alloc,
         data,
         options.infer_schema_length,
         names.len(),
         &rules,
-    )
+    );
+    drop(null_values);
+    sample
 }
 
 // The schema of columns of these names and types. Refuses the first name that an earlier column has, and want of memory.
@@ -153,7 +155,9 @@ fn schema_of_names(
     ensures refused { IfErr result (IsFault (repeated (overwritten_columns (unwrap_or (option_copied other.entry) []) names.now types.now))) }
 {
     let columns = overwritten_columns(alloc, names, types, other)?;
-    schema_of(alloc, &columns)
+    let schema = schema_of(alloc, &columns);
+    drop(columns);
+    schema
 }
 
 // How many bytes stand between the skipped lines and the place just behind the last sampled item; 0 where none is sampled.
@@ -216,14 +220,20 @@ fn infer_types(
     let types = sample.types.dtypes();
     let inferred_schema = match schema_of_names(alloc, names, types, options.schema_overwrite) {
         Ok(schema) => schema,
-        Err(fault) => return Err(fault),
+        Err(fault) => {
+            drop(sample);
+            return Err(fault);
+        }
     };
+    let rows_read = sample.items;
+    let n_threads = workers_left(n_threads, sample.has_long_text);
+    drop(sample);
     Ok(SchemaInferenceResult {
         inferred_schema,
-        rows_read: sample.items,
+        rows_read,
         bytes_read,
         bytes_total: bytes.len(),
-        n_threads: workers_left(n_threads, sample.has_long_text),
+        n_threads,
     })
 }
 
@@ -246,10 +256,9 @@ pub fn infer_schema(
         return Err(PolarsError::NoData(NoDataFault::Empty));
     }
     let names = names_of(alloc, record, options)?;
-    match infer_types(alloc, bytes, names.names(), options, n_threads) {
-        Ok(found) => Ok(found),
-        Err(fault) => Err(fault),
-    }
+    let found = infer_types(alloc, bytes, names.names(), options, n_threads);
+    drop(names);
+    found
 }
 
 /// What inference gives of an input. Refuses bytes that make no dialect (`Dialect`), then lines and rows that are both to be

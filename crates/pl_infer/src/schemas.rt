@@ -13,6 +13,7 @@ use pl_frame::data_type::DataType;
 use pl_frame::error::{ComputeFault, PolarsError, PolarsResult};
 use pl_frame::schema::Schema;
 use pl_options::column_lists::Fields;
+use pl_options::put::put;
 
 /// Gives each name of the overwriting schema its type there. Refuses the first name that the schema does not have
 /// (`ColumnNotFound`), and want of memory; the schema is then unchanged.
@@ -23,7 +24,8 @@ pub fn overwrite_schema(schema: &mut Schema, overwriting_schema: &Schema) -> Pol
     ensures unchanged { OnErr result (schema.new ≡ schema.old) }
 {
     check_names(overwriting_schema, schema)?;
-    *schema = overwritten(schema, overwriting_schema)?;
+    let changed = overwritten(schema, overwriting_schema)?;
+    put(schema, changed);
     Ok(())
 }
 

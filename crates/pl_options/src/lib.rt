@@ -4,6 +4,7 @@
 pub mod column_lists;
 pub mod hive_options;
 pub mod parse_options;
+pub mod put;
 pub mod read_options;
 pub mod reader_bytes;
 pub mod row_index;

@@ -7,6 +7,7 @@ ghost use Rattle.pl_options.specs.FirstCause.{Tells};
 ghost use Rattle.pl_options.specs.Options.{default_parse_options};
 ghost use Rattle.pl_options.specs.Text.{marks_of, comment_of};
 
+use crate::put::put;
 use crate::try_clone::copy_optional;
 use pl_cells::null_values::NullValues;
 use pl_cells::utf8::CsvEncoding;
@@ -63,17 +64,24 @@ impl CsvParseOptions {
         ensures equal { IfOk result (λ options. options ≡ self.now) }
         ensures refused { IsOkUnless result error.OutOfMemory }
     {
-        Ok(CsvParseOptions {
-            separator: self.separator,
-            quote_char: self.quote_char,
-            eol_char: self.eol_char,
-            encoding: self.encoding,
-            null_values: copy_optional(&self.null_values)?,
-            missing_is_null: self.missing_is_null,
-            truncate_ragged_lines: self.truncate_ragged_lines,
-            comment_prefix: copy_optional(&self.comment_prefix)?,
-            try_parse_dates: self.try_parse_dates,
-        })
+        let null_values = copy_optional(&self.null_values)?;
+        match copy_optional(&self.comment_prefix) {
+            Ok(comment_prefix) => Ok(CsvParseOptions {
+                separator: self.separator,
+                quote_char: self.quote_char,
+                eol_char: self.eol_char,
+                encoding: self.encoding,
+                null_values,
+                missing_is_null: self.missing_is_null,
+                truncate_ragged_lines: self.truncate_ragged_lines,
+                comment_prefix,
+                try_parse_dates: self.try_parse_dates,
+            }),
+            Err(fault) => {
+                drop(null_values);
+                Err(fault)
+            }
+        }
     }
 
     /// The bytes that cut a text, without taking memory.
@@ -132,7 +140,7 @@ impl CsvParseOptions {
     pub fn with_null_values(mut self, null_values: Option<NullValues>) -> Self
         ensures { result ≡ record self { null_values = null_values } }
     {
-        self.null_values = null_values;
+        put(&mut self.null_values, null_values);
         self
     }
 
@@ -156,7 +164,7 @@ impl CsvParseOptions {
     pub fn with_comment_prefix(mut self, comment_prefix: Option<CommentPrefix>) -> Self
         ensures { result ≡ record self { comment_prefix = comment_prefix } }
     {
-        self.comment_prefix = comment_prefix;
+        put(&mut self.comment_prefix, comment_prefix);
         self
     }
 

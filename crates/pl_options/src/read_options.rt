@@ -1,12 +1,13 @@
 //! How an input is read.
-ghost use Rattle.std.specs.Prelude.{◌≡◌, IfOk, IsOkUnless};
+ghost use Rattle.std.specs.Prelude.{◌≡◌, IfOk, OnOk, IsOkUnless};
 ghost use Rattle.pl_frame.specs.declared.error.PolarsError.TheVariants as error;
 ghost use Rattle.pl_options.specs.Options.{default_read_options};
 
 use crate::column_lists::{ColumnNames, ColumnPlaces, DataTypes, Fields};
 use crate::parse_options::CsvParseOptions;
+use crate::put::put;
 use crate::row_index::RowIndex;
-use crate::try_clone::copy_optional;
+use crate::try_clone::copy_into;
 use pl_frame::error::PolarsResult;
 use pl_frame::name::PlSmallStr;
 use pl_frame::schema::Schema;
@@ -96,19 +97,27 @@ impl CsvReadOptions {
         ensures equal { IfOk result (λ options. options ≡ self.now) }
         ensures refused { IsOkUnless result error.OutOfMemory }
     {
-        Ok(CsvReadOptions {
-            path: copy_optional(&self.path)?,
+        let fields_to_cast = self.fields_to_cast.try_clone()?;
+        let parse_options = match self.parse_options.try_clone() {
+            Ok(parse_options) => parse_options,
+            Err(fault) => {
+                drop(fields_to_cast);
+                return Err(fault);
+            }
+        };
+        let mut copy = CsvReadOptions {
+            path: None,
             rechunk: self.rechunk,
             n_threads: self.n_threads,
             low_memory: self.low_memory,
             n_rows: self.n_rows,
-            row_index: copy_optional(&self.row_index)?,
-            columns: copy_optional(&self.columns)?,
-            projection: copy_optional(&self.projection)?,
-            schema: copy_optional(&self.schema)?,
-            schema_overwrite: copy_optional(&self.schema_overwrite)?,
-            dtype_overwrite: copy_optional(&self.dtype_overwrite)?,
-            parse_options: self.parse_options.try_clone()?,
+            row_index: None,
+            columns: None,
+            projection: None,
+            schema: None,
+            schema_overwrite: None,
+            dtype_overwrite: None,
+            parse_options,
             has_header: self.has_header,
             chunk_size: self.chunk_size,
             skip_rows: self.skip_rows,
@@ -117,8 +126,37 @@ impl CsvReadOptions {
             infer_schema_length: self.infer_schema_length,
             raise_if_empty: self.raise_if_empty,
             ignore_errors: self.ignore_errors,
-            fields_to_cast: self.fields_to_cast.try_clone()?,
-        })
+            fields_to_cast,
+        };
+        match self.copy_optional_into(&mut copy) {
+            Ok(()) => Ok(copy),
+            Err(fault) => {
+                drop(copy);
+                Err(fault)
+            }
+        }
+    }
+
+    // Copies what may be absent into other options, but for those of the parse. Refuses only want of memory.
+    fn copy_optional_into(&self, copy: &mut CsvReadOptions) -> PolarsResult<()>
+        ensures copied { OnOk result (copy.new ≡ record copy.old {
+          path = self.now.path;
+          row_index = self.now.row_index;
+          columns = self.now.columns;
+          projection = self.now.projection;
+          schema = self.now.schema;
+          schema_overwrite = self.now.schema_overwrite;
+          dtype_overwrite = self.now.dtype_overwrite;
+        }) }
+        ensures refused { IsOkUnless result error.OutOfMemory }
+    {
+        copy_into(&self.path, &mut copy.path)?;
+        copy_into(&self.row_index, &mut copy.row_index)?;
+        copy_into(&self.columns, &mut copy.columns)?;
+        copy_into(&self.projection, &mut copy.projection)?;
+        copy_into(&self.schema, &mut copy.schema)?;
+        copy_into(&self.schema_overwrite, &mut copy.schema_overwrite)?;
+        copy_into(&self.dtype_overwrite, &mut copy.dtype_overwrite)
     }
 
     /// The options of the parse, without taking memory.
@@ -146,7 +184,7 @@ impl CsvReadOptions {
     pub fn with_path(mut self, path: Option<PlSmallStr>) -> Self
         ensures { result ≡ record self { path = path } }
     {
-        self.path = path;
+        put(&mut self.path, path);
         self
     }
 
@@ -186,7 +224,7 @@ impl CsvReadOptions {
     pub fn with_row_index(mut self, row_index: Option<RowIndex>) -> Self
         ensures { result ≡ record self { row_index = row_index } }
     {
-        self.row_index = row_index;
+        put(&mut self.row_index, row_index);
         self
     }
 
@@ -194,7 +232,7 @@ impl CsvReadOptions {
     pub fn with_columns(mut self, columns: Option<ColumnNames>) -> Self
         ensures { result ≡ record self { columns = columns } }
     {
-        self.columns = columns;
+        put(&mut self.columns, columns);
         self
     }
 
@@ -202,7 +240,7 @@ impl CsvReadOptions {
     pub fn with_projection(mut self, projection: Option<ColumnPlaces>) -> Self
         ensures { result ≡ record self { projection = projection } }
     {
-        self.projection = projection;
+        put(&mut self.projection, projection);
         self
     }
 
@@ -210,7 +248,7 @@ impl CsvReadOptions {
     pub fn with_schema(mut self, schema: Option<Schema>) -> Self
         ensures { result ≡ record self { schema = schema } }
     {
-        self.schema = schema;
+        put(&mut self.schema, schema);
         self
     }
 
@@ -218,7 +256,7 @@ impl CsvReadOptions {
     pub fn with_schema_overwrite(mut self, schema_overwrite: Option<Schema>) -> Self
         ensures { result ≡ record self { schema_overwrite = schema_overwrite } }
     {
-        self.schema_overwrite = schema_overwrite;
+        put(&mut self.schema_overwrite, schema_overwrite);
         self
     }
 
@@ -226,7 +264,7 @@ impl CsvReadOptions {
     pub fn with_dtype_overwrite(mut self, dtype_overwrite: Option<DataTypes>) -> Self
         ensures { result ≡ record self { dtype_overwrite = dtype_overwrite } }
     {
-        self.dtype_overwrite = dtype_overwrite;
+        put(&mut self.dtype_overwrite, dtype_overwrite);
         self
     }
 
@@ -234,7 +272,7 @@ impl CsvReadOptions {
     pub fn with_parse_options(mut self, parse_options: CsvParseOptions) -> Self
         ensures { result ≡ record self { parse_options = parse_options } }
     {
-        self.parse_options = parse_options;
+        put(&mut self.parse_options, parse_options);
         self
     }
 

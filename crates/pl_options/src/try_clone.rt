@@ -1,7 +1,8 @@
 //! Values of which an equal one can be made.
-ghost use Rattle.std.specs.Prelude.{◌≡◌, IfOk, IsOkUnless};
+ghost use Rattle.std.specs.Prelude.{◌≡◌, IfOk, OnOk, IsOkUnless};
 ghost use Rattle.pl_frame.specs.declared.error.PolarsError.TheVariants as error;
 
+use crate::put::put;
 use pl_cells::null_values::NullValues;
 use pl_frame::data_type::DataType;
 use pl_frame::error::{PolarsError, PolarsResult};
@@ -26,6 +27,23 @@ pub fn copy_optional<T: TryClone>(value: &Option<T>) -> PolarsResult<Option<T>>
     match value {
         Some(value) => Ok(Some(value.try_clone()?)),
         None => Ok(None),
+    }
+}
+
+/// Puts an equal value, where there is one, in the place of another. Refuses only want of memory.
+pub(crate) fn copy_into<T: TryClone + Drop>(
+    value: &Option<T>,
+    place: &mut Option<T>,
+) -> PolarsResult<()>
+    ensures copied { OnOk result (place.new ≡ value.now) }
+    ensures refused { IsOkUnless result error.OutOfMemory }
+{
+    match copy_optional(value) {
+        Ok(copy) => {
+            put(place, copy);
+            Ok(())
+        }
+        Err(fault) => Err(fault),
     }
 }
 

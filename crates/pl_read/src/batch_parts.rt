@@ -7,6 +7,7 @@ ghost use Rattle.pl_read.specs.NextFrames.{AreParts, CanReadPart};
 
 use crate::batch_ranges::range_len;
 use pl_frame::schema::Schema;
+use pl_options::put::put;
 use pl_options::read_options::CsvReadOptions;
 use pl_rows::columns::{RangeColumns, read_columns};
 use pl_rows::plan::RangePlan;
@@ -40,10 +41,11 @@ impl<'a> Part<'a> {
         ensures text { self.new.text.now ≡ self.old.text.now }
         ensures read { IfSome self.new.read (IsRangeRead plan.now schema.now self.old.text.now) }
     {
-        self.read = match read_columns(alloc, schema, self.text, plan) {
+        let read = match read_columns(alloc, schema, self.text, plan) {
             Ok(read) => Some(read),
             Err(_) => None,
         };
+        put(&mut self.read, read);
     }
 }
 
@@ -63,8 +65,13 @@ pub(crate) fn whole_part<'a>(
     ensures { IfOk result (λ parts. parts.items ≡ record { text = text.entry; read = read } ∷ []) }
 {
     let mut parts = Vec::new(alloc);
-    parts.push(Part { text, read })?;
-    Ok(parts)
+    match parts.push(Part { text, read }) {
+        Ok(()) => Ok(parts),
+        Err(_) => {
+            drop(parts);
+            Err(AllocError)
+        }
+    }
 }
 
 /// The parts of the text of the next batches, which are not read: the first `n` ranges of what is left, or all where there are fewer.

@@ -59,7 +59,11 @@ impl<'a> BatchedCsvReader<'a> {
     {
         match check_options(&options) {
             Ok(()) => BatchedCsvReader::open_checked(alloc, bytes, options),
-            Err(fault) => Err(fault),
+            Err(fault) => {
+                drop(options);
+                drop(bytes);
+                Err(fault)
+            }
         }
     }
 
@@ -86,7 +90,11 @@ impl<'a> BatchedCsvReader<'a> {
                     fault: None,
                 })
             }
-            Err(fault) => Err(fault),
+            Err(fault) => {
+                drop(options);
+                drop(bytes);
+                Err(fault)
+            }
         }
     }
 
@@ -125,7 +133,10 @@ impl<'a> BatchedCsvReader<'a> {
                 self.fault = Some(fault);
                 Err(PolarsError::ComputeError(fault))
             }
-            Err(_) => Err(PolarsError::OutOfMemory),
+            Err(fault) => {
+                drop(fault);
+                Err(PolarsError::OutOfMemory)
+            }
         }
     }
 

@@ -150,7 +150,10 @@ impl<R: MmapBytesReader> CsvReader<R> {
         let bytes = lent_or_read(&self.reader, read);
         match self.options.try_clone() {
             Ok(options) => BatchedCsvReader::open(self.alloc, bytes, options),
-            Err(_) => Err(PolarsError::OutOfMemory),
+            Err(fault) => {
+                drop(bytes);
+                Err(fault)
+            }
         }
     }
 
@@ -198,7 +201,11 @@ impl<R: MmapBytesReader> CsvReader<R> {
         ensures options { self.new.options ≡ self.old.options }
     {
         match self.finish_gated(rt, &OpenGate) {
-            Ok(frame) => rows_wanted(self.alloc, &frame, predicate),
+            Ok(frame) => {
+                let wanted = rows_wanted(self.alloc, &frame, predicate);
+                drop(frame);
+                wanted
+            }
             Err(fault) => Err(fault),
         }
     }
@@ -234,7 +241,9 @@ fn read_source<R: MmapBytesReader, W: Threads + Wait + Sync, G: Gate + Sync>(
         Err(fault) => return Err(fault),
     };
     let input = lent_or_read(reader, read);
-    read_frame(rt, alloc, gate, input.bytes(), options)
+    let frame = read_frame(rt, alloc, gate, input.bytes(), options);
+    drop(input);
+    frame
 }
 
 // Options under a schema in place of their own, where one is given. Refuses only want of memory.
@@ -242,11 +251,16 @@ fn options_under(options: &CsvReadOptions, schema: Option<Schema>) -> PolarsResu
     ensures options { IfOk result (λ given. given ≡ options_under schema options.now) }
     ensures refused { IsOkUnless result error.OutOfMemory }
 {
-    let mut options = options.try_clone()?;
-    if let Some(schema) = schema {
-        options.schema = Some(schema);
+    match options.try_clone() {
+        Ok(options) => Ok(match schema {
+            Some(schema) => options.with_schema(Some(schema)),
+            None => options,
+        }),
+        Err(fault) => {
+            drop(schema);
+            Err(fault)
+        }
     }
-    Ok(options)
 }
 
 // The bytes of an input, owned. Refuses only want of memory.
@@ -275,7 +289,10 @@ fn open_under(
 {
     let options = match options_under(options, schema) {
         Ok(options) => options,
-        Err(_) => return Err(PolarsError::OutOfMemory),
+        Err(fault) => {
+            drop(bytes);
+            return Err(fault);
+        }
     };
     OwnedBatchedCsvReader::open(alloc, bytes, options)
 }
@@ -294,7 +311,7 @@ fn read_owned<R: MmapBytesReader>(alloc: Global, reader: &mut R) -> PolarsResult
     };
     match owned_bytes(alloc, lent_or_read(reader, read)) {
         Ok(bytes) => Ok(bytes),
-        Err(_) => Err(PolarsError::OutOfMemory),
+        Err(fault) => Err(fault),
     }
 }
 

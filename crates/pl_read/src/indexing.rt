@@ -1,12 +1,12 @@
 //! The row index before the columns, numbers that do not fit 64 bits, and codes that do not fit 32.
-ghost use Rattle.std.specs.Prelude.{◌≡◌, ◌<◌, ◌≤◌, ◌+◌, ◌^◌, nat_lt, IfOk, OnOk, IfErr, None, map};
+ghost use Rattle.std.specs.Prelude.{◌≡◌, ◌<◌, ◌≤◌, ◌+◌, ◌^◌, ◌∷◌, nat_lt, IfOk, OnOk, IfErr, IsOkUnless, None, map};
 ghost use Rattle.std.specs.Option.{option_copied};
 ghost use Rattle.pl_frame.specs.Frame.{IsFrame, height_of};
 ghost use Rattle.pl_frame.specs.declared.error.ComputeFault.TheVariants as compute_fault;
 ghost use Rattle.pl_frame.specs.declared.error.PolarsError.TheVariants as error;
 ghost use Rattle.pl_options.specs.FirstCause.{when, first_some, IsFault};
 ghost use Rattle.pl_infer.specs.Schemas.{is_categorical};
-ghost use Rattle.pl_frame.specs.RowIndex.{row_numbers};
+ghost use Rattle.pl_frame.specs.RowIndex.{row_numbers, row_index_column};
 ghost use Rattle.pl_read.specs.Batches.{index_behind};
 ghost use Rattle.pl_read.specs.Refusals.{numbers_past, codes_past, index_past};
 ghost use Rattle.pl_read.specs.Rows.{with_index};
@@ -106,6 +106,56 @@ pub fn rows_of(columns: &[Column]) -> usize
     }
 }
 
+// The column of a row index of so many rows, whose numbers begin with an offset. Refuses only want of memory.
+fn numbers_of(alloc: Global, index: &RowIndex, offset: u64, rows: usize) -> PolarsResult<Column>
+    requires { offset + rows ≤ 2 ^ 64 }
+    ensures column { IfOk result (λ column. column ≡ row_index_column index.now.name offset rows) }
+    ensures refused { IsOkUnless result error.OutOfMemory }
+{
+    match index.name.try_clone() {
+        Ok(name) => Column::row_numbers(alloc, name, offset, rows),
+        Err(fault) => Err(fault),
+    }
+}
+
+// The frame of a column and others behind it. Refuses only want of memory.
+fn put_in_front(first: Column, columns: Vec<Column>) -> PolarsResult<DataFrame>
+    requires { IsFrame (first ∷ columns.items) }
+    ensures frame { IfOk result (λ frame. frame ≡ first ∷ columns.items) }
+    ensures refused { IsOkUnless result error.OutOfMemory }
+{
+    let mut columns = columns;
+    match columns.insert(0, first) {
+        Ok(()) => Ok(DataFrame::of_distinct(columns)),
+        Err(_) => {
+            drop(columns);
+            Err(PolarsError::OutOfMemory)
+        }
+    }
+}
+
+// The frame of columns of one height behind the column of a row index, whose numbers begin with an offset. Refuses only want of memory.
+fn with_numbers(
+    alloc: Global,
+    index: &RowIndex,
+    offset: u64,
+    columns: Vec<Column>,
+) -> PolarsResult<DataFrame>
+    requires fits { offset + height_of columns.items ≤ 2 ^ 64 }
+    requires frame { IsFrame (row_index_column index.now.name offset (height_of columns.items) ∷ columns.items) }
+    ensures frame { IfOk result (λ frame. frame ≡ row_index_column index.now.name offset (height_of columns.items) ∷ columns.items) }
+    ensures refused { IsOkUnless result error.OutOfMemory }
+{
+    let rows = rows_of(&columns);
+    match numbers_of(alloc, index, offset, rows) {
+        Ok(numbers) => put_in_front(numbers, columns),
+        Err(fault) => {
+            drop(columns);
+            Err(fault)
+        }
+    }
+}
+
 /// The frame of columns of one height behind their row index, where one is asked; with it their names are distinct. Refuses
 /// the last number of the row index that does not fit 64 bits, or else the last code of the first column that does not fit 32
 /// (`Index`), and want of memory.
@@ -121,17 +171,13 @@ pub fn with_index(
 {
     let rows = rows_of(&columns);
     if let Some(fault) = index_past(index, rows, &columns) {
+        drop(columns);
         return Err(fault);
     }
     let Some(index) = index else {
         return Ok(DataFrame::of_distinct(columns));
     };
-    let numbers = Column::row_numbers(alloc, index.name.try_clone()?, index.offset, rows)?;
-    let mut columns = columns;
-    match columns.insert(0, numbers) {
-        Ok(()) => Ok(DataFrame::of_distinct(columns)),
-        Err(_) => Err(PolarsError::OutOfMemory),
-    }
+    with_numbers(alloc, index, index.offset, columns)
 }
 
 // The number so many behind another, of so many rows; where there are none it may be any.
@@ -160,16 +206,12 @@ pub fn with_index_behind(
 {
     let rows = rows_of(&columns);
     if let Some(fault) = index_past(index, before + rows, &columns) {
+        drop(columns);
         return Err(fault);
     }
     let Some(index) = index else {
         return Ok(DataFrame::of_distinct(columns));
     };
     let offset = number_behind(index.offset, before, rows);
-    let numbers = Column::row_numbers(alloc, index.name.try_clone()?, offset, rows)?;
-    let mut columns = columns;
-    match columns.insert(0, numbers) {
-        Ok(()) => Ok(DataFrame::of_distinct(columns)),
-        Err(_) => Err(PolarsError::OutOfMemory),
-    }
+    with_numbers(alloc, index, offset, columns)
 }

@@ -106,6 +106,7 @@ impl<'b> Behind<'b> {
         ensures { IfOk result (λ read. AreReadParts self.now text.now (length parts.entry.items) read.items) }
     {
         if parts.len() == 1 || self.options.n_rows.is_some() {
+            drop(parts);
             return self.read_whole(rt, alloc, workers, text);
         }
         let mut parts = parts;
@@ -160,15 +161,23 @@ impl<'b> Behind<'b> {
         let mut before = self.rows;
         while let Some(part) = parts.pop() {
             let Some(read) = part.into_read() else {
+                drop(parts);
+                drop(frames);
                 return Err(PolarsError::OutOfMemory);
             };
             let index = self.options.row_index.as_ref();
             let count = rows_of(&read.columns);
             let frame = match with_index_behind(alloc, index, before, read.columns) {
                 Ok(frame) => frame,
-                Err(fault) => return Err(fault),
+                Err(fault) => {
+                    drop(parts);
+                    drop(frames);
+                    return Err(fault);
+                }
             };
             if frames.push(frame).is_err() {
+                drop(parts);
+                drop(frames);
                 return Err(PolarsError::OutOfMemory);
             }
             before += count;
@@ -187,9 +196,13 @@ impl<'b> Behind<'b> {
     {
         let rows = match self.judge(&parts) {
             Ok(rows) => rows,
-            Err(fault) => return Err(fault),
+            Err(fault) => {
+                drop(parts);
+                return Err(fault);
+            }
         };
         if let Some(fault) = numbers_past(self.options.row_index.as_ref(), self.rows + rows) {
+            drop(parts);
             return Err(fault);
         }
         match self.frames(alloc, parts) {

@@ -9,8 +9,8 @@ ghost use Rattle.pl_read.specs.Projection.{asked, projected, taken_name};
 ghost use Rattle.pl_read.specs.Refusals.{nothing_read};
 ghost use Rattle.pl_read.specs.Steps.{MayRead, opening_cause, settled_cause, asked_cause};
 
-use crate::nulls::null_values_of;
-use crate::projecting::{asked_places, projected_places};
+use crate::nulls::named_in;
+use crate::projecting::projected_places;
 use crate::settling::settled_schema;
 use pl_cells::null_values::NullValuesCompiled;
 use pl_frame::compression::is_compressed;
@@ -114,9 +114,16 @@ fn prepare_settled(
     ensures sound { OnOk result (settled_cause options.now schema input.now ≡ None) }
     ensures refused { IfErr result (IsFault (settled_cause options.now schema input.now)) }
 {
-    let null_values = null_values_of(alloc, options, &schema)?;
-    let asked = asked_places(alloc, options, &schema)?;
+    let (null_values, asked) = match named_in(alloc, options, &schema) {
+        Ok(named) => named,
+        Err(fault) => {
+            drop(schema);
+            return Err(fault);
+        }
+    };
     let Some(start) = start_of(input, options) else {
+        drop(null_values);
+        drop(schema);
         return Err(PolarsError::NoData(NoDataFault::Skip));
     };
     match places_read(alloc, &input[start..], options, &schema, &asked) {
@@ -127,7 +134,11 @@ fn prepare_settled(
             places,
             start,
         }),
-        Err(fault) => Err(fault),
+        Err(fault) => {
+            drop(null_values);
+            drop(schema);
+            Err(fault)
+        }
     }
 }
 

@@ -81,9 +81,14 @@ impl ReaderMakers for CsvReadOptions {
         O::Opened: MmapBytesReader,
     {
         let given = given_path(self.path.as_ref(), path.as_ref());
-        match opener.open_path(given) {
+        let opened = opener.open_path(given);
+        drop(path);
+        match opened {
             Ok(source) => Ok(self.into_reader_with_file_handle(alloc, source)),
-            Err(_) => Err(PolarsError::IO),
+            Err(_) => {
+                drop(self);
+                Err(PolarsError::IO)
+            }
         }
     }
 }

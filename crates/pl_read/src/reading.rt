@@ -152,6 +152,7 @@ fn read_data<W: Threads + Wait + Sync, G: Gate + Sync>(
     };
     match read.end {
         RangeEnd::Fault { row, column, kind } => {
+            drop(read.columns);
             Err(PolarsError::ComputeError(ComputeFault::Record { row, column, kind }))
         }
         RangeEnd::Closed | RangeEnd::Open => {

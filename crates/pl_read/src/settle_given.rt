@@ -5,8 +5,8 @@ ghost use Rattle.pl_read.specs.SettleGiven.{given_schema, given_causes, settled_
 ghost use Rattle.pl_read.specs.Steps.{MayRead};
 
 use crate::checks::check_options;
-use crate::nulls::null_values_of;
-use crate::projecting::{asked_places, projected_places};
+use crate::nulls::named_in;
+use crate::projecting::projected_places;
 use crate::settling::with_given_types;
 use pl_cells::null_values::NullValuesCompiled;
 use pl_frame::error::PolarsResult;
@@ -76,14 +76,23 @@ fn settle_columns(alloc: Global, read: &CsvReadOptions, schema: Schema) -> Polar
     ensures sound { OnOk result (first_some (column_causes read.now schema) ≡ None) }
     ensures refused { IfErr result (IsFault (first_some (column_causes read.now schema))) }
 {
-    let null_values = null_values_of(alloc, read, &schema)?;
-    let asked = asked_places(alloc, read, &schema)?;
+    let (null_values, asked) = match named_in(alloc, read, &schema) {
+        Ok(named) => named,
+        Err(fault) => {
+            drop(schema);
+            return Err(fault);
+        }
+    };
     match projected_places(alloc, read, &schema, &asked) {
         Ok(projection) => Ok(Settled {
             schema,
             projection,
             null_values,
         }),
-        Err(fault) => Err(fault),
+        Err(fault) => {
+            drop(null_values);
+            drop(schema);
+            Err(fault)
+        }
     }
 }

@@ -93,15 +93,20 @@ pub(crate) fn with_given_types(options: &CsvReadOptions, given: Schema) -> Polar
 {
     let types = given_types(options);
     if types.len() > given.len() {
+        let columns = given.len();
+        drop(given);
         return Err(PolarsError::InvalidOperation(OpFault::Overrides {
             given: types.len(),
-            columns: given.len(),
+            columns,
         }));
     }
     let mut schema = given;
     put_types(&mut schema, types)?;
     match find_unreadable(&schema) {
-        Some(column) => Err(PolarsError::ComputeError(ComputeFault::Dtype { column })),
+        Some(column) => {
+            drop(schema);
+            Err(PolarsError::ComputeError(ComputeFault::Dtype { column }))
+        }
         None => Ok(schema),
     }
 }

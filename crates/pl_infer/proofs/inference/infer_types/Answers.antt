@@ -24,7 +24,7 @@ returns-clause-inferred c =
     let columns = columns-are i input names c.dtypes-types.result.now records c.requires.names c.data_in-data.ensures (c.dtypes-types.ensures ∙ c.in_ok-sample.ensures.types) in
     let items = c.in_ok-sample.ensures.items ∙ ap (λ left. length (sample_of i left)) c.data_in-data.ensures in
     let long = c.in_ok-sample.ensures.long ∙ ap (has_long_texts i names) c.data_in-data.ensures ∙ ap (λ ns. has_long_texts i ns (data_in i input)) c.requires.names in
-    ap (λ workers. record { inferred_schema = c.in-Ok.schema; rows_read = c.in_ok-sample.sample.items; bytes_read = c.sampled_bytes-bytes_read.result; bytes_total = length input; n_threads = workers }) c.workers_left.ensures
+    ap (λ workers. record { inferred_schema = c.in-Ok.schema; rows_read = c.in_ok-sample.sample.items; bytes_read = c.sampled_bytes-bytes_read.result; bytes_total = length input; n_threads = workers }) c.workers_left-n_threads.ensures
     ∙ result-is i c.args.n_threads input c.in-Ok.schema c.in_ok-sample.sample.items c.sampled_bytes-bytes_read.result c.in_ok-sample.sample.has_long_text
     (c.in-Ok.ensures.schema ∙ columns) items c.sampled_bytes-bytes_read.ensures long
 

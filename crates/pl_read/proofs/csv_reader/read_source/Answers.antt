@@ -11,12 +11,12 @@ returns g c =
     let now = c.read_unlent.new.reader in
     let o = c.args.options.now in
     let input = c.bytes.result.now in
-    let result = c.read_frame.result in
+    let result = c.read_frame-frame.result in
     let is : IsInput (lent before) (left before) (left now) input = search (rules, is-input) in
     record {
-      frame = frame-is lent left before now o result input is c.read_frame.ensures;
-      refused = refused-is lent left g.R.Source.faults before now o result input is c.read_frame.ensures;
-      complete = complete-of (lent before) (left before) (left now) o result input _ _ is c.read_frame.ensures;
+      frame = frame-is lent left before now o result input is c.read_frame-frame.ensures;
+      refused = refused-is lent left g.R.Source.faults before now o result input is c.read_frame-frame.ensures;
+      complete = complete-of (lent before) (left before) (left now) o result input _ _ is c.read_frame-frame.ensures;
       lent = search rules;
       read_on = search rules;
       later = search rules;

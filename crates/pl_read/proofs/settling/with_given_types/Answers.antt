@@ -15,7 +15,7 @@ returns-then-types-len-clause-refused c =
     let given = c.args.given in
     inl (types-overrides c.args.options.now given (omega (arith, c.if-types-len.true, c.len.ensures.len, ap length c.given_types-types.ensures))
     ∙ ap (λ (types : List DataType). Some (error.InvalidOperation (op_fault.Overrides (length types) (length given)))) (sym c.given_types-types.ensures)
-    ∙ ap (λ n. Some (error.InvalidOperation (op_fault.Overrides (length c.given_types-types.result.now) n))) (sym c.len-then-types-len.ensures.len))
+    ∙ ap (λ n. Some (error.InvalidOperation (op_fault.Overrides (length c.given_types-types.result.now) n))) (sym c.len-columns.ensures.len))
 
 pub returns-in-Some-clause-refused : goal.returns-in-Some-clause-refused
 returns-in-Some-clause-refused c =

@@ -22,7 +22,7 @@ returns-in-Ok-clause-opened c =
     opened-is o input c.in-Ok.prepared c.requires (subst (λ (given : List ℕ). opening_cause o (settled_schema o given) given ≡ None) c.bytes.ensures c.in-Ok.ensures.sound)
     (subst (λ (given : List ℕ). IsPrepared o (settled_schema o given) given c.in-Ok.prepared) c.bytes.ensures c.in-Ok.ensures.prepared)
 
-pub returns-clause-refused : goal.returns-clause-refused
-returns-clause-refused c =
+pub returns-in-Err-clause-refused : goal.returns-in-Err-clause-refused
+returns-in-Err-clause-refused c =
     let o = c.args.options in
     refused-opening o (bytes_in c.args.bytes) c.in-Err.fault c.requires (subst (λ (given : List ℕ). IsFault (opening_cause o (settled_schema o given) given) c.in-Err.fault) c.bytes.ensures c.in-Err.ensures.refused)

@@ -17,7 +17,7 @@ returns-clause-frame g c =
     elim c.match-finish_gated.branch [
       | in-Ok w ↦
           subst (λ (r : Result (List ColumnValue) PolarsError). IfOk r Wanted) (sym w.result-is)
-          (IfOk-weaker w.rows_wanted.result (λ frame. frame ≡ rows_wanted wants w.in-Ok.frame) Wanted
-          (λ frame is. tested-of g.R.MmapBytesReader.lent g.R.Source.left c.args.self.now.source c.finish_gated.new.self.source wants c.args.self.now.options w.in-Ok.frame frame w.in-Ok.ensures.frame is) w.rows_wanted.ensures.rows)
+          (IfOk-weaker w.rows_wanted-wanted.result (λ frame. frame ≡ rows_wanted wants w.in-Ok.frame) Wanted
+          (λ frame is. tested-of g.R.MmapBytesReader.lent g.R.Source.left c.args.self.now.source c.finish_gated.new.self.source wants c.args.self.now.options w.in-Ok.frame frame w.in-Ok.ensures.frame is) w.rows_wanted-wanted.ensures.rows)
       | in-Err w ↦ subst (λ (r : Result (List ColumnValue) PolarsError). IfOk r Wanted) (sym w.result-is) tt
     ]

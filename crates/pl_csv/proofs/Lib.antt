@@ -13,5 +13,6 @@ pub mod OutcomeLaws
 pub mod ReturnLaws
 pub mod RunLaws
 pub mod SourceLaws
+pub mod StatusLaws
 pub mod TellLaws
 pub mod TranscodeLaws

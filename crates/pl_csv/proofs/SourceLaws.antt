@@ -26,8 +26,8 @@ use Rattle.pl_read.proofs.SettlingLaws.{late-data}
 use Rattle.pl_rows.specs.declared.plan.RangePlan.{RangePlan}
 use Rattle.pl_regions.specs.declared.printing.PrintedRows.{PrintedRows}
 use Rattle.pl_regions.specs.Printing.{IsPrinted}
-use Rattle.pl_regions.specs.Intake as intake
-use Rattle.pl_regions.specs.declared.intake.Intake.{Intake}
+use Rattle.pl_intake.specs.Intake as intake
+use Rattle.pl_intake.specs.declared.intake.Intake.{Intake}
 use Rattle.pl_write.specs.Options.{cell_options, frame_options}
 use Rattle.pl_write.specs.Printed.{printed_text}
 use Rattle.pl_write.specs.declared.options.CsvWriterOptions.{CsvWriterOptions}

@@ -57,3 +57,18 @@ pub telling-told : (text : List ℕ) (answer : Bool) (before now : SinkView) →
     → IsTold text before now
 telling-told text true before now told = inl (told.all refl)
 telling-told text false before now told = inr (told.part, told.rose refl)
+
+-- the first text was told, and then another, or a prefix of it
+pub told-then : (text other : List ℕ) (before between now : SinkView) → IsTelling true text before between → IsTold other between now → IsTold (text ++ other) before now
+told-then text other before between now told (inl more) = inl (Appends-more before.received between.received now.received text other (told.all refl) more)
+told-then text other before between now told (inr (part, rose)) = inr (prefix part, by rose)
+  where
+    prefix : AppendsPrefix between.received now.received other → AppendsPrefix before.received now.received (text ++ other)
+    prefix (n, part) =
+        AppendsPrefix-from before.received now.received (text ++ take n other) (drop n other) (text ++ other)
+        (append_assoc text (take n other) (drop n other) ∙ ap (λ l. text ++ l) (take-append-drop n other))
+        (Appends-more before.received between.received now.received text (take n other) (told.all refl) part)
+
+    by : Rose between.faults now.faults ⊎ Rose between.wants now.wants → Rose before.faults now.faults ⊎ Rose before.wants now.wants
+    by (inl r) = inl (Rose-earlier before.faults between.faults now.faults told.later r)
+    by (inr r) = inr (Rose-earlier before.wants between.wants now.wants told.later_wants r)

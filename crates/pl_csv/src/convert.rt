@@ -206,25 +206,25 @@ fn print_prepared<'a, W: Threads + Wait + Sync>(
     alloc: Global,
     input: &'a [u8],
     read: &CsvReadOptions,
-    prepared: Prepared,
+    prepared: &mut Prepared,
     write: &CsvWriterOptions,
 ) -> PolarsResult<Printed<'a>>
     requires allowed { MayRead read.now }
-    requires prepared { IsPrepared read.now prepared.schema input.now prepared }
+    requires prepared { IsPrepared read.now prepared.old.schema input.now prepared.old }
     ensures text { IfOk result (λ printed. printed_text (frame_options write.now) (names_of printed.rest) (map cow_slice_items printed.lines.items) printed.rest
-        ≡ text_of_frame (frame_options write.now) (data_frame read.now prepared.schema (drop prepared.start input.now))) }
-    ensures sound { OnOk result (data_cause read.now prepared.schema (drop prepared.start input.now) ≡ None) }
-    ensures refused { IfErr result (IsFault (data_cause read.now prepared.schema (drop prepared.start input.now))) }
+        ≡ text_of_frame (frame_options write.now) (data_frame read.now prepared.old.schema (drop prepared.old.start input.now))) }
+    ensures sound { OnOk result (data_cause read.now prepared.old.schema (drop prepared.old.start input.now) ≡ None) }
+    ensures refused { IfErr result (IsFault (data_cause read.now prepared.old.schema (drop prepared.old.start input.now))) }
 {
-    let mut prepared = prepared;
     let workers = count_with_space(alloc, worker_count(prepared.n_threads), input.len());
     prepared.n_threads = Some(workers);
-    let printed = print_by(rt, alloc, input, read, &prepared, write);
-    if workers > 1 && matches!(printed, Err(PolarsError::OutOfMemory)) {
-        prepared.n_threads = Some(1);
-        return print_by(rt, alloc, input, read, &prepared, write);
+    match print_by(rt, alloc, input, read, prepared, write) {
+        Err(PolarsError::OutOfMemory) if workers > 1 => {
+            prepared.n_threads = Some(1);
+            print_by(rt, alloc, input, read, prepared, write)
+        }
+        printed => printed,
     }
-    printed
 }
 
 // What an input is, where the options may stand and the quote of the output is ASCII.
@@ -242,7 +242,12 @@ fn print_checked<'a, W: Threads + Wait + Sync>(
     ensures refused { IfErr result (IsFault (late_cause read.now (settled_schema read.now input.now) input.now)) }
 {
     match prepare(alloc, input, read) {
-        Ok(prepared) => print_prepared(rt, alloc, input, read, prepared, write),
+        Ok(prepared) => {
+            let mut prepared = prepared;
+            let printed = print_prepared(rt, alloc, input, read, &mut prepared, write);
+            drop(prepared);
+            printed
+        }
         Err(fault) => Err(fault),
     }
 }
@@ -290,7 +295,9 @@ pub fn convert<W: Threads + Wait + Sync, S: Sink>(
     ensures later_wants { S.wants sink.old ≤ S.wants sink.new }
 {
     let printed = print_valid(rt, alloc, input, read, write)?;
-    write_printed(rt, alloc, &printed, read, write, sink)
+    let written = write_printed(rt, alloc, &printed, read, write, sink);
+    drop(printed);
+    written
 }
 
 /// Writes the text of what was read and printed to a sink. Refuses a fault of the sink (`IO`), and want of memory; the sink then received

@@ -12,14 +12,14 @@ use crate::worker_space::count_with_space;
 use pl_frame::error::PolarsError;
 use pl_frame::sink::Sink;
 use pl_frame::source::Source;
+use pl_intake::intake::Intake;
+use pl_intake::texts::make_cells;
 use pl_options::read_options::CsvReadOptions;
 use pl_read::checks::check_options;
 use pl_read::preparing::{Prepared, prepare};
 use pl_read::reading::plan_of;
 use pl_read::workers::{piece_size_for, worker_count};
 use pl_regions::arriving::print_arriving;
-use pl_regions::intake::Intake;
-use pl_regions::texts::make_cells;
 use pl_write::options::CsvWriterOptions;
 use std::alloc::Global;
 use std::sync::{OnceLock, Wait};
@@ -96,16 +96,20 @@ fn prepare_ahead(
     if is_all || first.len() < 4 || first[first.len() - 1] != read.parse_options.eol_char {
         return None;
     }
-    let Ok(prepared) = prepare(alloc, first, read) else {
-        return None;
-    };
-    if count_with_space(alloc, worker_count(prepared.n_threads), FIRST) == 1 {
-        return None;
+    match prepare(alloc, first, read) {
+        Ok(prepared) => {
+            let workers = count_with_space(alloc, worker_count(prepared.n_threads), FIRST);
+            if workers > 1 && prepared.start < first.len() && is_row_by_row(read, &prepared) {
+                return Some(prepared);
+            }
+            drop(prepared);
+            None
+        }
+        Err(fault) => {
+            drop(fault);
+            None
+        }
     }
-    if prepared.start < first.len() && is_row_by_row(read, &prepared) {
-        return Some(prepared);
-    }
-    None
 }
 
 // Reads what is left of a source, and converts the input: what was kept of it before, and what comes.
@@ -136,7 +140,9 @@ fn convert_whole<W: Threads + Wait + Sync, So: Source, S: Sink>(
         return Err(unread(fault));
     }
     let input = intake.into_rest();
-    match convert(rt, alloc, &input, read, write, sink) {
+    let converted = convert(rt, alloc, &input, read, write, sink);
+    drop(input);
+    match converted {
         Ok(()) => Ok(()),
         Err(fault) => Err(Unconverted::Polars(fault)),
     }

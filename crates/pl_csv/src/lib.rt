@@ -14,7 +14,7 @@ mod making;
 pub mod matching;
 pub mod read_all;
 pub mod run;
-mod telling;
+pub mod telling;
 pub mod transcode;
 pub mod words;
 mod worker_space;

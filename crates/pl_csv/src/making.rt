@@ -42,7 +42,13 @@ fn made_conversion(alloc: Global, workers: usize, piece: usize) -> PolarsResult<
     ensures refused { IsOkUnless result error.OutOfMemory }
 {
     let write = CsvWriterOptions::new(alloc)?;
-    let schema = made_schema(alloc)?;
+    let schema = match made_schema(alloc) {
+        Ok(schema) => schema,
+        Err(fault) => {
+            drop(write);
+            return Err(fault);
+        }
+    };
     let read = CsvReadOptions::new(alloc)
         .with_schema(Some(schema))
         .with_n_threads(Some(workers))
@@ -63,8 +69,14 @@ fn convert_made<W: Threads + Wait + Sync>(
     ensures refused { IfErr result (λ fault. (fault ≡ error.OutOfMemory) ⊎ IsTranscodeFault (made_options workers piece) default_options input.now (sink_view (Some text.old.received) 0 text.old.wants) (sink_view (Some text.new.received) 0 text.new.wants) fault) }
 {
     let conversion = made_conversion(alloc, workers, piece)?;
-    match transcode(rt, alloc, input, &conversion.read, &conversion.write, text) {
-        Ok(frame) => Ok(frame.height()),
+    let read = transcode(rt, alloc, input, &conversion.read, &conversion.write, text);
+    drop(conversion);
+    match read {
+        Ok(frame) => {
+            let height = frame.height();
+            drop(frame);
+            Ok(height)
+        }
         Err(fault) => Err(fault),
     }
 }

@@ -134,7 +134,16 @@ fn do_work<W: Threads + Wait + Sync, So: Source, Si: Sink>(
 {
     match work_of(alloc, words)? {
         Work::Convert(conversion) => {
-            match convert_source(rt, alloc, source, &conversion.read, &conversion.write, out) {
+            let converted = convert_source(
+                rt,
+                alloc,
+                source,
+                &conversion.read,
+                &conversion.write,
+                out,
+            );
+            drop(conversion);
+            match converted {
                 Ok(()) => Ok(()),
                 Err(Unconverted::Source) => Err(Refusal::Source),
                 Err(Unconverted::TooLong) => Err(Refusal::TooLong),

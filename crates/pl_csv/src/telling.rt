@@ -7,8 +7,8 @@ use crate::run::Refusal;
 use pl_frame::error::{ComputeFault, FaultKind, NamePlace, NoDataFault, OpFault, PolarsError};
 use pl_frame::sink::{Sink, write_all};
 
-// Tells a sink a text, and answers whether it took all of it. A fault of the sink cuts the text short, and is not passed on.
-fn tell<Se: Sink>(sink: &mut Se, text: &str) -> bool
+/// Tells a sink a text, and answers whether it took all of it. A fault of the sink cuts the text short, and is not passed on.
+pub fn tell<Se: Sink>(sink: &mut Se, text: &str) -> bool
     ensures { IsTelling result text.now (sink_view (Se.received sink.old) (Se.faults sink.old) (Se.wants sink.old)) (sink_view (Se.received sink.new) (Se.faults sink.new) (Se.wants sink.new)) }
 {
     write_all(sink, text.as_bytes()).is_ok()
@@ -22,8 +22,8 @@ fn tell_number<Se: Sink>(sink: &mut Se, number: usize) -> bool
     tell(sink, digits.format(number))
 }
 
-// Tells a sink two texts.
-fn tell_both<Se: Sink>(sink: &mut Se, text: &str, other: &str) -> bool
+/// Tells a sink two texts, and answers whether it took all of them.
+pub fn tell_both<Se: Sink>(sink: &mut Se, text: &str, other: &str) -> bool
     ensures { IsTelling result (text.now ++ other.now) (sink_view (Se.received sink.old) (Se.faults sink.old) (Se.wants sink.old)) (sink_view (Se.received sink.new) (Se.faults sink.new) (Se.wants sink.new)) }
 {
     if !tell(sink, text) {
@@ -32,8 +32,8 @@ fn tell_both<Se: Sink>(sink: &mut Se, text: &str, other: &str) -> bool
     tell(sink, other)
 }
 
-// Tells a sink a text and a number.
-fn tell_counted<Se: Sink>(sink: &mut Se, text: &str, number: usize) -> bool
+/// Tells a sink a text and a number, and answers whether it took all of them.
+pub fn tell_counted<Se: Sink>(sink: &mut Se, text: &str, number: usize) -> bool
     ensures { IsTelling result (text.now ++ decimal number) (sink_view (Se.received sink.old) (Se.faults sink.old) (Se.wants sink.old)) (sink_view (Se.received sink.new) (Se.faults sink.new) (Se.wants sink.new)) }
 {
     if !tell(sink, text) {

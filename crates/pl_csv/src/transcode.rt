@@ -70,7 +70,13 @@ pub fn transcode<W: Threads + Wait + Sync, S: Sink>(
     let workers = worker_count(read.n_threads);
     match write_frame(rt, alloc, workers, frame.columns(), write, sink) {
         Ok(()) => Ok(frame),
-        Err(SinkFault::Device) => Err(PolarsError::IO),
-        Err(SinkFault::OutOfMemory) => Err(PolarsError::OutOfMemory),
+        Err(SinkFault::Device) => {
+            drop(frame);
+            Err(PolarsError::IO)
+        }
+        Err(SinkFault::OutOfMemory) => {
+            drop(frame);
+            Err(PolarsError::OutOfMemory)
+        }
     }
 }

@@ -1,4 +1,3 @@
 pub mod RegionLaws
 pub mod ArrivingLaws
-pub mod IntakeLaws
 pub mod PrintingLaws

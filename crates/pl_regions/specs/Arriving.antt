@@ -1,23 +1,17 @@
 -- Texts that are printed while those behind them are read (docs/workers.md, "From a source to regions").
-use Rattle.std.specs.Prelude.{◌≡◌, ℕ, ◌+◌, ◌<◌, ◌≤◌, List, ◌++◌, length, map, take, Option, slice_index_or, Vec}
+use Rattle.std.specs.Prelude.{◌≡◌, ◌+◌, ◌<◌, ◌≤◌, ℕ, List, ◌++◌, length, Option, slice_index_or}
 use Rattle.std.specs.Sync.OnceLock.{Named}
-use Rattle.std.specs.Global.{Global}
 use Rattle.std.specs.Io.KnownBytes.{Consumes, IsAtEnd}
 use Rattle.pl_frame.specs.Schema.{Entry}
 use Rattle.pl_text.specs.FrameText.{WriteOptions}
 use Rattle.pl_rows.specs.declared.plan.RangePlan.{RangePlan}
 use Rattle.pl_regions.specs.Printing.{IsPrinted}
 use Rattle.pl_regions.specs.Regions.{IsRegionPrinted}
-use Rattle.pl_regions.specs.declared.intake.Intake.{Intake}
+use Rattle.pl_intake.specs.declared.intake.Intake.{Intake}
 use Rattle.pl_regions.specs.declared.printing.PrintedRows.{PrintedRows}
 use Rattle.pl_regions.specs.declared.taken.Taken.{Taken}
-use Rattle.std.specs.declared.sync.OnceToken.{OnceToken}
 
 -- ---- cells
-
--- these tokens are those of the first cells, in order
-abbrev pub AreSetIn : List Named → List (OnceToken (Vec ℕ Global)) → Type 0
-AreSetIn cells tokens = map (λ token. token.of) tokens ≡ take (length tokens) (map (λ cell. cell.id) cells)
 
 -- a text that was taken from a cell, and its front was printed
 pub record IsTaken (plan : RangePlan) (schema : List Entry) (o : WriteOptions) (cells : List Named) (taken : Taken) : Type 0 where

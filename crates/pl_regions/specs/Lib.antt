@@ -1,4 +1,3 @@
 pub mod Regions
 pub mod Printing
-pub mod Intake
 pub mod Arriving

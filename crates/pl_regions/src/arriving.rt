@@ -1,6 +1,6 @@
 //! The records of a source, read and printed by workers: each text is printed while those behind it are read.
 ghost use Rattle.std.specs.Prelude.{◌≡◌, ◌++◌, ◌<◌, ◌≤◌, ℕ, List, Option, true, All, IfOk, OnOk, IsErrOf, drop, length, map};
-ghost use Rattle.pl_regions.specs.declared.intake.Intake.{Intake};
+ghost use Rattle.pl_intake.specs.declared.intake.Intake.{Intake};
 ghost use Rattle.std.specs.Io.KnownBytes.{IsAtEnd};
 ghost use Rattle.std.specs.List.{concat};
 ghost use Rattle.std.specs.Thread.{IsSync};
@@ -9,22 +9,24 @@ ghost use Rattle.pl_write.specs.Options.{cell_options};
 ghost use Rattle.pl_verbatim.specs.PrintedTexts.{CanPrint, IsFrontPrinted};
 ghost use Rattle.std.specs.Cow.{cow_slice_items};
 ghost use Rattle.pl_verbatim.specs.Verbatim.{IsVerbatimOf};
-ghost use Rattle.pl_regions.specs.Arriving.{AreSetIn, IsTaken, HasArrived};
-ghost use Rattle.pl_regions.specs.Intake.{HasGiven, HasStopped, IsPastLimit};
+ghost use Rattle.pl_intake.specs.Intake.{HasGiven, HasStopped, IsPastLimit};
+ghost use Rattle.pl_intake.specs.Texts.{AreSetIn};
+ghost use Rattle.pl_regions.specs.Arriving.{IsTaken, HasArrived};
 ghost use Rattle.pl_regions.specs.Printing.{IsLeftBehind, IsPrinted};
 ghost use Rattle.pl_regions.specs.Regions.{IsRegionOf};
 
 use crate::front::{Front, front_of, make_room};
-use crate::intake::Intake;
 use crate::printing::{PrintedRows, print_rest};
 use crate::region::Region;
-use crate::rooms::Rooms;
 use crate::taken::Taken;
 use crate::taking::{empty_places, put_regions};
-use crate::texts::{FEW, close_cells, read_texts, take_each, take_texts};
+use crate::texts::{take_each, take_texts};
 use pl_frame::read_all::ReadAllFault;
 use pl_frame::schema::Schema;
 use pl_frame::source::Source;
+use pl_intake::intake::Intake;
+use pl_intake::rooms::Rooms;
+use pl_intake::texts::{FEW, close_cells, left_behind, read_texts, texts_of};
 use pl_rows::plan::RangePlan;
 use pl_verbatim::verbatim::Verbatim;
 use pl_write::options::SerializeOptions;
@@ -39,22 +41,6 @@ use std::thread::Threads;
 struct Arrived<'a> {
     front: Front<'a>,
     left: Vec<u8>,
-}
-
-// The texts of the first cells, which these tokens show.
-fn texts_of<'a>(
-    alloc: Global,
-    cells: &'a [OnceLock<Vec<u8>>],
-    tokens: &Vec<OnceToken<'a, Vec<u8>>>,
-) -> Result<Vec<&'a [u8]>, AllocError>
-    requires { AreSetIn cells.now tokens.now.items }
-    ensures { IfOk result (λ texts. map (λ text. text.now) texts.items ≡ map (λ token. token.value.items) tokens.now.items) }
-{
-    let mut texts = Vec::new(alloc);
-    for place in 0..tokens.len().min(cells.len()) {
-        texts.push(cells[place].value(&tokens[place]).as_slice())?;
-    }
-    Ok(texts)
 }
 
 // Regions that were taken, as regions of the texts that these tokens show.
@@ -80,30 +66,6 @@ fn settle<'a>(
         }
     }
     Ok(regions)
-}
-
-// What is left of texts, and of what stands behind them, from a place on.
-fn left_behind(
-    alloc: Global,
-    texts: &[&[u8]],
-    rest: &[u8],
-    from: usize,
-) -> Result<Vec<u8>, AllocError>
-    requires { from ≤ length (concat (map (λ text. text.now) texts.now)) }
-    ensures { IfOk result (λ left. left.items ≡ drop from (concat (map (λ text. text.now) texts.now) ++ rest.now)) }
-{
-    let mut left = Vec::new(alloc);
-    let mut from = from;
-    for text in texts {
-        if from < text.len() {
-            left.extend_from_slice(&text[from..])?;
-            from = 0;
-        } else {
-            from -= text.len();
-        }
-    }
-    left.extend_from_slice(rest)?;
-    Ok(left)
 }
 
 // The front of the texts that these tokens show, whose regions were taken, and what is left of them and of what stands behind them.
@@ -182,7 +144,18 @@ fn read_and_take<'a, W: Wait, So: Source>(
     let tokens = &mut reading.tokens;
     let count = cells.len();
     match read_texts(
-        rt, alloc, cells, rooms, tokens, count, intake, source, limit, plan, piece_size,
+        rt,
+        alloc,
+        cells,
+        rooms,
+        tokens,
+        count,
+        intake,
+        source,
+        limit,
+        &plan.dialect,
+        plan.projection.width,
+        piece_size,
     ) {
         Ok(()) => {
             close_cells(rt, alloc, cells, tokens.len(), others.saturating_add(1));
@@ -329,7 +302,8 @@ fn read_and_print<'a, W: Threads + Wait + Sync, So: Source>(
         intake,
         source,
         limit,
-        plan,
+        &plan.dialect,
+        plan.projection.width,
         piece_size,
     )?;
     if intake.is_ended() {
@@ -437,7 +411,7 @@ pub fn print_arriving<'a, W: Threads + Wait + Sync, So: Source>(
         piece_size,
     )?;
     intake.read_on(source, limit)?;
-    let rest = &intake.rest;
+    let rest = intake.rest();
     let Ok(arrived) = front_arrived(alloc, cells, &tokens, all, rest, schema, plan, options) else {
         return Err(ReadAllFault::OutOfMemory);
     };

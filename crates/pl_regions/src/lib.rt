@@ -4,11 +4,9 @@
 pub mod arriving;
 mod cutting;
 pub mod front;
-pub mod intake;
 pub mod printing;
 mod ranges;
 mod region;
-mod rooms;
 mod taken;
 mod taking;
 pub mod texts;

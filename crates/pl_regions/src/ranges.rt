@@ -4,8 +4,9 @@ ghost use Rattle.pl_frame.specs.Dialect.{IsDialect};
 ghost use Rattle.pl_scan.specs.Dialect.{marks_of, comment_of};
 
 use memchr::memchr;
+use pl_intake::cuts::state_behind;
 use pl_scan::dialect::Dialect;
-use pl_scan::summary::{LineState, ends_line, summary};
+use pl_scan::summary::LineState;
 
 // The length of the first piece: up to and with the first line end that leaves no fewer bytes than this, or all.
 fn piece_len(left: &[u8], size: usize, eol_char: u8) -> usize
@@ -20,27 +21,6 @@ fn piece_len(left: &[u8], size: usize, eol_char: u8) -> usize
         Some(at) => size + at,
         None => left.len(),
     }
-}
-
-/// The state behind a piece, by the state in front of it; none where the piece does not end with a line end.
-pub(crate) fn state_behind(
-    piece: &[u8],
-    state: LineState,
-    dialect: &Dialect<'_>,
-) -> Option<LineState>
-    requires { IsDialect (marks_of dialect.now) (comment_of dialect.now) }
-{
-    if !ends_line(piece, dialect.eol_char) {
-        return None;
-    }
-    let states = summary(
-        piece,
-        dialect.separator,
-        dialect.quote_char,
-        dialect.eol_char,
-        dialect.comment_prefix,
-    );
-    Some(states.behind(state))
 }
 
 /// The length of the first range of a text: piece by piece, up to the first one behind which the state is Start, or all.

@@ -17,7 +17,7 @@ returns-in-Ok-clause-sound g c =
     let records = drop prepared.start input in
     let cause : data_cause o prepared.schema records ≡ late_cause o schema input =
     ap (λ (s : List Entry). data_cause o s records) is.schema_is ∙ sym (late-data o schema input records c.in-Ok.ensures.sound is.data_is) in
-    subst (λ is. OnOk c.print_prepared.result (is ≡ None)) cause c.print_prepared.ensures.sound
+    subst (λ is. OnOk c.print_prepared-printed.result (is ≡ None)) cause c.print_prepared-printed.ensures.sound
 
 pub returns-in-Ok-clause-refused : goal.returns-in-Ok-clause-refused
 returns-in-Ok-clause-refused g c =
@@ -29,7 +29,7 @@ returns-in-Ok-clause-refused g c =
     let records = drop prepared.start input in
     let cause : data_cause o prepared.schema records ≡ late_cause o schema input =
     ap (λ (s : List Entry). data_cause o s records) is.schema_is ∙ sym (late-data o schema input records c.in-Ok.ensures.sound is.data_is) in
-    subst (λ is. IfErr c.print_prepared.result (IsFault is)) cause c.print_prepared.ensures.refused
+    subst (λ is. IfErr c.print_prepared-printed.result (IsFault is)) cause c.print_prepared-printed.ensures.refused
 
 pub returns-in-Err-clause-refused : goal.returns-in-Err-clause-refused
 returns-in-Err-clause-refused g c =

@@ -1,5 +1,5 @@
 use Rattle.std.proofs.Common.{◌≡◌, ◌++◌, subst, ◌^◌}
-use Rattle.pl_regions.proofs.RegionLaws.{ok-holds}
+use Rattle.pl_intake.proofs.IntakeLaws.{ok-holds}
 use Rattle.pl_csv.specs.Sources.{IsReadAhead}
 use Rattle.pl_csv.specs.Views.{source_view}
 use Rattle.pl_csv.proofs.SourceLaws.{kept-none, kept-first, kept-again, IsReadAhead-longer}

@@ -16,9 +16,9 @@ returns-in-Err-clause-refused g c = λ before kept.
     let why = stopped read write before now end intake.rest.items intake.size (2 ^ 36) c.in-Err.fault kept c.requires.size refl c.in-Err.ensures.too_long c.in-Err.ensures.failed c.in-Err.ensures.cause in
     unprinted read write out out_now c.unread.result refl (subst (IsUnprinted read write before end) (sym c.unread.ensures) why)
 
-pub returns-clause-refused : goal.returns-clause-refused
-returns-clause-refused g c = λ before kept.
+pub returns-in-Err-converted-clause-refused : goal.returns-in-Err-converted-clause-refused
+returns-in-Err-converted-clause-refused g c = λ before kept.
     let now = source_view (g.So.Source.left c.args.source.now) (g.So.Source.faults c.args.source.now) in
     let end = source_view (g.So.Source.left c.read_on.new.source) (g.So.Source.faults c.read_on.new.source) in
     let same : c.read_on.new.self.rest.items ≡ c.deref.result.now = cc in
-    inr (c.deref.result.now, subst (HasCome before.left end.left) same (come-whole before now end c.args.intake c.read_on.new.self (2 ^ 36) kept c.requires.size refl c.in_default.ensures.all), c.in-Err-convert.ensures.refused)
+    inr (c.deref.result.now, subst (HasCome before.left end.left) same (come-whole before now end c.args.intake c.read_on.new.self (2 ^ 36) kept c.requires.size refl c.in_default.ensures.all), c.in-Err-converted.ensures.refused)

@@ -7,7 +7,7 @@ use Rattle.pl_read.specs.Projection.{projected}
 use Rattle.pl_csv.specs.Sources.{IsUnprinted}
 use Rattle.pl_csv.specs.Views.{source_view}
 use Rattle.pl_csv.proofs.ConvertLaws.{can-print}
-use Rattle.pl_regions.proofs.RegionLaws.{ok-holds}
+use Rattle.pl_intake.proofs.IntakeLaws.{ok-holds}
 use Rattle.pl_csv.proofs.SourceLaws.{stopped, come-ahead, records-ahead, can-ahead, printed-ahead, read-or-unread}
 use Rattle.pl_csv.proofs.convert_source.print_ahead.Goals as goal
 

@@ -12,7 +12,7 @@ returns-in-Ok-clause-done g c =
     let conversion : Conversion = record { read = c.in-Convert.conversion.read; write = c.in-Convert.conversion.write } in
     let meaning = subst (IsWork words) c.in-Convert.is c.in_ok-conversion.ensures.work in
     inl
-    (converted-source words (g.So.Source.left c.args.source.now) (g.So.Source.left c.convert_source.new.source) (g.Si.Sink.received c.args.out.now) (g.Si.Sink.received c.convert_source.new.sink) conversion meaning
+    (converted-source words (g.So.Source.left c.args.source.now) (g.So.Source.left c.convert_source-converted.new.source) (g.Si.Sink.received c.args.out.now) (g.Si.Sink.received c.convert_source-converted.new.sink) conversion meaning
     c.in-Ok.ensures.converted)
 
 pub returns-in-Err-Source-clause-refused : goal.returns-in-Err-Source-clause-refused
@@ -21,7 +21,7 @@ returns-in-Err-Source-clause-refused g c =
     let conversion : Conversion = record { read = c.in-Convert.conversion.read; write = c.in-Convert.conversion.write } in
     let meaning = subst (IsWork words) c.in-Convert.is c.in_ok-conversion.ensures.work in
     let before = views (g.So.Source.left c.args.source.now) (g.So.Source.faults c.args.source.now) (g.Si.Sink.received c.args.out.now) (g.Si.Sink.faults c.args.out.now) (g.Si.Sink.wants c.args.out.now) in
-    let now = views (g.So.Source.left c.convert_source.new.source) (g.So.Source.faults c.convert_source.new.source) (g.Si.Sink.received c.convert_source.new.sink) (g.Si.Sink.faults c.convert_source.new.sink) (g.Si.Sink.wants c.convert_source.new.sink) in
+    let now = views (g.So.Source.left c.convert_source-converted.new.source) (g.So.Source.faults c.convert_source-converted.new.source) (g.Si.Sink.received c.convert_source-converted.new.sink) (g.Si.Sink.faults c.convert_source-converted.new.sink) (g.Si.Sink.wants c.convert_source-converted.new.sink) in
     let is = subst (IsUnconverted conversion.read conversion.write before now) c.in-Err-Source.field-0-is c.in-Err-Source.ensures.refused in
     ((conversion, meaning), is.0, is.1)
 
@@ -31,16 +31,16 @@ returns-in-Err-TooLong-clause-refused g c =
     let conversion : Conversion = record { read = c.in-Convert.conversion.read; write = c.in-Convert.conversion.write } in
     let meaning = subst (IsWork words) c.in-Convert.is c.in_ok-conversion.ensures.work in
     let before = views (g.So.Source.left c.args.source.now) (g.So.Source.faults c.args.source.now) (g.Si.Sink.received c.args.out.now) (g.Si.Sink.faults c.args.out.now) (g.Si.Sink.wants c.args.out.now) in
-    let now = views (g.So.Source.left c.convert_source.new.source) (g.So.Source.faults c.convert_source.new.source) (g.Si.Sink.received c.convert_source.new.sink) (g.Si.Sink.faults c.convert_source.new.sink) (g.Si.Sink.wants c.convert_source.new.sink) in
+    let now = views (g.So.Source.left c.convert_source-converted.new.source) (g.So.Source.faults c.convert_source-converted.new.source) (g.Si.Sink.received c.convert_source-converted.new.sink) (g.Si.Sink.faults c.convert_source-converted.new.sink) (g.Si.Sink.wants c.convert_source-converted.new.sink) in
     let is = subst (IsUnconverted conversion.read conversion.write before now) c.in-Err-TooLong.field-0-is c.in-Err-TooLong.ensures.refused in
     ((conversion, meaning), is.0, is.1)
 
-pub returns-in-Convert-clause-refused : goal.returns-in-Convert-clause-refused
-returns-in-Convert-clause-refused g c =
+pub returns-in-Err-Polars-clause-refused : goal.returns-in-Err-Polars-clause-refused
+returns-in-Err-Polars-clause-refused g c =
     let words = map string_bytes c.args.words.now in
     let conversion : Conversion = record { read = c.in-Convert.conversion.read; write = c.in-Convert.conversion.write } in
     let meaning = subst (IsWork words) c.in-Convert.is c.in_ok-conversion.ensures.work in
     let before = views (g.So.Source.left c.args.source.now) (g.So.Source.faults c.args.source.now) (g.Si.Sink.received c.args.out.now) (g.Si.Sink.faults c.args.out.now) (g.Si.Sink.wants c.args.out.now) in
-    let now = views (g.So.Source.left c.convert_source.new.source) (g.So.Source.faults c.convert_source.new.source) (g.Si.Sink.received c.convert_source.new.sink) (g.Si.Sink.faults c.convert_source.new.sink) (g.Si.Sink.wants c.convert_source.new.sink) in
+    let now = views (g.So.Source.left c.convert_source-converted.new.source) (g.So.Source.faults c.convert_source-converted.new.source) (g.Si.Sink.received c.convert_source-converted.new.sink) (g.Si.Sink.faults c.convert_source-converted.new.sink) (g.Si.Sink.wants c.convert_source-converted.new.sink) in
     let is = subst (IsUnconverted conversion.read conversion.write before now) c.in-Err-Polars.field-0-is c.in-Err-Polars.ensures.refused in
     refused-source words before now conversion c.in-Err-Polars.fault meaning is

@@ -1,7 +1,8 @@
 use Rattle.std.proofs.Common.{map, string_bytes, sym, subst}
 use Rattle.pl_csv.specs.Run.{EndsAsDue, EndsAsMade}
 use Rattle.pl_csv.specs.Views.{views}
-use Rattle.pl_csv.proofs.RunLaws.{due-done, due-refused, made-done, made-refused, refusal-not_zero}
+use Rattle.pl_csv.proofs.RunLaws.{due-done, due-refused, made-done, made-refused}
+use Rattle.pl_csv.proofs.StatusLaws.{refusal-not_zero}
 use Rattle.pl_csv.proofs.run.run.Goals as goal
 
 pub returns-in-Ok-clause-due : goal.returns-in-Ok-clause-due

@@ -1,8 +1,9 @@
 use Rattle.std.proofs.Common.{rules, arith, ◌++◌}
 use Rattle.std.specs.List.{concat}
 use Rattle.pl_write.specs.Options.{cell_options}
-use Rattle.pl_regions.proofs.ArrivingLaws.{values_of, came-small, HasArrived-printed}
-use Rattle.pl_regions.proofs.IntakeLaws.{IsTooLong-behind, HasStopped-behind}
+use Rattle.pl_intake.proofs.TextLaws.{values_of, came-small}
+use Rattle.pl_regions.proofs.ArrivingLaws.{HasArrived-printed}
+use Rattle.pl_intake.proofs.IntakeLaws.{IsTooLong-behind, HasStopped-behind}
 use Rattle.pl_regions.proofs.arriving.print_arriving.Goals as goal
 
 pub returns-in_err-read_on-clause-too_long : goal.returns-in_err-read_on-clause-too_long
@@ -21,12 +22,12 @@ pub print_left-requires-clause-left : goal.print_left-requires-clause-left
 print_left-requires-clause-left g c κs within =
     let left = g.So.Source.left in
     let front = concat (values_of c.in_ok-tokens.tokens.items) in (
-      front ++ c.deref.result.now,
+      front ++ c.rest-rest.result.now,
       record {
         small = omega (
           arith,
-          came-small (left c.args.source.now) (left c.read_and_print.new.source) (left c.read_on.new.source) c.args.limit c.args.intake.now c.read_and_print.new.intake c.read_on.new.self front c.deref.result.now
-              c.in_ok-tokens.ensures.given c.in_ok-read_on.ensures.all c.deref.ensures.value c.requires.held,
+          came-small (left c.args.source.now) (left c.read_and_print.new.source) (left c.read_on.new.source) c.args.limit c.args.intake.now c.read_and_print.new.intake c.read_on.new.self front c.rest-rest.result.now
+              c.in_ok-tokens.ensures.given c.in_ok-read_on.ensures.all c.rest-rest.ensures c.requires.held,
         );
         printed = c.in-Ok-front_arrived.ensures.front;
         left_is = c.in-Ok-front_arrived.ensures.left;
@@ -37,9 +38,9 @@ pub returns-in-Ok-print_left-clause-arrived : goal.returns-in-Ok-print_left-clau
 returns-in-Ok-print_left-clause-arrived g c =
     let left = g.So.Source.left in
     let front = concat (values_of c.in_ok-tokens.tokens.items) in
-    let small = came-small (left c.args.source.now) (left c.read_and_print.new.source) (left c.read_on.new.source) c.args.limit c.args.intake.now c.read_and_print.new.intake c.read_on.new.self front c.deref.result.now
-    c.in_ok-tokens.ensures.given c.in_ok-read_on.ensures.all c.deref.ensures.value c.requires.held in
+    let small = came-small (left c.args.source.now) (left c.read_and_print.new.source) (left c.read_on.new.source) c.args.limit c.args.intake.now c.read_and_print.new.intake c.read_on.new.self front c.rest-rest.result.now
+    c.in_ok-tokens.ensures.given c.in_ok-read_on.ensures.all c.rest-rest.ensures c.requires.held in
     HasArrived-printed c.args.plan.now c.args.schema.now (cell_options c.args.options.now) (left c.args.source.now) (left c.read_and_print.new.source) (left c.read_on.new.source) c.args.limit c.args.intake.now
-    c.read_and_print.new.intake c.read_on.new.self front c.deref.result.now c.in-Ok-print_left.printed
-    c.in_ok-tokens.ensures.given c.in_ok-read_on.ensures.all c.deref.ensures.value
-    (c.in-Ok-print_left.ensures (front ++ c.deref.result.now) (record { small = omega (arith, small); printed = c.in-Ok-front_arrived.ensures.front; left_is = c.in-Ok-front_arrived.ensures.left }))
+    c.read_and_print.new.intake c.read_on.new.self front c.rest-rest.result.now c.in-Ok-print_left.printed
+    c.in_ok-tokens.ensures.given c.in_ok-read_on.ensures.all c.rest-rest.ensures
+    (c.in-Ok-print_left.ensures (front ++ c.rest-rest.result.now) (record { small = omega (arith, small); printed = c.in-Ok-front_arrived.ensures.front; left_is = c.in-Ok-front_arrived.ensures.left }))

@@ -1,8 +1,8 @@
 use Rattle.std.proofs.Common.{rules}
 use Rattle.std.specs.List.{concat}
-use Rattle.pl_regions.specs.Intake.{HasGiven}
-use Rattle.pl_regions.proofs.ArrivingLaws.{values_of, HasGiven-first}
-use Rattle.pl_regions.proofs.IntakeLaws.{IsTooLong-behind, HasStopped-behind}
+use Rattle.pl_intake.specs.Intake.{HasGiven}
+use Rattle.pl_intake.proofs.TextLaws.{values_of, HasGiven-first}
+use Rattle.pl_intake.proofs.IntakeLaws.{IsTooLong-behind, HasStopped-behind}
 use Rattle.pl_regions.proofs.arriving.read_and_print.Goals as goal
 
 pub read_beside-requires-clause-within : goal.read_beside-requires-clause-within

@@ -2,7 +2,7 @@ use Rattle.std.proofs.Common.{◌<◌, length, sym, ◌∙◌, ap, arith}
 use Rattle.std.specs.Sync.OnceLock.{Named}
 use Rattle.pl_write.specs.Options.{cell_options}
 use Rattle.pl_regions.specs.Arriving.{IsTaken}
-use Rattle.pl_regions.proofs.ArrivingLaws.{Token, token-at}
+use Rattle.pl_intake.proofs.TextLaws.{Token, token-at}
 use Rattle.pl_regions.proofs.RegionLaws.{next-of}
 use Rattle.pl_regions.proofs.arriving.settle.Goals as goal
 

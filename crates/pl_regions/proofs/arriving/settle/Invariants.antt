@@ -1,7 +1,7 @@
 use Rattle.std.proofs.Common.{All}
 use Rattle.pl_write.specs.Options.{cell_options}
 use Rattle.pl_regions.specs.Regions.{IsRegionOf}
-use Rattle.pl_regions.proofs.ArrivingLaws.{values_of}
+use Rattle.pl_intake.proofs.TextLaws.{values_of}
 use Rattle.pl_regions.proofs.arriving.settle.Given as goal
 
 abbrev pub invariant-loop-taken : goal.invariant-loop-taken

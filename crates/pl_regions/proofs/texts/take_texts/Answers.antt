@@ -10,14 +10,13 @@ use Rattle.pl_regions.proofs.texts.take_texts.Goals as goal
 pub loop-preserved : goal.loop-preserved
 loop-preserved g c =
     let P = IsTaken c.args.plan.now c.args.schema.now (cell_options c.args.options.now) c.args.cells.now in
-    let one : Taken = record { region = c.printed-region.result; token = c.in-Some.token } in
+    let one : Taken = record { region = c.printed-region.result; token = c.in-Some.field-0.token } in
     let taken = c.loop.taken.items in
     let pushed = c.is_err.ensures.negation ∙ ap not c.if-is_err.false in
     let items : c.push.new.self.items ≡ taken ++ one ∷ [] = c.push.ensures.items ∙ ap (λ t. if t then taken ++ one ∷ [] else taken) pushed in
     let own : P one = record {
-      inside = omega (arith, c.if-place-cells.false, c.printed-region.ensures.place);
-      of = λ d. c.in-Some.ensures ∙ ap (λ cell. cell.id) (c.index-cells-place-in-loop.is ∙ get_or_default c.args.cells.now c.fetch_add-place.result c.index-cells-place-in-loop.result d c.if-place-cells.false
-          ∙ ap (λ n. get_or c.args.cells.now n d) (sym c.printed-region.ensures.place));
+      inside = omega (arith, c.in-Some.ensures.inside, c.printed-region.ensures.place);
+      of = λ d. c.in-Some.ensures.of d ∙ ap (λ n. (get_or c.args.cells.now n d).id) (sym c.printed-region.ensures.place);
       text_is = c.printed-region.ensures.text ∙ c.as_slice-text.ensures.value ∙ ap (λ text. text.items) c.value.ensures;
       printed = c.printed-region.ensures.printed;
     } in

@@ -10,6 +10,14 @@ function appended(list, between, new_line, text,   lines, count) {
     return list (length(lines[count] between text) > 100 ? new_line : between) text
 }
 
+# A word of many files: one with a value is offered up to its `=`.
+$1 == "multi" {
+    gsub(/`/, "", $2)
+    sub(/=.*/, "=", $2)
+    if ($2 ~ /=$/)
+        slices = appended(slices, " ", " ", $2)
+}
+
 $1 == "word" {
     words = appended(words, " ", "\n            ", $2)
     if ($4 != "")
@@ -27,6 +35,11 @@ END {
     print "    ((COMP_CWORD > 0)) && before=${COMP_WORDS[COMP_CWORD - 1]}"
     print "    # Behind a redirection stands the name of a file, which bash completes by itself."
     print "    if [[ $before == [\\<\\>]* ]]; then"
+    print "        compopt -o default 2>/dev/null"
+    print "        return"
+    print "    fi"
+    print "    # Behind `multi` and a word `--` stand paths, which bash completes by itself."
+    print "    if [[ ${COMP_WORDS[1]} == multi ]] && ((COMP_CWORD > 2)) && [[ \" ${COMP_WORDS[*]:2:COMP_CWORD - 2} \" == *' -- '* ]]; then"
     print "        compopt -o default 2>/dev/null"
     print "        return"
     print "    fi"
@@ -50,6 +63,10 @@ END {
     print "        texts=("
     print "            " words
     print "        )"
+    print "        # `multi` is the first word; behind it stands a slice first, and `--` anywhere."
+    print "        ((COMP_CWORD == 1)) && texts+=(multi)"
+    print "        [[ ${COMP_WORDS[1]} == multi ]] && ((COMP_CWORD > 1)) && texts+=(--)"
+    print "        [[ ${COMP_WORDS[1]} == multi ]] && ((COMP_CWORD == 2)) && texts+=(" slices ")"
     print "        ;;"
     print "    esac"
     print "    for text in \"${texts[@]}\"; do"

@@ -17,6 +17,18 @@ function quoted(text,   i, mark, made) {
     return "'" made "'"
 }
 
+# The words of many files; behind `--` stand paths.
+$1 == "multi" {
+    name = $2
+    gsub(/`/, "", name)
+    if (name == "multi")
+        print "complete -c pl_csv -n __fish_is_first_token -a multi -d " quoted($3)
+    else if (name == "--")
+        print "complete -c pl_csv -n 'contains -- multi (commandline -opc); and contains -- -- (commandline -opc)' -F"
+    else
+        print "complete -c pl_csv -n 'contains -- multi (commandline -opc)' -l " substr(name, 3, index(name, "=") - 3) " -x -d " quoted($3)
+}
+
 $1 == "word" {
     print "complete -c pl_csv -l " substr($2, 3) ($3 == "" ? "" : " -x") ($4 == "" ? "" : " -a " quoted($4)) " -d " quoted($5)
 }

@@ -58,6 +58,10 @@ files == 1 && $1 == "word" {
     made["word"] = made["word"] entry("\\fB" escaped($2, code) "\\fP" value_of($3), sentence($5) "\nWithout it: " inline($6) ".")
     next
 }
+files == 1 && $1 == "multi" {
+    made["multi"] = made["multi"] entry(inline($2), sentence($3) "\nWithout it: " inline($4) ".")
+    next
+}
 files == 1 && ($1 == "value" || $1 == "type") { made[$1] = made[$1] entry(inline($2), sentence($3)); next }
 files == 1 && $1 == "status" {
     made["status"] = made["status"] entry("\\fB" $2 "\\fP", sentence($4) "\nFault line: " inline($3) ".\nStandard output: " inline($5) ".")

@@ -2,6 +2,7 @@
 #
 #   group   HEADING                                  the words behind it stand under this heading
 #   word    NAME VALUE FIXED MEANING DEFAULT         VALUE is empty for a flag; FIXED: the texts that a value can be
+#   multi   NAME MEANING DEFAULT                     a word of many files
 #   value   NAME MEANING                             what a value is
 #   type    WORDS MEANING
 #   status  NUMBER FAULT-LINE CASE OUTPUT
@@ -11,6 +12,7 @@
 
 BEGIN {
     kinds["Word|Value|Meaning|Where it is left out"] = "word"
+    kinds["Word of many files|Meaning|Where it is left out"] = "multi"
     kinds["Value|What it is"] = "value"
     kinds["TYPE|Type"] = "type"
     kinds["Status|Fault line|When|Standard output"] = "status"

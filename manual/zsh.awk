@@ -5,6 +5,12 @@ BEGIN {
     print "#compdef pl_csv"
     print "# Completions of pl_csv for zsh, made by manual/make of docs/command-line.md."
     print ""
+    print "# Behind `multi` and a word `--` stand paths."
+    print "if (( CURRENT > 3 )) && [[ $words[2] == multi ]] && (( ${words[3,CURRENT-1][(I)--]} )); then"
+    print "    _files"
+    print "    return"
+    print "fi"
+    print ""
     print "_arguments \\"
 }
 
@@ -20,6 +26,16 @@ function escaped(text,   i, mark, made) {
         made = made mark
     }
     return made
+}
+
+# The words of many files; `--` itself needs no completion.
+$1 == "multi" {
+    name = $2
+    gsub(/`/, "", name)
+    if (name == "multi")
+        lines[++count] = "    '1: :(multi)'"
+    else if (name ~ /=/)
+        lines[++count] = "    '" substr(name, 1, index(name, "=")) "[" escaped($3) "]:A-B: '"
 }
 
 $1 == "word" {

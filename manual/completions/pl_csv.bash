@@ -9,6 +9,11 @@ _pl_csv() {
         compopt -o default 2>/dev/null
         return
     fi
+    # Behind `multi` and a word `--` stand paths, which bash completes by itself.
+    if [[ ${COMP_WORDS[1]} == multi ]] && ((COMP_CWORD > 2)) && [[ " ${COMP_WORDS[*]:2:COMP_CWORD - 2} " == *' -- '* ]]; then
+        compopt -o default 2>/dev/null
+        return
+    fi
     # An option and its value: as two words, or as one, which bash cuts at = where COMP_WORDBREAKS has it.
     option=$before
     if [[ $current == --*=* ]]; then
@@ -39,6 +44,10 @@ _pl_csv() {
             --keep-missing --truncate --ignore-errors --out-sep --out-quote --out-null --out-eol
             --style --out-no-header --out-bom --batch --make
         )
+        # `multi` is the first word; behind it stands a slice first, and `--` anywhere.
+        ((COMP_CWORD == 1)) && texts+=(multi)
+        [[ ${COMP_WORDS[1]} == multi ]] && ((COMP_CWORD > 1)) && texts+=(--)
+        [[ ${COMP_WORDS[1]} == multi ]] && ((COMP_CWORD == 2)) && texts+=(--slice=)
         ;;
     esac
     for text in "${texts[@]}"; do

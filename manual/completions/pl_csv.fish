@@ -38,3 +38,6 @@ complete -c pl_csv -l out-no-header -d 'the line of the names is left out'
 complete -c pl_csv -l out-bom -d 'a byte order mark stands in front'
 complete -c pl_csv -l batch -x -d 'how many rows are a batch, 0 counting as 1; the output is the same whatever the number'
 complete -c pl_csv -l make -x -d 'an input of this number of rows, up to 1000000, is made and converted, and one line tells its size; beside it only --workers and --piece may stand'
+complete -c pl_csv -n __fish_is_first_token -a multi -d 'files are read and joined; it is the first word'
+complete -c pl_csv -n 'contains -- multi (commandline -opc)' -l slice -x -d 'of the rows of all files, numbered from 0, those from A on and before B, both NUM; it is the first word behind multi'
+complete -c pl_csv -n 'contains -- multi (commandline -opc); and contains -- -- (commandline -opc)' -F

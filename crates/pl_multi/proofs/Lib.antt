@@ -3,4 +3,6 @@ mod HiveLaws
 mod JoinedLaws
 mod NameLaws
 mod RowsLaws
+mod RunLaws
 mod ScanLaws
+mod WordsLaws

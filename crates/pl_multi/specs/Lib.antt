@@ -2,3 +2,6 @@ pub mod Hive
 pub mod Parts
 pub mod Scan
 pub mod Joining
+pub mod Words
+pub mod Telling
+pub mod Run

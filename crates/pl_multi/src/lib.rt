@@ -4,7 +4,10 @@
 mod checking;
 pub mod hive;
 mod joining;
+mod multi_words;
 pub mod part;
 mod paths;
+pub mod run;
 pub mod scan;
+mod telling;
 mod values;

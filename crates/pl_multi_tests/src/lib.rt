@@ -2,4 +2,6 @@
 #![tactic(auto)]
 
 #[cfg(test)]
+mod run;
+#[cfg(test)]
 mod scan;

@@ -1,0 +1,87 @@
+-- What a run over many files answers, by its outcome.
+use Rattle.std.proofs.Common.{◌≡◌, ℕ, List, sym, ◌∙◌, ap, subst, arith, inl, inr}
+use Rattle.std.specs.Prelude.{◌⊎◌, Option, None, Some, Result, Ok, Err, IfErr}
+use Rattle.pl_frame.specs.Causes.{Rose}
+use Rattle.pl_frame.specs.Frame.{ColumnValue}
+use Rattle.pl_csv.proofs.StatusLaws.{refusal-not_zero}
+use Rattle.pl_csv.specs.Transcoding.{HasAsciiQuote}
+use Rattle.pl_csv.specs.Views.{SinkView}
+use Rattle.pl_multi.specs.Run.{IsTextFault, IsDueJoined, IsMultiDue, EndsAsMultiDue, meaning_status, outcome_status}
+use Rattle.pl_multi.specs.Scan.{PartBytes, IsScanMeaning, AreTold, ScansUnlessFailed}
+use Rattle.pl_multi.specs.Telling.{multi_status, refusal_of}
+use Rattle.pl_multi.specs.Words.{Asked, asked_of_words}
+use Rattle.pl_multi.specs.declared.part.Part.{Part}
+use Rattle.pl_multi.specs.declared.run.MultiRefusal.{MultiRefusal}
+use Rattle.pl_multi.specs.declared.run.MultiRefusal.TheVariants as multi
+use Rattle.pl_multi.specs.declared.scan.MultiFault.{MultiFault}
+use Rattle.pl_multi.specs.declared.scan.MultiFault.TheVariants as fault
+
+-- no refusal has status 0
+pub multi-not_zero : (r : MultiRefusal) (status : ℕ) → status ≡ multi_status r → status ≡ 0 → ⊥
+multi-not_zero (multi.Run given) status is zero = refusal-not_zero given status is zero
+multi-not_zero (multi.Part place given) status is zero = refusal-not_zero given status is zero
+multi-not_zero (multi.Partitions place) status is zero = omega (arith, is, zero)
+multi-not_zero (multi.Duplicate name) status is zero = omega (arith, is, zero)
+multi-not_zero multi.Index status is zero = omega (arith, is, zero)
+
+-- ---- a scan
+
+-- what a scan of told parts answers, beside the status that is due to them
+abbrev pub ScanEnds : Result (List ColumnValue) MultiFault → (due before now : ℕ) → Type 0
+ScanEnds result due before now = (meaning_status result ≡ due) ⊎ (result ≡ Err fault.OutOfMemory) ⊎ ((place : ℕ) × (result ≡ Err (fault.Io place)) × Rose before now)
+
+pub scan-ends : (job : Asked) (parts : List Part) (holds : List ℕ → Option (List ℕ)) (result : Result (List ColumnValue) MultiFault) (before now due : ℕ) → parts ≡ job.parts
+    → ((given : List PartBytes) (meaning : Result (List ColumnValue) MultiFault) → AreTold holds parts given → IsScanMeaning job.read job.slice given meaning → ScansUnlessFailed result meaning before now)
+    → HasAsciiQuote job.write → IsDueJoined job holds due → ScanEnds result due before now
+scan-ends job parts holds result before now due same complete ascii (inl wide) = absurd (omega (arith, ascii, wide.0))
+scan-ends job parts holds result before now due same complete ascii (inr (other, (given, meaning, told, means, is))) = by (complete given meaning (subst (λ p. AreTold holds p given) (sym same) told) means)
+  where
+    by : ScansUnlessFailed result meaning before now → ScanEnds result due before now
+    by (inl same) = inl (ap meaning_status same ∙ sym is)
+    by (inr (inl wanting)) = inr (inl wanting)
+    by (inr (inr failed)) = inr (inr failed)
+
+same_err : (cause other : MultiFault) → ◌≡◌ {A = Result (List ColumnValue) MultiFault} (Err cause) (Err other) → cause ≡ other
+same_err cause other h = cc
+
+ok_err : {X : Type 0} (frame : List ColumnValue) (cause : MultiFault) → ◌≡◌ {A = Result (List ColumnValue) MultiFault} (Ok frame) (Err cause) → X
+ok_err frame cause h = cc
+
+-- a scan that was refused ends as is due
+pub ends-refused : (cause : MultiFault) (due before now out out_now : ℕ) → ScanEnds (Err cause) due before now → EndsAsMultiDue due (multi_status (refusal_of cause)) before now out out_now
+ends-refused cause due before now out out_now (inl is) = inl is
+ends-refused cause due before now out out_now (inr (inl wanting)) = inr (inl (ap (λ c. multi_status (refusal_of c)) (same_err cause fault.OutOfMemory wanting)))
+ends-refused cause due before now out out_now (inr (inr (place, failed, rose))) = inr (inr (inl (ap (λ c. multi_status (refusal_of c)) (same_err cause (fault.Io place) failed), rose)))
+
+-- where a frame was scanned 0 is due
+pub zero-due : (frame : List ColumnValue) (due before now : ℕ) → ScanEnds (Ok frame) due before now → due ≡ 0
+zero-due frame due before now (inl is) = sym is
+zero-due frame due before now (inr (inl wanting)) = ok_err frame fault.OutOfMemory wanting
+zero-due frame due before now (inr (inr (place, failed, rose))) = ok_err frame (fault.Io place) failed
+
+-- ---- its text
+
+-- a text that was not written ends as is due
+pub ends-fault : (text : List ℕ) (out out_now : SinkView) (given : MultiRefusal) (due before now : ℕ) → IsTextFault text out out_now given → due ≡ 0
+    → EndsAsMultiDue due (multi_status given) before now out.faults out_now.faults
+ends-fault text out out_now given due before now (inl (failed, rose), part) zero = inr (inr (inr (ap multi_status failed, zero, rose)))
+ends-fault text out out_now given due before now (inr wanting, part) zero = inr (inl (ap multi_status wanting))
+
+-- and so does one that was due, written or not
+pub ends-written : {X : Type 0} (text : List ℕ) (out out_now : SinkView) (result : Result X MultiRefusal) (due before now : ℕ) → IfErr result (IsTextFault text out out_now) → due ≡ 0
+    → EndsAsMultiDue due (outcome_status result) before now out.faults out_now.faults
+ends-written text out out_now (Ok x) due before now refused zero = inl (sym zero)
+ends-written text out out_now (Err given) due before now refused zero = ends-fault text out out_now given due before now refused zero
+
+-- ---- the words
+
+same_some : (job other : Asked) → ◌≡◌ {A = Option Asked} (Some job) (Some other) → job ≡ other
+same_some job other h = cc
+
+some_none : {X : Type 0} (job : Asked) → ◌≡◌ {A = Option Asked} (Some job) None → X
+some_none job h = cc
+
+-- what is due to words is due to the joined read that they ask for
+pub due-job : (words : List (List ℕ)) (holds : List ℕ → Option (List ℕ)) (status : ℕ) (job : Asked) → asked_of_words words ≡ Some job → IsMultiDue words holds status → IsDueJoined job holds status
+due-job words holds status job meaning (inl (none, is)) = some_none job (sym meaning ∙ none)
+due-job words holds status job meaning (inr (other, its, due)) = subst (λ j. IsDueJoined j holds status) (same_some other job (sym its ∙ meaning)) due

@@ -1,0 +1,4 @@
+pub mod Index
+pub mod Inside
+pub mod Reading
+pub mod Viewing

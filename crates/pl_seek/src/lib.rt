@@ -1,0 +1,9 @@
+//! Places of records, kept beside the digest of their input, and the bytes of such an index.
+#![tactic(auto)]
+
+pub mod fault;
+pub mod index;
+pub mod laws;
+mod reading;
+pub mod settings;
+mod writing;

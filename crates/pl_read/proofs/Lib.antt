@@ -26,3 +26,6 @@ pub mod NextLaws
 pub mod NextFrameLaws
 pub mod ReturningLaws
 pub mod ComesBackLaws
+pub mod AheadLaws
+pub mod SourceReadLaws
+pub mod ArrivingLaws

@@ -20,6 +20,8 @@ pub mod BatchRanges
 pub mod NextFrames
 pub mod RowTest
 pub mod Workers
+pub mod Arriving
+pub mod Ahead
 pub mod RoundTrip
 pub use Rattle.pl_cells.specs.InitBuffers
 pub use Rattle.pl_cells.specs.NullValues

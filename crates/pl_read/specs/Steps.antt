@@ -13,7 +13,9 @@ use Rattle.pl_options.specs.Text.{marks_of, comment_of}
 use Rattle.pl_infer.specs.Schemas.{unreadable, first_unreadable_column}
 use Rattle.pl_read.specs.Options.{rules_of, schema_of, settled, settled_schema}
 use Rattle.pl_rows.specs.declared.plan.RangePlan.{RangePlan}
+use Rattle.pl_rows.specs.declared.columns.RangeColumns.{RangeColumns}
 use Rattle.pl_rows.specs.Plan.{rules_of as plan_rules}
+use Rattle.pl_rows.specs.Ranges.{IsRangeRead}
 use Rattle.pl_read.specs.declared.projecting.Times.{Times}
 use Rattle.pl_read.specs.declared.projecting.Times.TheVariants as times
 use Rattle.pl_read.specs.Projection.{projected, taken_name, times_asked}
@@ -88,6 +90,11 @@ pub record CanReadData (plan : RangePlan) (o : CsvReadOptions) (schema : List En
   pub distinct : HaveDistinctNames schema
   pub free : taken_name o schema ≡ None
   pub some : nothing_read o schema records ≡ None
+
+-- data that can be read by a plan was read
+pub record IsDataRead (plan : RangePlan) (o : CsvReadOptions) (schema : List Entry) (records : List ℕ) (read : RangeColumns) : Type 0 where
+  pub can : CanReadData plan o schema records
+  pub is : IsRangeRead plan schema records read
 
 -- ---- how often places are asked
 

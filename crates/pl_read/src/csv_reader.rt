@@ -16,6 +16,7 @@ ghost use Rattle.pl_read.specs.Reading.{IsRead};
 ghost use Rattle.pl_read.specs.RoundTrip.{ReturnsFrames};
 ghost use Rattle.pl_read.specs.RowTest.{IsTested, tested};
 
+use crate::ahead::{read_from, reads_ahead};
 use crate::batched_reader::{BatchedCsvReader, OwnedBatchedCsvReader};
 use crate::bytes_reader::{MmapBytesReader, lent_or_read, read_unlent};
 use crate::reading::read_frame;
@@ -134,6 +135,23 @@ impl<R: MmapBytesReader> CsvReader<R> {
         read_source(rt, self.alloc, gate, &mut self.reader, &self.options)
     }
 
+    // The frame that the input means, as `finish` gives it.
+    fn finish_open<W: Threads + Wait + Sync>(&mut self, rt: &W) -> PolarsResult<DataFrame>
+        ensures frame { IfOk result (λ frame. OfInput R.lent R.left self.old.source self.new.source (λ input. IsRead self.old.options (settled_schema self.old.options input) input frame)) }
+        ensures refused { IfErr result (IsFinishFault R.lent R.left R.faults self.old.source self.new.source self.old.options) }
+        ensures complete { (input : List ℕ) (meaning : Result (List ColumnValue) PolarsError)
+            → input_of (R.lent self.old.source) (R.left self.old.source) ≡ Some input
+            → IsMeaning self.old.options input meaning
+            → AnswersUnlessFailed result meaning (R.faults self.old.source) (R.faults self.new.source) }
+        ensures round_trip { ReturnsFrames self.old.options (input_of (R.lent self.old.source) (R.left self.old.source)) result (R.faults self.old.source) (R.faults self.new.source) }
+        ensures lent { IsSome (R.lent self.old.source) → self.new.source ≡ self.old.source }
+        ensures read_on { IsReadOn (R.left self.old.source) (R.left self.new.source) }
+        ensures later { R.faults self.old.source ≤ R.faults self.new.source }
+        ensures options { self.new.options ≡ self.old.options }
+    {
+        read_as_given(rt, self.alloc, &mut self.reader, &self.options)
+    }
+
     /// A reader of the input batch by batch, which borrows this one (docs/batches.md). The input is what the source lends, or else
     /// what is left of it, which is read to its end first.
     ///
@@ -200,7 +218,7 @@ impl<R: MmapBytesReader> CsvReader<R> {
         ensures later { R.faults self.old.source ≤ R.faults self.new.source }
         ensures options { self.new.options ≡ self.old.options }
     {
-        match self.finish_gated(rt, &OpenGate) {
+        match self.finish_open(rt) {
             Ok(frame) => {
                 let wanted = rows_wanted(self.alloc, &frame, predicate);
                 drop(frame);
@@ -244,6 +262,29 @@ fn read_source<R: MmapBytesReader, W: Threads + Wait + Sync, G: Gate + Sync>(
     let frame = read_frame(rt, alloc, gate, input.bytes(), options);
     drop(input);
     frame
+}
+
+// The same, where nobody waits for a gate: what a source gives is read while it comes, where its front tells how.
+fn read_as_given<R: MmapBytesReader, W: Threads + Wait + Sync>(
+    rt: &W,
+    alloc: Global,
+    reader: &mut R,
+    options: &CsvReadOptions,
+) -> PolarsResult<DataFrame>
+    ensures frame { IfOk result (λ frame. OfInput R.lent R.left reader.old reader.new (λ input. IsRead options.now (settled_schema options.now input) input frame)) }
+    ensures refused { IfErr result (IsFinishFault R.lent R.left R.faults reader.old reader.new options.now) }
+    ensures complete { (input : List ℕ) (meaning : Result (List ColumnValue) PolarsError)
+        → input_of (R.lent reader.old) (R.left reader.old) ≡ Some input
+        → IsMeaning options.now input meaning
+        → AnswersUnlessFailed result meaning (R.faults reader.old) (R.faults reader.new) }
+    ensures lent { IsSome (R.lent reader.old) → reader.new ≡ reader.old }
+    ensures read_on { IsReadOn (R.left reader.old) (R.left reader.new) }
+    ensures later { R.faults reader.old ≤ R.faults reader.new }
+{
+    if reader.to_bytes().is_none() && reads_ahead(options) {
+        return read_from(rt, alloc, reader, options);
+    }
+    read_source(rt, alloc, &OpenGate, reader, options)
 }
 
 // Options under a schema in place of their own, where one is given. Refuses only want of memory.
@@ -345,6 +386,6 @@ impl<R: MmapBytesReader> SerReader<R> for CsvReader<R> {
     }
 
     fn finish<W: Threads + Wait + Sync>(&mut self, rt: &W) -> PolarsResult<DataFrame> {
-        self.finish_gated(rt, &OpenGate)
+        self.finish_open(rt)
     }
 }

@@ -1,6 +1,8 @@
 //! Readers: the frame that an input means under the options of a read, or the first cause against it.
 #![tactic(auto)]
 
+mod ahead;
+mod arriving;
 mod batch_parts;
 mod batch_ranges;
 pub mod batched_reader;

@@ -1,8 +1,9 @@
 //! From the bytes of an input to the frame that they mean.
-ghost use Rattle.std.specs.Prelude.{◌≡◌, drop, IfOk, OnOk, IfErr, IsOkUnless, MatchResult, None};
+ghost use Rattle.std.specs.Prelude.{◌≡◌, ℕ, List, drop, IfOk, OnOk, IfErr, IsOkUnless, MatchResult, None};
 ghost use Rattle.std.specs.Option.{option_copied, option_map};
 ghost use Rattle.pl_frame.specs.declared.error.PolarsError.TheVariants as error;
-ghost use Rattle.pl_frame.specs.Schema.{HaveDistinctNames};
+ghost use Rattle.pl_frame.specs.Schema.{Entry, HaveDistinctNames};
+ghost use Rattle.pl_rows.specs.declared.plan.RangePlan.{RangePlan};
 ghost use Rattle.pl_cells.specs.NullValues.{compiled_for};
 ghost use Rattle.pl_options.specs.FirstCause.{IsFault};
 ghost use Rattle.pl_read.specs.Options.{settled_schema};
@@ -10,7 +11,7 @@ ghost use Rattle.pl_read.specs.Preparing.{IsPrepared};
 ghost use Rattle.pl_read.specs.Projection.{projected};
 ghost use Rattle.pl_read.specs.Reading.{frame_of, IsRead, IsReadFault};
 ghost use Rattle.pl_read.specs.Rows.{data_frame};
-ghost use Rattle.pl_read.specs.Steps.{MayRead, late_cause, data_cause, IsPlanOf, CanReadData};
+ghost use Rattle.pl_read.specs.Steps.{MayRead, late_cause, data_cause, IsPlanOf, CanReadData, IsDataRead};
 
 use crate::checks::check_options;
 use crate::indexing::with_index;
@@ -21,6 +22,7 @@ use pl_frame::error::{ComputeFault, PolarsError, PolarsResult};
 use pl_frame::frame::DataFrame;
 use pl_frame::schema::Schema;
 use pl_options::read_options::CsvReadOptions;
+use pl_rows::columns::RangeColumns;
 use pl_rows::plan::{Projection, RangePlan, RowOptions};
 use pl_rows::range::RangeEnd;
 use std::alloc::Global;
@@ -90,8 +92,12 @@ pub fn read_prepared<W: Threads + Wait + Sync, G: Gate + Sync>(
     }
 }
 
-// The same frame, each column in one piece where the options ask for it. Refuses only want of memory.
-fn rechunked(alloc: Global, options: &CsvReadOptions, frame: DataFrame) -> PolarsResult<DataFrame>
+/// The same frame, each column in one piece where the options ask for it. Refuses only want of memory.
+pub(crate) fn rechunked(
+    alloc: Global,
+    options: &CsvReadOptions,
+    frame: DataFrame,
+) -> PolarsResult<DataFrame>
     ensures same { IfOk result (λ given. given ≡ frame) }
     ensures refused { IsOkUnless result error.OutOfMemory }
 {
@@ -150,13 +156,28 @@ fn read_data<W: Threads + Wait + Sync, G: Gate + Sync>(
     let Ok(read) = read_by_workers(rt, alloc, gate, workers, schema, records, plan, size) else {
         return Err(PolarsError::OutOfMemory);
     };
-    match read.end {
+    frame_of_range(alloc, options, read)
+}
+
+/// The frame of data whose records were read.
+pub(crate) fn frame_of_range(
+    alloc: Global,
+    options: &CsvReadOptions,
+    read: RangeColumns,
+) -> PolarsResult<DataFrame>
+    requires { (plan : RangePlan) × (schema : List Entry) × (records : List ℕ) × IsDataRead plan options.now schema records read }
+    ensures frame { (plan : RangePlan) (schema : List Entry) (records : List ℕ) → IsDataRead plan options.now schema records read → IfOk result (λ frame. frame ≡ data_frame options.now schema records) }
+    ensures sound { (plan : RangePlan) (schema : List Entry) (records : List ℕ) → IsDataRead plan options.now schema records read → OnOk result (data_cause options.now schema records ≡ None) }
+    ensures refused { (plan : RangePlan) (schema : List Entry) (records : List ℕ) → IsDataRead plan options.now schema records read → IfErr result (IsFault (data_cause options.now schema records)) }
+{
+    let RangeColumns { columns, end } = read;
+    match end {
         RangeEnd::Fault { row, column, kind } => {
-            drop(read.columns);
+            drop(columns);
             Err(PolarsError::ComputeError(ComputeFault::Record { row, column, kind }))
         }
         RangeEnd::Closed | RangeEnd::Open => {
-            with_index(alloc, options.row_index.as_ref(), read.columns)
+            with_index(alloc, options.row_index.as_ref(), columns)
         }
     }
 }

@@ -13,3 +13,4 @@ pub mod PieceLaws
 pub mod StackLaws
 pub mod SoundTextLaws
 pub mod LinkLaws
+pub mod TextLinkLaws

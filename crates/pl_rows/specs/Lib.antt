@@ -9,3 +9,4 @@ pub mod Laws
 pub mod Blocks
 pub mod Pieces
 pub mod WholePieces
+pub mod Texts

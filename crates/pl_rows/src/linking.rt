@@ -1,5 +1,6 @@
 //! Columns of pieces that were read apart, linked in order, and what is left of their range behind them.
 ghost use Rattle.std.specs.Prelude.{◌≡◌, ℕ, List, None, IfOk, OnOk, length, map};
+ghost use Rattle.std.specs.List.{concat};
 ghost use Rattle.pl_frame.specs.Dialect.{AreDistinct, IsDialect};
 ghost use Rattle.pl_frame.specs.FrameParts.{empty_columns};
 ghost use Rattle.pl_scan.specs.Dialect.{marks_of, comment_of};
@@ -8,6 +9,7 @@ ghost use Rattle.pl_cells.specs.NullValues.{HaveTexts};
 ghost use Rattle.pl_rows.specs.declared.whole_pieces.PieceFrame.{PieceFrame};
 ghost use Rattle.pl_rows.specs.Plan.{AreRising};
 ghost use Rattle.pl_rows.specs.Ranges.{IsRangeRead};
+ghost use Rattle.pl_rows.specs.Texts.{AreReadAt, IsLeftRead};
 ghost use Rattle.pl_rows.specs.WholePieces.{IsPieceFrame, IsFrontLinked};
 
 use crate::apart::{PieceColumns, Reading};
@@ -16,15 +18,16 @@ use crate::pieces::{end_behind, plan_behind};
 use crate::plan::RangePlan;
 use crate::range::is_below;
 use crate::stack::{Stack, empty_stacks, into_columns, push_columns};
+use crate::whole_pieces::PieceFrame;
 use pl_board::piece::Posted;
 use pl_frame::schema::Schema;
 use std::alloc::{AllocError, Global};
 
-// How many rows the pieces have that are linked, and where the last one ends.
+/// How many rows the pieces have that are linked, and where the last one ends.
 #[derive(Clone, Copy)]
-struct Front {
-    rows: usize,
-    end: usize,
+pub struct Front {
+    pub rows: usize,
+    pub end: usize,
 }
 
 // Puts the columns of the front of what was posted of a range behind the stacks: of pieces that have columns, each from where the one
@@ -68,6 +71,66 @@ fn link_front<K: Reading>(
     Ok(Front { rows, end })
 }
 
+/// Puts the columns of texts that follow one another behind the stacks: of those at the front that were read, as long as their rows are below
+/// the limit. Refuses only want of memory.
+pub fn link_texts(
+    stacks: &mut [Stack],
+    texts: &[&[u8]],
+    reads: Vec<Option<PieceFrame>>,
+    schema: &Schema,
+    plan: &RangePlan<'_>,
+) -> Result<Front, AllocError>
+    requires dialect { IsDialect (marks_of plan.now.dialect) (comment_of plan.now.dialect) }
+    requires empty { stacks.old ≡ empty_columns (map (entry_at schema.now) plan.now.projection.places.now) }
+    requires read { AreReadAt plan.now schema.now (map (λ text. text.now) texts.now) reads.items }
+    ensures { IfOk result (λ front. IsFrontLinked plan.now schema.now (concat (map (λ text. text.now) texts.now)) stacks.new front.rows front.end) }
+{
+    let mut front = Front { rows: 0, end: 0 };
+    let mut place = 0;
+    for read in reads {
+        let Some(piece) = read else {
+            break;
+        };
+        if place >= texts.len() {
+            break;
+        }
+        let Some(rows) = usize::checked_add(front.rows, piece.rows) else {
+            break;
+        };
+        let Some(end) = usize::checked_add(front.end, texts[place].len()) else {
+            break;
+        };
+        if !is_below(plan.limit, rows) {
+            break;
+        }
+        push_columns(stacks, piece.columns)?;
+        front = Front { rows, end };
+        place += 1;
+    }
+    Ok(front)
+}
+
+/// The columns of a range, of which a front is linked and what is left behind it was read as its last part. Refuses only want of memory.
+pub fn link_left(
+    alloc: Global,
+    schema: &Schema,
+    stacks: Vec<Stack>,
+    plan: &RangePlan<'_>,
+    front: Front,
+    left: RangeColumns,
+) -> Result<RangeColumns, AllocError>
+    requires dialect { IsDialect (marks_of plan.now.dialect) (comment_of plan.now.dialect) }
+    requires left { (range : List ℕ) × IsLeftRead plan.now schema.now range stacks.items front left }
+    ensures { (range : List ℕ) → IsLeftRead plan.now schema.now range stacks.items front left → IfOk result (IsRangeRead plan.now schema.now range) }
+{
+    let mut stacks = stacks;
+    let RangeColumns { columns, end } = left;
+    let end = end_behind(front.rows, end);
+    push_columns(&mut stacks, columns)?;
+    let columns = into_columns(alloc, stacks)?;
+    Ok(RangeColumns { columns, end })
+}
+
 // Reads what is left of a range, behind a front whose columns are linked, as its last part, and gives the columns of the whole range.
 // Refuses only want of memory.
 fn link_rest(
@@ -86,15 +149,9 @@ fn link_rest(
     requires front { IsFrontLinked plan.now schema.now range.now stacks.items front.rows front.end }
     ensures { IfOk result (IsRangeRead plan.now schema.now range.now) }
 {
-    let mut stacks = stacks;
     let last = plan_behind(plan, front.rows, plan.last);
     let left = read_columns(alloc, schema, &range[front.end..], &last)?;
-    push_columns(&mut stacks, left.columns)?;
-    let columns = into_columns(alloc, stacks)?;
-    Ok(RangeColumns {
-        columns,
-        end: end_behind(front.rows, left.end),
-    })
+    link_left(alloc, schema, stacks, plan, front, left)
 }
 
 /// The columns of a range of which these results were posted, in order: those of its front are linked, and what is left behind them is

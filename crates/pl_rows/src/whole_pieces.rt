@@ -96,7 +96,7 @@ pub fn read_piece_frame(
 
 /// Reads a piece as `read_piece_frame` does, by buffers that have no cells and are left so: the columns take no more memory than they
 /// need. Refuses only want of memory.
-pub(crate) fn read_packed(
+pub fn read_packed(
     alloc: Global,
     buffers: &mut [Buffer],
     schema: &Schema,

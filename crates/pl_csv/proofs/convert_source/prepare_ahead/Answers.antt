@@ -1,6 +1,7 @@
 use Rattle.std.proofs.Common.{◌-◌, Some, length, arith}
 use Rattle.pl_scan.specs.Laws.{IsEnded}
-use Rattle.pl_csv.proofs.AheadLaws.{ended-last, read-ahead}
+use Rattle.pl_read.proofs.AheadLaws.{ended-last}
+use Rattle.pl_csv.proofs.AheadLaws.{read-ahead}
 use Rattle.pl_csv.proofs.convert_source.prepare_ahead.Goals as goal
 
 pub returns-then-is_row_by_row : goal.returns-then-is_row_by_row

@@ -1,0 +1,36 @@
+-- Texts that are read into columns while those behind them come (docs/workers.md, "From a source to a frame").
+use Rattle.std.specs.Prelude.{◌≡◌, ℕ, ◌<◌, List, ◌++◌, length, Option, None, slice_index_or}
+use Rattle.std.specs.Sync.OnceLock.{Named}
+use Rattle.std.specs.Io.KnownBytes.{Consumes, IsAtEnd}
+use Rattle.pl_frame.specs.Dialect.{IsDialect}
+use Rattle.pl_frame.specs.Schema.{Entry}
+use Rattle.pl_scan.specs.Dialect.{marks_of, comment_of}
+use Rattle.pl_cells.specs.InitBuffers.{first_unreadable}
+use Rattle.pl_cells.specs.NullValues.{HaveTexts}
+use Rattle.pl_rows.specs.declared.columns.RangeColumns.{RangeColumns}
+use Rattle.pl_rows.specs.declared.plan.RangePlan.{RangePlan}
+use Rattle.pl_rows.specs.Plan.{AreRising}
+use Rattle.pl_rows.specs.Ranges.{IsRangeRead}
+use Rattle.pl_rows.specs.WholePieces.{IsPieceFrame}
+use Rattle.pl_read.specs.declared.arriving.Taken.{Taken}
+
+-- texts can be read by a plan into columns of a schema
+pub record CanTake (plan : RangePlan) (schema : List Entry) : Type 0 where
+  pub dialect : IsDialect (marks_of plan.dialect) (comment_of plan.dialect)
+  pub width : plan.projection.width ≡ length schema
+  pub rising : AreRising 0 (length schema) plan.projection.places.now
+  pub readable : first_unreadable schema plan.projection.places.now ≡ None
+  pub texts : HaveTexts plan.options.null_values (length schema)
+
+-- a text that was taken from a cell, and what was read of it
+pub record IsTaken (plan : RangePlan) (schema : List Entry) (cells : List Named) (taken : Taken) : Type 0 where
+  pub inside : taken.place < length cells
+  pub of : (d : Named) → taken.token.of ≡ (slice_index_or cells taken.place d).id
+  pub read : IsPieceFrame plan schema taken.token.value.items taken.read
+
+-- All bytes that were left of a source came. These bytes, behind those that were kept, are a range that was read.
+pub record HasArrived (plan : RangePlan) (schema : List Entry) (before now : Option (List ℕ)) (kept : List ℕ) (read : RangeColumns) : Type 0 where
+  pub bytes : List ℕ
+  pub came : Consumes before now bytes
+  pub end : IsAtEnd now
+  pub is : IsRangeRead plan schema (kept ++ bytes) read

@@ -1,0 +1,451 @@
+//! The records of a source, read into columns by workers: each text is read while those behind it come.
+ghost use Rattle.std.specs.Prelude.{◌≡◌, ◌++◌, ◌-◌, ◌<◌, ◌≤◌, ◌^◌, ℕ, List, Option, None, true, All, IfOk, OnOk, IsErrOf, length, map};
+ghost use Rattle.std.specs.Io.KnownBytes.{IsAtEnd};
+ghost use Rattle.std.specs.List.{concat};
+ghost use Rattle.std.specs.Thread.{IsSync};
+ghost use Rattle.pl_frame.specs.Came.{IsReadOn};
+ghost use Rattle.pl_frame.specs.Causes.{Rose};
+ghost use Rattle.pl_intake.specs.Intake.{HasGiven};
+ghost use Rattle.pl_intake.specs.Texts.{AreSetIn};
+ghost use Rattle.pl_intake.specs.declared.intake.Intake.{Intake};
+ghost use Rattle.pl_read.specs.Arriving.{CanTake, IsTaken, HasArrived};
+ghost use Rattle.pl_rows.specs.Ranges.{IsRangeRead};
+ghost use Rattle.pl_rows.specs.Texts.{AreReadAt};
+
+use crate::workers::{piece_size_for, read_by_workers};
+use pl_board::gate::OpenGate;
+use pl_frame::read_all::ReadAllFault;
+use pl_frame::schema::Schema;
+use pl_frame::source::Source;
+use pl_intake::intake::Intake;
+use pl_intake::rooms::Rooms;
+use pl_intake::texts::{
+    FEW, TakenText, close_cells, left_behind, make_cells, read_texts, take_text, texts_of,
+};
+use pl_rows::columns::{RangeColumns, empty_buffers};
+use pl_rows::linking::{link_left, link_texts};
+use pl_rows::pieces::plan_behind;
+use pl_rows::plan::RangePlan;
+use pl_rows::stack::empty_stacks;
+use pl_rows::whole_pieces::{PieceFrame, read_packed};
+use std::alloc::{AllocError, Global};
+use std::sync::atomic::{AtomicUsize, Ordering};
+use std::sync::{Mutex, OnceLock, OnceToken, Wait};
+use std::thread;
+use std::thread::Threads;
+
+// What was read of a text: the place of its cell, what shows that the cell holds it, and its columns.
+#[derive(Drop)]
+struct Taken<'a> {
+    place: usize,
+    token: OnceToken<'a, Vec<u8>>,
+    read: PieceFrame,
+}
+
+// The texts that one worker takes, one after another, and reads into columns, until one has no bytes, one can't be read apart or memory is
+// wanting. After one that can't be read apart nobody takes more.
+fn take_texts<'a, W: Wait>(
+    rt: &W,
+    alloc: Global,
+    cells: &'a [OnceLock<Vec<u8>>],
+    rooms: &Mutex<Rooms>,
+    next: &AtomicUsize,
+    schema: &Schema,
+    plan: &RangePlan<'_>,
+    piece_size: usize,
+) -> Vec<Taken<'a>>
+    requires { CanTake plan.now schema.now }
+    ensures { All (IsTaken plan.now schema.now cells.now) result.items }
+{
+    let mut all = Vec::new(alloc);
+    let places = plan.projection.places;
+    let quote_char = plan.dialect.quote_char;
+    let Ok(mut buffers) = empty_buffers(alloc, schema, places, quote_char, plan.options.encoding)
+    else {
+        return all;
+    };
+    for _ in 0..cells.len() {
+        let Some(TakenText { place, token }) = take_text(rt, alloc, cells, rooms, next, piece_size)
+        else {
+            return all;
+        };
+        let text = cells[place].value(&token).as_slice();
+        if text.is_empty() {
+            return all;
+        }
+        let Ok(Some(read)) = read_packed(alloc, &mut buffers, schema, text, plan) else {
+            next.store(cells.len(), Ordering::SeqCst);
+            return all;
+        };
+        if all.push(Taken { place, token, read }).is_err() {
+            return all;
+        }
+    }
+    all
+}
+
+// The texts that so many workers take and read, one after another each, until there are no more.
+fn take_each<'a, W: Threads + Wait + Sync>(
+    rt: &W,
+    alloc: Global,
+    workers: usize,
+    cells: &'a [OnceLock<Vec<u8>>],
+    rooms: &Mutex<Rooms>,
+    next: &AtomicUsize,
+    schema: &Schema,
+    plan: &RangePlan<'_>,
+    piece_size: usize,
+) -> Result<Vec<Vec<Taken<'a>>>, AllocError>
+    requires { CanTake plan.now schema.now }
+    ensures { IfOk result (λ all. All (λ taken. All (IsTaken plan.now schema.now cells.now) taken.items) all.items) }
+{
+    let take = |_worker: usize| -> Vec<Taken<'_>>
+        requires { CanTake plan.now schema.now }
+        ensures { All (IsTaken plan.entry.now schema.entry.now cells.entry.now) result.items }
+    { take_texts(rt, alloc, cells, rooms, next, schema, plan, piece_size) };
+    thread::map_indices(rt, alloc, workers, &take)
+}
+
+// Cells, what shows the texts of the first of them, and the texts that were taken by who reads.
+#[derive(Drop)]
+struct Reading<'a> {
+    cells: &'a [OnceLock<Vec<u8>>],
+    tokens: Vec<OnceToken<'a, Vec<u8>>>,
+    taken: Vec<Taken<'a>>,
+}
+
+// Reads the texts of a source, tells so many other workers that there are no more, and takes texts as they do.
+fn read_and_take<'a, W: Wait, So: Source>(
+    rt: &W,
+    alloc: Global,
+    others: usize,
+    reading: &mut Reading<'a>,
+    rooms: &Mutex<Rooms>,
+    next: &AtomicUsize,
+    intake: &mut Intake,
+    source: &mut So,
+    schema: &Schema,
+    plan: &RangePlan<'_>,
+    piece_size: usize,
+) -> Result<(), ReadAllFault>
+    requires can { CanTake plan.now schema.now }
+    requires within { intake.old.size ≤ 2 ^ 64 - 1 }
+    requires ended { intake.old.is_ended ≡ true → IsAtEnd (So.left source.old) }
+    requires set { AreSetIn reading.old.cells.now reading.old.tokens.items }
+    ensures set { OnOk result (AreSetIn reading.old.cells.now reading.new.tokens.items) }
+    ensures given { (before : Option (List ℕ)) (first : Intake) → HasGiven before (So.left source.old) (2 ^ 64 - 1) first intake.old (concat (map (λ token. token.value.items) reading.old.tokens.items))
+        → OnOk result (HasGiven before (So.left source.new) (2 ^ 64 - 1) first intake.new (concat (map (λ token. token.value.items) reading.new.tokens.items))) }
+    ensures taken { OnOk result (All (IsTaken plan.now schema.now reading.old.cells.now) reading.new.taken.items) }
+    ensures cause { IsErrOf result ReadAllFault.Source → Rose (So.faults source.old) (So.faults source.new) }
+    ensures read_on { IsReadOn (So.left source.old) (So.left source.new) }
+    ensures later { So.faults source.old ≤ So.faults source.new }
+{
+    let cells = reading.cells;
+    let tokens = &mut reading.tokens;
+    let count = cells.len();
+    match read_texts(
+        rt,
+        alloc,
+        cells,
+        rooms,
+        tokens,
+        count,
+        intake,
+        source,
+        usize::MAX,
+        &plan.dialect,
+        plan.projection.width,
+        piece_size,
+    ) {
+        Ok(()) => {
+            close_cells(rt, alloc, cells, tokens.len(), others.saturating_add(1));
+            reading.taken = take_texts(rt, alloc, cells, rooms, next, schema, plan, piece_size);
+            Ok(())
+        }
+        Err(fault) => {
+            close_cells(rt, alloc, cells, 0, count);
+            Err(fault)
+        }
+    }
+}
+
+// Reads the texts of a source while so many other workers take them. Answers the texts that each took.
+fn read_beside<'a, W: Threads + Wait + Sync, So: Source>(
+    rt: &W,
+    alloc: Global,
+    others: usize,
+    cells: &'a [OnceLock<Vec<u8>>],
+    rooms: &Mutex<Rooms>,
+    tokens: &mut Vec<OnceToken<'a, Vec<u8>>>,
+    intake: &mut Intake,
+    source: &mut So,
+    schema: &Schema,
+    plan: &RangePlan<'_>,
+    piece_size: usize,
+) -> Result<Vec<Vec<Taken<'a>>>, ReadAllFault>
+    requires can { CanTake plan.now schema.now }
+    requires within { intake.old.size ≤ 2 ^ 64 - 1 }
+    requires ended { intake.old.is_ended ≡ true → IsAtEnd (So.left source.old) }
+    requires set { AreSetIn cells.now tokens.old.items }
+    ensures set { OnOk result (AreSetIn cells.now tokens.new.items) }
+    ensures given { (before : Option (List ℕ)) (first : Intake) → HasGiven before (So.left source.old) (2 ^ 64 - 1) first intake.old (concat (map (λ token. token.value.items) tokens.old.items))
+        → OnOk result (HasGiven before (So.left source.new) (2 ^ 64 - 1) first intake.new (concat (map (λ token. token.value.items) tokens.new.items))) }
+    ensures taken { IfOk result (λ all. All (λ taken. All (IsTaken plan.now schema.now cells.now) taken.items) all.items) }
+    ensures cause { IsErrOf result ReadAllFault.Source → Rose (So.faults source.old) (So.faults source.new) }
+    ensures read_on { IsReadOn (So.left source.old) (So.left source.new) }
+    ensures later { So.faults source.old ≤ So.faults source.new }
+{
+    let next = AtomicUsize::new(0);
+    let mut reading = Reading {
+        cells,
+        tokens: std::mem::replace(tokens, Vec::new(alloc)),
+        taken: Vec::new(alloc),
+    };
+    let mut take = ||
+        requires sync { IsSync W.row }
+        requires can { CanTake plan.now schema.now }
+    {
+        take_each(
+            rt, alloc, others, cells, rooms, &next, schema, plan, piece_size,
+        )
+    };
+    let mut read = ||
+        requires can { CanTake plan.now schema.now }
+        requires within { intake.now.size ≤ 2 ^ 64 - 1 }
+        requires ended { intake.now.is_ended ≡ true → IsAtEnd (So.left source.now) }
+        requires set { AreSetIn reading.cells.now reading.tokens.items }
+    {
+        read_and_take(
+            rt,
+            alloc,
+            others,
+            &mut reading,
+            rooms,
+            &next,
+            intake,
+            source,
+            schema,
+            plan,
+            piece_size,
+        )
+    };
+    let (taken_beside, read) = thread::join_mut(rt, &mut take, &mut read);
+    let Reading {
+        cells: _,
+        tokens: shown,
+        taken,
+    } = reading;
+    *tokens = shown;
+    read?;
+    let Ok(mut all) = taken_beside else {
+        return Err(ReadAllFault::OutOfMemory);
+    };
+    if all.push(taken).is_err() {
+        return Err(ReadAllFault::OutOfMemory);
+    }
+    Ok(all)
+}
+
+// Reads the first texts of a source, and then what is left of it while workers take texts. Where the first texts are all, no more workers take
+// them than there are texts. Answers what shows the texts, and the texts that each took.
+fn read_and_share<'a, W: Threads + Wait + Sync, So: Source>(
+    rt: &W,
+    alloc: Global,
+    workers: usize,
+    cells: &'a [OnceLock<Vec<u8>>],
+    intake: &mut Intake,
+    source: &mut So,
+    schema: &Schema,
+    plan: &RangePlan<'_>,
+    piece_size: usize,
+) -> Result<(Vec<OnceToken<'a, Vec<u8>>>, Vec<Vec<Taken<'a>>>), ReadAllFault>
+    requires can { CanTake plan.now schema.now }
+    requires within { intake.old.size ≤ 2 ^ 64 - 1 }
+    requires ended { intake.old.is_ended ≡ true → IsAtEnd (So.left source.old) }
+    ensures set { IfOk result (λ read. AreSetIn cells.now read.0.items) }
+    ensures given { IfOk result (λ read. HasGiven (So.left source.old) (So.left source.new) (2 ^ 64 - 1) intake.old intake.new (concat (map (λ token. token.value.items) read.0.items))) }
+    ensures taken { IfOk result (λ read. All (λ taken. All (IsTaken plan.now schema.now cells.now) taken.items) read.1.items) }
+    ensures cause { IsErrOf result ReadAllFault.Source → Rose (So.faults source.old) (So.faults source.new) }
+    ensures read_on { IsReadOn (So.left source.old) (So.left source.new) }
+    ensures later { So.faults source.old ≤ So.faults source.new }
+{
+    let rooms = Mutex::new(Rooms::new(alloc));
+    let mut tokens = Vec::new(alloc);
+    read_texts(
+        rt,
+        alloc,
+        cells,
+        &rooms,
+        &mut tokens,
+        FEW,
+        intake,
+        source,
+        usize::MAX,
+        &plan.dialect,
+        plan.projection.width,
+        piece_size,
+    )?;
+    if intake.is_ended() {
+        let workers = workers.min(tokens.len());
+        let next = AtomicUsize::new(0);
+        close_cells(rt, alloc, cells, tokens.len(), workers);
+        let Ok(all) = take_each(
+            rt, alloc, workers, cells, &rooms, &next, schema, plan, piece_size,
+        ) else {
+            return Err(ReadAllFault::OutOfMemory);
+        };
+        return Ok((tokens, all));
+    }
+    let others = workers.saturating_sub(1);
+    let all = read_beside(
+        rt,
+        alloc,
+        others,
+        cells,
+        &rooms,
+        &mut tokens,
+        intake,
+        source,
+        schema,
+        plan,
+        piece_size,
+    )?;
+    Ok((tokens, all))
+}
+
+// Puts what was read of texts at their places, as far as these tokens show them.
+fn settle<'a>(
+    reads: &mut [Option<PieceFrame>],
+    cells: &'a [OnceLock<Vec<u8>>],
+    tokens: &Vec<OnceToken<'a, Vec<u8>>>,
+    all: Vec<Taken<'a>>,
+    schema: &Schema,
+    plan: &RangePlan<'_>,
+)
+    requires set { AreSetIn cells.now tokens.now.items }
+    requires len { length reads.old ≡ length tokens.now.items }
+    requires taken { All (IsTaken plan.now schema.now cells.now) all.items }
+    requires read { AreReadAt plan.now schema.now (map (λ token. token.value.items) tokens.now.items) reads.old }
+    ensures len { length reads.new ≡ length reads.old }
+    ensures read { AreReadAt plan.now schema.now (map (λ token. token.value.items) tokens.now.items) reads.new }
+{
+    for taken in all {
+        let Taken { place, token, read } = taken;
+        if place < tokens.len() {
+            tokens[place].agrees(&token);
+            let before = std::mem::replace(&mut reads[place], Some(read));
+            drop(before);
+        }
+    }
+}
+
+// Places for so many texts, of none of which anything was read.
+fn no_reads(alloc: Global, count: usize) -> Result<Vec<Option<PieceFrame>>, AllocError>
+    ensures len { IfOk result (λ reads. length reads.items ≡ count) }
+    ensures empty { IfOk result (λ reads. All (λ read. read ≡ None) reads.items) }
+{
+    let mut reads = Vec::new(alloc);
+    for _ in 0..count {
+        reads.push(None)?;
+    }
+    Ok(reads)
+}
+
+// What was read of the texts that these tokens show, by place.
+fn settle_all<'a>(
+    alloc: Global,
+    cells: &'a [OnceLock<Vec<u8>>],
+    tokens: &Vec<OnceToken<'a, Vec<u8>>>,
+    all: Vec<Vec<Taken<'a>>>,
+    schema: &Schema,
+    plan: &RangePlan<'_>,
+) -> Result<Vec<Option<PieceFrame>>, AllocError>
+    requires set { AreSetIn cells.now tokens.now.items }
+    requires taken { All (λ taken. All (IsTaken plan.now schema.now cells.now) taken.items) all.items }
+    ensures { IfOk result (λ reads. AreReadAt plan.now schema.now (map (λ token. token.value.items) tokens.now.items) reads.items) }
+{
+    let mut reads = no_reads(alloc, tokens.len())?;
+    for taken in all {
+        settle(&mut reads, cells, tokens, taken, schema, plan);
+    }
+    Ok(reads)
+}
+
+// Reads what is left of texts, and of what stands behind them, behind those that were read at their places, and gives the columns of all.
+fn link_arrived<W: Threads + Wait + Sync>(
+    rt: &W,
+    alloc: Global,
+    workers: usize,
+    texts: &[&[u8]],
+    reads: Vec<Option<PieceFrame>>,
+    rest: &[u8],
+    schema: &Schema,
+    plan: &RangePlan<'_>,
+    piece_size: usize,
+) -> Result<RangeColumns, AllocError>
+    requires workers { 0 < workers }
+    requires size { 0 < piece_size }
+    requires can { CanTake plan.now schema.now }
+    requires small { length (concat (map (λ text. text.now) texts.now) ++ rest.now) < 2 ^ 64 }
+    requires read { AreReadAt plan.now schema.now (map (λ text. text.now) texts.now) reads.items }
+    ensures { IfOk result (IsRangeRead plan.now schema.now (concat (map (λ text. text.now) texts.now) ++ rest.now)) }
+{
+    let mut stacks = empty_stacks(alloc, schema, plan.projection.places)?;
+    let front = link_texts(&mut stacks, texts, reads, schema, plan)?;
+    let left = left_behind(alloc, texts, rest, front.end)?;
+    let last = plan_behind(plan, front.rows, plan.last);
+    let left = read_by_workers(
+        rt, alloc, &OpenGate, workers, schema, &left, &last, piece_size,
+    )?;
+    link_left(alloc, schema, stacks, plan, front, left)
+}
+
+/// Reads all that is left of a source, and its records into columns meanwhile: the caller reads text by text, each up to where rows seem to
+/// begin, and the other workers read the records of each as soon as it came, as the caller does once all came. What was kept of the source
+/// before stands in front of them. What is not read so without a gap is put together and read as by `read_by_workers`. The answer is that of
+/// `read_by_workers` for the records.
+///
+/// Refuses a source that fails, and want of memory, in which a source without end ends.
+pub fn read_arriving<W: Threads + Wait + Sync, So: Source>(
+    rt: &W,
+    alloc: Global,
+    workers: usize,
+    intake: &mut Intake,
+    source: &mut So,
+    schema: &Schema,
+    plan: &RangePlan<'_>,
+    piece_size: usize,
+) -> Result<RangeColumns, ReadAllFault>
+    requires workers { 0 < workers }
+    requires size { 0 < piece_size }
+    requires can { CanTake plan.now schema.now }
+    requires within { intake.old.size ≤ 2 ^ 64 - 1 }
+    requires held { length intake.old.rest.items ≤ intake.old.size }
+    requires ended { intake.old.is_ended ≡ true → IsAtEnd (So.left source.old) }
+    ensures arrived { IfOk result (HasArrived plan.now schema.now (So.left source.old) (So.left source.new) intake.old.rest.items) }
+    ensures cause { IsErrOf result ReadAllFault.Source → Rose (So.faults source.old) (So.faults source.new) }
+    ensures read_on { IsReadOn (So.left source.old) (So.left source.new) }
+    ensures later { So.faults source.old ≤ So.faults source.new }
+{
+    let size = piece_size_for(piece_size, plan.projection.places.len());
+    let Ok(cells) = make_cells(alloc) else {
+        return Err(ReadAllFault::OutOfMemory);
+    };
+    let (tokens, all) = read_and_share(
+        rt, alloc, workers, &cells, intake, source, schema, plan, size,
+    )?;
+    intake.read_on(source, usize::MAX)?;
+    let Ok(reads) = settle_all(alloc, &cells, &tokens, all, schema, plan) else {
+        return Err(ReadAllFault::OutOfMemory);
+    };
+    let Ok(texts) = texts_of(alloc, &cells, &tokens) else {
+        return Err(ReadAllFault::OutOfMemory);
+    };
+    let rest = intake.rest();
+    match link_arrived(
+        rt, alloc, workers, &texts, reads, rest, schema, plan, piece_size,
+    ) {
+        Ok(read) => Ok(read),
+        Err(_) => Err(ReadAllFault::OutOfMemory),
+    }
+}

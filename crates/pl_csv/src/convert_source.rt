@@ -13,7 +13,7 @@ use pl_frame::error::PolarsError;
 use pl_frame::sink::Sink;
 use pl_frame::source::Source;
 use pl_intake::intake::Intake;
-use pl_intake::texts::make_cells;
+use pl_intake::texts::{CELLS, make_cells};
 use pl_options::read_options::CsvReadOptions;
 use pl_read::checks::check_options;
 use pl_read::preparing::{Prepared, prepare};
@@ -217,7 +217,7 @@ fn convert_ahead<W: Threads + Wait + Sync, So: Source, S: Sink>(
     ensures later { S.faults sink.old ≤ S.faults sink.new }
     ensures later_wants { S.wants sink.old ≤ S.wants sink.new }
 {
-    let Ok(cells) = make_cells(alloc) else {
+    let Ok(cells) = make_cells(alloc, CELLS) else {
         return Err(Unconverted::Polars(PolarsError::OutOfMemory));
     };
     let last = OnceLock::new();

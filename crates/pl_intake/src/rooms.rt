@@ -33,6 +33,11 @@ impl Rooms {
         }
     }
 
+    /// Keeps memory of a text that is not needed any more for one that comes. Where there is no memory to keep it, it goes.
+    pub fn give(&mut self, room: Vec<u8>) {
+        let _ = self.ready.push(room);
+    }
+
     /// Keeps how long a text was.
     pub fn keep_len(&mut self, len: usize) {
         self.last = len;

@@ -21,8 +21,8 @@ use std::sync::atomic::{AtomicUsize, Ordering};
 use std::sync::{Mutex, OnceLock, OnceToken, Wait};
 use std::thread;
 
-// So many texts there are at most.
-const CELLS: usize = 1 << 10;
+/// So many texts there are at most, where all are kept.
+pub const CELLS: usize = 1 << 10;
 
 // So many texts have one length, about; those behind them are twice as long.
 const ALIKE: usize = 80;
@@ -37,10 +37,10 @@ const SHORT: usize = 1 << 17;
 // So often a worker looks for a text before it sleeps until it is there.
 const LOOKS: usize = 64;
 
-/// Cells for the texts of a source, each of which is written once. Refuses want of memory.
-pub fn make_cells(alloc: Global) -> Result<Vec<OnceLock<Vec<u8>>>, AllocError> {
+/// Cells for so many texts of a source, each of which is written once. Refuses want of memory.
+pub fn make_cells(alloc: Global, count: usize) -> Result<Vec<OnceLock<Vec<u8>>>, AllocError> {
     let mut cells = Vec::new(alloc);
-    for _ in 0..CELLS {
+    for _ in 0..count {
         cells.push(OnceLock::new())?;
     }
     Ok(cells)

@@ -1,9 +1,11 @@
 -- Texts that are read into columns while those behind them come (docs/workers.md, "From a source to a frame").
-use Rattle.std.specs.Prelude.{◌≡◌, ℕ, ◌<◌, List, ◌++◌, length, Option, None, slice_index_or}
+use Rattle.std.specs.Prelude.{◌≡◌, ℕ, ◌-◌, ◌<◌, ◌^◌, List, ◌++◌, length, Option, None, slice_index_or}
 use Rattle.std.specs.Sync.OnceLock.{Named}
 use Rattle.std.specs.Io.KnownBytes.{Consumes, IsAtEnd}
 use Rattle.pl_frame.specs.Dialect.{IsDialect}
 use Rattle.pl_frame.specs.Schema.{Entry}
+use Rattle.pl_intake.specs.Intake.{HasGiven}
+use Rattle.pl_intake.specs.declared.intake.Intake.{Intake}
 use Rattle.pl_scan.specs.Dialect.{marks_of, comment_of}
 use Rattle.pl_cells.specs.InitBuffers.{first_unreadable}
 use Rattle.pl_cells.specs.NullValues.{HaveTexts}
@@ -11,8 +13,10 @@ use Rattle.pl_rows.specs.declared.columns.RangeColumns.{RangeColumns}
 use Rattle.pl_rows.specs.declared.plan.RangePlan.{RangePlan}
 use Rattle.pl_rows.specs.Plan.{AreRising}
 use Rattle.pl_rows.specs.Ranges.{IsRangeRead}
+use Rattle.pl_rows.specs.Texts.{AllLinked}
 use Rattle.pl_rows.specs.WholePieces.{IsPieceFrame}
 use Rattle.pl_read.specs.declared.arriving.Taken.{Taken}
+use Rattle.pl_read.specs.declared.linked.Linked.{Linked}
 
 -- texts can be read by a plan into columns of a schema
 pub record CanTake (plan : RangePlan) (schema : List Entry) : Type 0 where
@@ -27,6 +31,24 @@ pub record IsTaken (plan : RangePlan) (schema : List Entry) (cells : List Named)
   pub inside : taken.place < length cells
   pub of : (d : Named) → taken.token.of ≡ (slice_index_or cells taken.place d).id
   pub read : IsPieceFrame plan schema taken.token.value.items taken.read
+
+-- the columns of a text, all of it
+abbrev pub IsLinked : RangePlan → List Entry → List ℕ → Linked → Type 0
+IsLinked plan schema text linked = AllLinked plan schema text linked.stacks.items linked.front
+
+-- the columns of the front of a text, and what stands behind that was taken back
+pub record IsLinkedOn (plan : RangePlan) (schema : List Entry) (text : List ℕ) (intake next : Intake) (linked : Linked) : Type 0 where
+  pub front : List ℕ
+  pub is : IsLinked plan schema front linked
+  pub are : text ++ intake.rest.items ≡ front ++ next.rest.items
+  pub size_is : next.size ≡ intake.size
+  pub ended_is : next.is_ended ≡ intake.is_ended
+
+-- what came of a source, behind what was kept of it before, and is not kept: these are the columns of it
+pub record HasLinked (plan : RangePlan) (schema : List Entry) (before now : Option (List ℕ)) (intake next : Intake) (linked : Linked) : Type 0 where
+  pub text : List ℕ
+  pub given : HasGiven before now (2 ^ 64 - 1) intake next text
+  pub is : IsLinked plan schema text linked
 
 -- All bytes that were left of a source came. These bytes, behind those that were kept, are a range that was read.
 pub record HasArrived (plan : RangePlan) (schema : List Entry) (before now : Option (List ℕ)) (kept : List ℕ) (read : RangeColumns) : Type 0 where

@@ -8,10 +8,10 @@ ghost use Rattle.pl_read.specs.Options.{settled_schema};
 ghost use Rattle.pl_read.specs.Reading.{IsRead, IsReadFault};
 ghost use Rattle.pl_read.specs.Steps.{MayRead};
 
-use crate::arriving::read_arriving;
 use crate::checks::check_options;
 use crate::preparing::{Prepared, prepare};
 use crate::reading::{frame_of_range, plan_of, read_frame, rechunked};
+use crate::rounds::read_arriving;
 use crate::workers::worker_count;
 use pl_board::gate::OpenGate;
 use pl_frame::error::{PolarsError, PolarsResult};
@@ -45,7 +45,6 @@ pub fn reads_ahead(options: &CsvReadOptions) -> bool
     options.schema.is_some()
         && options.skip_lines == 0
         && options.n_rows.is_none()
-        && worker_count(options.n_threads) > 1
         && check_options(options).is_ok()
 }
 

@@ -1,4 +1,4 @@
-//! The records of a source, read into columns by workers: each text is read while those behind it come.
+//! Texts of a source, read into columns by workers: each text is read while those behind it come.
 ghost use Rattle.std.specs.Prelude.{◌≡◌, ◌++◌, ◌-◌, ◌<◌, ◌≤◌, ◌^◌, ℕ, List, Option, None, true, All, IfOk, OnOk, IsErrOf, length, map};
 ghost use Rattle.std.specs.Io.KnownBytes.{IsAtEnd};
 ghost use Rattle.std.specs.List.{concat};
@@ -12,21 +12,14 @@ ghost use Rattle.pl_read.specs.Arriving.{CanTake, IsTaken, HasArrived};
 ghost use Rattle.pl_rows.specs.Ranges.{IsRangeRead};
 ghost use Rattle.pl_rows.specs.Texts.{AreReadAt};
 
-use crate::workers::{piece_size_for, read_by_workers};
-use pl_board::gate::OpenGate;
 use pl_frame::read_all::ReadAllFault;
 use pl_frame::schema::Schema;
 use pl_frame::source::Source;
 use pl_intake::intake::Intake;
 use pl_intake::rooms::Rooms;
-use pl_intake::texts::{
-    FEW, TakenText, close_cells, left_behind, make_cells, read_texts, take_text, texts_of,
-};
-use pl_rows::columns::{RangeColumns, empty_buffers};
-use pl_rows::linking::{link_left, link_texts};
-use pl_rows::pieces::plan_behind;
+use pl_intake::texts::{FEW, TakenText, close_cells, read_texts, take_text};
+use pl_rows::columns::empty_buffers;
 use pl_rows::plan::RangePlan;
-use pl_rows::stack::empty_stacks;
 use pl_rows::whole_pieces::{PieceFrame, read_packed};
 use std::alloc::{AllocError, Global};
 use std::sync::atomic::{AtomicUsize, Ordering};
@@ -34,9 +27,9 @@ use std::sync::{Mutex, OnceLock, OnceToken, Wait};
 use std::thread;
 use std::thread::Threads;
 
-// What was read of a text: the place of its cell, what shows that the cell holds it, and its columns.
+/// What was read of a text: the place of its cell, what shows that the cell holds it, and its columns.
 #[derive(Drop)]
-struct Taken<'a> {
+pub(crate) struct Taken<'a> {
     place: usize,
     token: OnceToken<'a, Vec<u8>>,
     read: PieceFrame,
@@ -246,13 +239,16 @@ fn read_beside<'a, W: Threads + Wait + Sync, So: Source>(
     Ok(all)
 }
 
-// Reads the first texts of a source, and then what is left of it while workers take texts. Where the first texts are all, no more workers take
-// them than there are texts. Answers what shows the texts, and the texts that each took.
-fn read_and_share<'a, W: Threads + Wait + Sync, So: Source>(
+/// Reads the first texts of a source, and then those of the other cells while workers take texts. Where the first texts are all, no more workers
+/// take them than there are texts. Answers what shows the texts, and the texts that each took.
+///
+/// Refuses a source that fails, and want of memory.
+pub(crate) fn read_and_share<'a, W: Threads + Wait + Sync, So: Source>(
     rt: &W,
     alloc: Global,
     workers: usize,
     cells: &'a [OnceLock<Vec<u8>>],
+    rooms: &Mutex<Rooms>,
     intake: &mut Intake,
     source: &mut So,
     schema: &Schema,
@@ -269,13 +265,12 @@ fn read_and_share<'a, W: Threads + Wait + Sync, So: Source>(
     ensures read_on { IsReadOn (So.left source.old) (So.left source.new) }
     ensures later { So.faults source.old ≤ So.faults source.new }
 {
-    let rooms = Mutex::new(Rooms::new(alloc));
     let mut tokens = Vec::new(alloc);
     read_texts(
         rt,
         alloc,
         cells,
-        &rooms,
+        rooms,
         &mut tokens,
         FEW,
         intake,
@@ -290,7 +285,7 @@ fn read_and_share<'a, W: Threads + Wait + Sync, So: Source>(
         let next = AtomicUsize::new(0);
         close_cells(rt, alloc, cells, tokens.len(), workers);
         let Ok(all) = take_each(
-            rt, alloc, workers, cells, &rooms, &next, schema, plan, piece_size,
+            rt, alloc, workers, cells, rooms, &next, schema, plan, piece_size,
         ) else {
             return Err(ReadAllFault::OutOfMemory);
         };
@@ -302,7 +297,7 @@ fn read_and_share<'a, W: Threads + Wait + Sync, So: Source>(
         alloc,
         others,
         cells,
-        &rooms,
+        rooms,
         &mut tokens,
         intake,
         source,
@@ -351,8 +346,8 @@ fn no_reads(alloc: Global, count: usize) -> Result<Vec<Option<PieceFrame>>, Allo
     Ok(reads)
 }
 
-// What was read of the texts that these tokens show, by place.
-fn settle_all<'a>(
+/// What was read of the texts that these tokens show, by place. Refuses only want of memory.
+pub(crate) fn settle_all<'a>(
     alloc: Global,
     cells: &'a [OnceLock<Vec<u8>>],
     tokens: &Vec<OnceToken<'a, Vec<u8>>>,
@@ -369,83 +364,4 @@ fn settle_all<'a>(
         settle(&mut reads, cells, tokens, taken, schema, plan);
     }
     Ok(reads)
-}
-
-// Reads what is left of texts, and of what stands behind them, behind those that were read at their places, and gives the columns of all.
-fn link_arrived<W: Threads + Wait + Sync>(
-    rt: &W,
-    alloc: Global,
-    workers: usize,
-    texts: &[&[u8]],
-    reads: Vec<Option<PieceFrame>>,
-    rest: &[u8],
-    schema: &Schema,
-    plan: &RangePlan<'_>,
-    piece_size: usize,
-) -> Result<RangeColumns, AllocError>
-    requires workers { 0 < workers }
-    requires size { 0 < piece_size }
-    requires can { CanTake plan.now schema.now }
-    requires small { length (concat (map (λ text. text.now) texts.now) ++ rest.now) < 2 ^ 64 }
-    requires read { AreReadAt plan.now schema.now (map (λ text. text.now) texts.now) reads.items }
-    ensures { IfOk result (IsRangeRead plan.now schema.now (concat (map (λ text. text.now) texts.now) ++ rest.now)) }
-{
-    let mut stacks = empty_stacks(alloc, schema, plan.projection.places)?;
-    let front = link_texts(&mut stacks, texts, reads, schema, plan)?;
-    let left = left_behind(alloc, texts, rest, front.end)?;
-    let last = plan_behind(plan, front.rows, plan.last);
-    let left = read_by_workers(
-        rt, alloc, &OpenGate, workers, schema, &left, &last, piece_size,
-    )?;
-    link_left(alloc, schema, stacks, plan, front, left)
-}
-
-/// Reads all that is left of a source, and its records into columns meanwhile: the caller reads text by text, each up to where rows seem to
-/// begin, and the other workers read the records of each as soon as it came, as the caller does once all came. What was kept of the source
-/// before stands in front of them. What is not read so without a gap is put together and read as by `read_by_workers`. The answer is that of
-/// `read_by_workers` for the records.
-///
-/// Refuses a source that fails, and want of memory, in which a source without end ends.
-pub fn read_arriving<W: Threads + Wait + Sync, So: Source>(
-    rt: &W,
-    alloc: Global,
-    workers: usize,
-    intake: &mut Intake,
-    source: &mut So,
-    schema: &Schema,
-    plan: &RangePlan<'_>,
-    piece_size: usize,
-) -> Result<RangeColumns, ReadAllFault>
-    requires workers { 0 < workers }
-    requires size { 0 < piece_size }
-    requires can { CanTake plan.now schema.now }
-    requires within { intake.old.size ≤ 2 ^ 64 - 1 }
-    requires held { length intake.old.rest.items ≤ intake.old.size }
-    requires ended { intake.old.is_ended ≡ true → IsAtEnd (So.left source.old) }
-    ensures arrived { IfOk result (HasArrived plan.now schema.now (So.left source.old) (So.left source.new) intake.old.rest.items) }
-    ensures cause { IsErrOf result ReadAllFault.Source → Rose (So.faults source.old) (So.faults source.new) }
-    ensures read_on { IsReadOn (So.left source.old) (So.left source.new) }
-    ensures later { So.faults source.old ≤ So.faults source.new }
-{
-    let size = piece_size_for(piece_size, plan.projection.places.len());
-    let Ok(cells) = make_cells(alloc) else {
-        return Err(ReadAllFault::OutOfMemory);
-    };
-    let (tokens, all) = read_and_share(
-        rt, alloc, workers, &cells, intake, source, schema, plan, size,
-    )?;
-    intake.read_on(source, usize::MAX)?;
-    let Ok(reads) = settle_all(alloc, &cells, &tokens, all, schema, plan) else {
-        return Err(ReadAllFault::OutOfMemory);
-    };
-    let Ok(texts) = texts_of(alloc, &cells, &tokens) else {
-        return Err(ReadAllFault::OutOfMemory);
-    };
-    let rest = intake.rest();
-    match link_arrived(
-        rt, alloc, workers, &texts, reads, rest, schema, plan, piece_size,
-    ) {
-        Ok(read) => Ok(read),
-        Err(_) => Err(ReadAllFault::OutOfMemory),
-    }
 }

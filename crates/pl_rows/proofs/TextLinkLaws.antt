@@ -1,11 +1,11 @@
 -- Texts that follow one another, each read apart, linked.
-use Rattle.std.proofs.Common.{◌≡◌, ℕ, suc, ◌+◌, ◌-◌, ◌<◌, ◌≤◌, ◌^◌, true, List, [], ◌∷◌, ◌++◌, map, length, take, drop, get_or, refl, sym, ◌∙◌, ap, subst, arith, length-append, drop-cons}
+use Rattle.std.proofs.Common.{◌≡◌, ℕ, suc, ◌+◌, ◌-◌, ◌<◌, ◌≤◌, ◌^◌, true, List, [], ◌∷◌, ◌++◌, map, length, take, drop, get_or, refl, sym, ◌∙◌, ap, subst, arith, length-append, append-nil, drop-cons}
 use Rattle.std.specs.Prelude.{Option, None, Some, IfSome, slice_range}
 use Rattle.std.specs.Iterator.{Yields}
 use Rattle.std.specs.List.{concat}
 use Rattle.std.specs.Vec.Iter.{into_iter_items, into_iter_steps}
 use Rattle.std.specs.declared.vec.IntoIter.{IntoIter}
-use Rattle.std.proofs.lemmas.List.{take-append-drop, take_at, drop_at, get_or_at, take_more}
+use Rattle.std.proofs.lemmas.List.{take-append-drop, take-append-le, take_at, drop_at, get_or_at, take_more}
 use Rattle.std.proofs.lemmas.List.Folds.{concat-append}
 use Rattle.pl_frame.specs.Dialect.{IsDialect}
 use Rattle.pl_frame.specs.Frame.{ColumnValue}
@@ -20,8 +20,9 @@ use Rattle.pl_rows.specs.declared.whole_pieces.PieceFrame.{PieceFrame}
 use Rattle.pl_rows.specs.Pieces.{plan_behind}
 use Rattle.pl_rows.specs.Ranges.{IsRangeRead}
 use Rattle.pl_rows.specs.Steps.{is_below}
-use Rattle.pl_rows.specs.Texts.{AreReadAt, IsLeftRead}
-use Rattle.pl_rows.specs.WholePieces.{IsPieceFrame, IsFrontLinked}
+use Rattle.pl_rows.specs.Texts.{AllLinked, AreReadAt, IsLeftRead}
+use Rattle.pl_table.specs.Rows.{rows}
+use Rattle.pl_rows.specs.WholePieces.{IsPieceFrame, IsSoundText, text_frame, IsFrontLinked}
 use Rattle.pl_rows.proofs.LinkLaws.{IsFrontLinked-more}
 
 -- ---- texts one behind the other
@@ -87,6 +88,32 @@ AreLinked-more plan schema texts columns front next k read dialect are inside pi
       linked = IsFrontLinked-more plan schema (concat texts) text columns read front.rows front.end front.end next.end next.rows dialect are.linked piece
           (part.part ∙ ap (slice_range (concat texts) front.end) (sym end_is)) refl (omega (arith, end_is)) (omega (arith, end_is, part.within)) rows_is below;
     }
+
+-- ---- a front of a longer range
+
+-- a front that is linked, with more behind the range
+pub IsFrontLinked-longer : (plan : RangePlan) (schema : List Entry) (range more : List ℕ) (columns : List ColumnValue) (count end : ℕ) → IsFrontLinked plan schema range columns count end
+    → IsFrontLinked plan schema (range ++ more) columns count end
+IsFrontLinked-longer plan schema range more columns count end front =
+    let same : take end (range ++ more) ≡ take end range = take-append-le end range more front.within in
+    record {
+      within = omega (arith, front.within, length-append range more);
+      sound = subst (IsSoundText plan schema) (sym same) front.sound;
+      columns_are = front.columns_are ∙ ap (text_frame plan schema) (sym same);
+      count_is = front.count_is ∙ ap (λ (t : List ℕ). length (rows (marks_of plan.dialect) (comment_of plan.dialect) t)) (sym same);
+      few = front.few;
+    }
+
+-- ---- texts behind one that is linked
+
+-- the text in front of them, all of which is linked
+pub AreLinked-first : (plan : RangePlan) (schema : List Entry) (before : List ℕ) (texts : List (List ℕ)) (columns : List ColumnValue) (front : Front) → AllLinked plan schema before columns front
+    → AreLinked plan schema (before ∷ texts) columns front 1
+AreLinked-first plan schema before texts columns front all = record {
+  inside = omega arith;
+  end_is = all.end_is ∙ ap length (sym (append-nil before));
+  linked = IsFrontLinked-longer plan schema before (concat texts) columns front.rows front.end all.linked;
+}
 
 -- ---- what is left behind them
 

@@ -14,6 +14,11 @@ use Rattle.pl_rows.specs.WholePieces.{IsPieceFrame, IsFrontLinked}
 abbrev pub AreReadAt : RangePlan → List Entry → List (List ℕ) → List (Option PieceFrame) → Type 0
 AreReadAt plan schema texts reads = (k : ℕ) (d : Option PieceFrame) → k < length reads → IfSome (slice_index_or reads k d) (IsPieceFrame plan schema (slice_index_or texts k []))
 
+-- all of a text is linked
+pub record AllLinked (plan : RangePlan) (schema : List Entry) (text : List ℕ) (columns : List ColumnValue) (front : Front) : Type 0 where
+  pub linked : IsFrontLinked plan schema text columns front.rows front.end
+  pub end_is : front.end ≡ length text
+
 -- the front of a range is linked, and what is left behind it was read as its last part
 pub record IsLeftRead (plan : RangePlan) (schema : List Entry) (range : List ℕ) (columns : List ColumnValue) (front : Front) (left : RangeColumns) : Type 0 where
   pub small : length range < 2 ^ 64

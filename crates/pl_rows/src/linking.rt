@@ -1,5 +1,5 @@
 //! Columns of pieces that were read apart, linked in order, and what is left of their range behind them.
-ghost use Rattle.std.specs.Prelude.{◌≡◌, ℕ, List, None, IfOk, OnOk, length, map};
+ghost use Rattle.std.specs.Prelude.{◌≡◌, ◌++◌, ◌≤◌, ℕ, List, None, IfOk, OnOk, length, map};
 ghost use Rattle.std.specs.List.{concat};
 ghost use Rattle.pl_frame.specs.Dialect.{AreDistinct, IsDialect};
 ghost use Rattle.pl_frame.specs.FrameParts.{empty_columns};
@@ -9,7 +9,7 @@ ghost use Rattle.pl_cells.specs.NullValues.{HaveTexts};
 ghost use Rattle.pl_rows.specs.declared.whole_pieces.PieceFrame.{PieceFrame};
 ghost use Rattle.pl_rows.specs.Plan.{AreRising};
 ghost use Rattle.pl_rows.specs.Ranges.{IsRangeRead};
-ghost use Rattle.pl_rows.specs.Texts.{AreReadAt, IsLeftRead};
+ghost use Rattle.pl_rows.specs.Texts.{AllLinked, AreReadAt, IsLeftRead};
 ghost use Rattle.pl_rows.specs.WholePieces.{IsPieceFrame, IsFrontLinked};
 
 use crate::apart::{PieceColumns, Reading};
@@ -71,21 +71,23 @@ fn link_front<K: Reading>(
     Ok(Front { rows, end })
 }
 
-/// Puts the columns of texts that follow one another behind the stacks: of those at the front that were read, as long as their rows are below
-/// the limit. Refuses only want of memory.
+/// Puts the columns of texts that follow one another, and what is linked already, behind the stacks: of those at the front that were read, as
+/// long as their rows are below the limit. Refuses only want of memory.
 pub fn link_texts(
     stacks: &mut [Stack],
+    linked: Front,
     texts: &[&[u8]],
     reads: Vec<Option<PieceFrame>>,
     schema: &Schema,
     plan: &RangePlan<'_>,
 ) -> Result<Front, AllocError>
     requires dialect { IsDialect (marks_of plan.now.dialect) (comment_of plan.now.dialect) }
-    requires empty { stacks.old ≡ empty_columns (map (entry_at schema.now) plan.now.projection.places.now) }
+    requires linked { (before : List ℕ) × AllLinked plan.now schema.now before stacks.old linked }
     requires read { AreReadAt plan.now schema.now (map (λ text. text.now) texts.now) reads.items }
-    ensures { IfOk result (λ front. IsFrontLinked plan.now schema.now (concat (map (λ text. text.now) texts.now)) stacks.new front.rows front.end) }
+    ensures after { IfOk result (λ front. linked.end ≤ front.end) }
+    ensures linked { (before : List ℕ) → AllLinked plan.now schema.now before stacks.old linked → IfOk result (λ front. IsFrontLinked plan.now schema.now (before ++ concat (map (λ text. text.now) texts.now)) stacks.new front.rows front.end) }
 {
-    let mut front = Front { rows: 0, end: 0 };
+    let mut front = linked;
     let mut place = 0;
     for read in reads {
         let Some(piece) = read else {

@@ -1,7 +1,7 @@
 -- Texts of a source that workers read apart, at their places.
 use Rattle.std.proofs.Common.{◌≡◌, ℕ, ◌+◌, ◌-◌, ◌<◌, ◌≤◌, ◌^◌, true, List, [], ◌∷◌, ◌++◌, length, map, take, drop, get_or, set, Option, None, Some, refl, sym, ◌∙◌, ap, subst, inl, inr, arith, length-append, length-take, append-nil, append_assoc}
 use Rattle.std.specs.Prelude.{All, IfSome}
-use Rattle.std.specs.Io.KnownBytes.{Consumes, IsAtEnd}
+use Rattle.std.specs.Io.KnownBytes.{IsAtEnd}
 use Rattle.std.specs.Iterator.{Yields}
 use Rattle.std.specs.Vec.Iter.{into_iter_items, into_iter_steps}
 use Rattle.std.specs.declared.vec.IntoIter.{IntoIter}
@@ -41,16 +41,19 @@ next-of P all start done now next left holds gives taken step =
 pub AreReadAt-none : (plan : RangePlan) (schema : List Entry) (texts : List (List ℕ)) (reads : List (Option PieceFrame)) → All (λ read. read ≡ None) reads → AreReadAt plan schema texts reads
 AreReadAt-none plan schema texts reads none k d inside = subst (λ found. IfSome found (IsPieceFrame plan schema (get_or texts k []))) (sym (none k d inside)) tt
 
+-- what was found of a text is what was read of it
+pub found-frame : (plan : RangePlan) (schema : List Entry) (text : List ℕ) (read : Option PieceFrame) → IsPieceFound plan schema text read → IfSome read (IsPieceFrame plan schema text)
+found-frame plan schema text None found = tt
+found-frame plan schema text (Some read) found = found.0
+
 -- of one text
 pub AreReadAt-one : (plan : RangePlan) (schema : List Entry) (text : List ℕ) (read : Option PieceFrame) (reads : List (Option PieceFrame)) → reads ≡ read ∷ [] → IsPieceFound plan schema text read
     → AreReadAt plan schema (text ∷ []) reads
 AreReadAt-one plan schema text read reads is found =
-    let own : IfSome read (IsPieceFrame plan schema text) = found-some plan schema text read found in
-    subst (AreReadAt plan schema (text ∷ [])) (sym is) (λ k d inside. one-at plan schema text read own k d inside)
-  where
-    found-some : (plan : RangePlan) (schema : List Entry) (text : List ℕ) (read : Option PieceFrame) → IsPieceFound plan schema text read → IfSome read (IsPieceFrame plan schema text)
-    found-some plan schema text None found = tt
-    found-some plan schema text (Some read) found = found.0
+    let own : IfSome read (IsPieceFrame plan schema text) = found-frame plan schema text read found in
+    subst (AreReadAt plan schema (text ∷ [])) (sym is) (λ k d inside.
+    let first : k ≡ 0 = omega (arith, inside) in
+    subst (λ n. IfSome (get_or (read ∷ []) n d) (IsPieceFrame plan schema (get_or (text ∷ []) n []))) (sym first) own)
 
 -- a text more was read
 pub AreReadAt-more : (plan : RangePlan) (schema : List Entry) (texts : List (List ℕ)) (reads : List (Option PieceFrame)) (place : ℕ) (read : PieceFrame) → AreReadAt plan schema texts reads

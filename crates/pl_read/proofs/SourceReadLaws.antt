@@ -1,6 +1,6 @@
 -- What came of a source, and what was read of it.
-use Rattle.std.proofs.Common.{◌≡◌, ℕ, ◌+◌, ◌≤◌, List, [], ◌++◌, length, drop, refl, sym, ◌∙◌, ap, subst, inl, inr, arith, append-nil}
-use Rattle.std.specs.Prelude.{◌⊎◌, Option, None, Some, Result, Ok, Err, IfOk, OnOk, IfErr, IfSome, IsErrOf, MatchResult, unwrap_or, is_some}
+use Rattle.std.proofs.Common.{◌≡◌, ℕ, ◌≤◌, List, [], ◌++◌, length, drop, refl, sym, ◌∙◌, ap, subst, inl, inr, arith, append-nil}
+use Rattle.std.specs.Prelude.{Option, None, Some, Result, Err, IfOk, OnOk, IfErr, IfSome, IsErrOf, MatchResult, unwrap_or, is_some}
 use Rattle.std.specs.Option.{option_copied}
 use Rattle.std.specs.Io.KnownBytes.{Consumes, IsAtEnd}
 use Rattle.std.proofs.lemmas.List.{drop-append-le}
@@ -12,9 +12,9 @@ use Rattle.pl_frame.specs.declared.error.PolarsError.{PolarsError}
 use Rattle.pl_frame.specs.declared.error.PolarsError.TheVariants as error
 use Rattle.pl_frame.specs.declared.read_all.ReadAllFault.{ReadAllFault}
 use Rattle.pl_frame.specs.declared.read_all.ReadAllFault.TheVariants as read_fault
-use Rattle.pl_frame.proofs.Known.{Consumes-nil, Consumes-append}
+use Rattle.pl_frame.proofs.Known.{Consumes-append}
 use Rattle.pl_scan.specs.Dialect.{comment_of as scan_comment_of}
-use Rattle.pl_intake.specs.Intake.{HasGiven, HasGainedAll}
+use Rattle.pl_intake.specs.Intake.{HasGiven}
 use Rattle.pl_intake.specs.declared.intake.Intake.{Intake}
 use Rattle.pl_options.specs.FirstCause.{IsFault}
 use Rattle.pl_options.specs.Text.{marks_of}
@@ -23,14 +23,14 @@ use Rattle.pl_rows.specs.declared.columns.RangeColumns.{RangeColumns}
 use Rattle.pl_rows.specs.declared.plan.RangePlan.{RangePlan}
 use Rattle.pl_rows.specs.Plan.{AreRising}
 use Rattle.pl_rows.specs.Ranges.{IsRangeRead}
-use Rattle.pl_read.specs.Ahead.{MayReadAhead, IsReadBy, IsReadAhead, IsInputRead, IsSourceRead, IsReadBehind, AreRowsRead, unread_of}
-use Rattle.pl_read.specs.Arriving.{CanTake, HasArrived}
+use Rattle.pl_read.specs.Ahead.{IsReadBy, IsReadAhead, IsSourceRead, IsReadBehind, AreRowsRead, unread_of}
+use Rattle.pl_read.specs.Arriving.{CanTake}
 use Rattle.pl_read.specs.BytesReader.{input_of}
 use Rattle.pl_read.specs.CsvReader.{IsInput, OfInput, IsFinishFault, IsMeaning, AnswersUnlessFailed}
 use Rattle.pl_read.specs.Options.{settled_schema}
 use Rattle.pl_read.specs.Reading.{frame_of, IsRead, IsReadFault}
 use Rattle.pl_read.specs.Rows.{data_frame}
-use Rattle.pl_read.specs.Steps.{MayRead, late_cause, data_cause, IsPlanOf, CanReadData, IsDataRead}
+use Rattle.pl_read.specs.Steps.{MayRead, late_cause, data_cause, IsPlanOf, CanReadData}
 use Rattle.pl_read.specs.declared.preparing.Prepared.{Prepared}
 use Rattle.pl_read.proofs.CauseLaws.{read-answer}
 use Rattle.pl_read.proofs.DataLaws.{readable-places}

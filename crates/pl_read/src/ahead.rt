@@ -1,4 +1,4 @@
-//! From what a source gives to the frame that it means: where workers may begin before all bytes came, they do.
+//! From what a source gives to the frame that it means: where rows can be read before all bytes came, they are.
 ghost use Rattle.std.specs.Prelude.{◌≡◌, ◌-◌, ◌^◌, ◌≤◌, ℕ, List, true, length, IfSome, MatchResult};
 ghost use Rattle.std.specs.Bool.{OnTrue};
 ghost use Rattle.std.specs.Io.KnownBytes.{IsAtEnd};
@@ -25,7 +25,7 @@ use std::alloc::Global;
 use std::sync::Wait;
 use std::thread::Threads;
 
-// So many bytes are read before it is told what the rows are read by, or a piece, where that is shorter. An input of no more is read first.
+// So many bytes are read before it is told what the rows are read by, or a piece, where that is shorter. An input of no more is read as a whole.
 const FIRST: usize = 1 << 16;
 
 // Why a source was not read to its end.
@@ -38,7 +38,7 @@ fn unread(fault: ReadAllFault) -> PolarsError
     }
 }
 
-/// Whether a front of the input can tell what the rows are read by, and there are workers to read them.
+/// Whether a front of the input can tell what the rows are read by, so that they can be read as they come.
 pub fn reads_ahead(options: &CsvReadOptions) -> bool
     ensures { OnTrue result (MayReadAhead options.now) }
 {
@@ -141,7 +141,7 @@ fn read_ahead<W: Threads + Wait + Sync, So: Source>(
 }
 
 /// The frame of the input that a source gives, as `read_frame` gives it of the input as a whole. Where a front of the input tells what its rows
-/// are read by, they are read as they come, by the workers beside the one that reads the source.
+/// are read by, they are read as they come.
 pub fn read_from<W: Threads + Wait + Sync, So: Source>(
     rt: &W,
     alloc: Global,

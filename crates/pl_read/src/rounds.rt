@@ -36,8 +36,7 @@ const PART: usize = 1 << 14;
 
 // Keeps the memory of texts that are not needed any more, the first of them on top.
 fn keep_rooms<W: Wait>(rt: &W, rooms: &Mutex<Rooms>, cells: Vec<OnceLock<Vec<u8>>>) {
-    let mut cells = cells;
-    while let Some(cell) = cells.pop() {
+    for cell in cells.into_iter().rev() {
         if let Some(text) = cell.into_inner() {
             rooms.lock(rt).give(text);
         }
@@ -137,6 +136,39 @@ fn read_rounds<W: Threads + Wait + Sync, So: Source>(
     Ok(linked)
 }
 
+// Reads texts of a source and links them: one worker text by text, several round by round. What can't be linked is kept, and what is left of
+// the source is not read.
+//
+// Refuses a source that fails, and want of memory.
+fn link_source<W: Threads + Wait + Sync, So: Source>(
+    rt: &W,
+    alloc: Global,
+    workers: usize,
+    intake: &mut Intake,
+    source: &mut So,
+    schema: &Schema,
+    plan: &RangePlan<'_>,
+    piece_size: usize,
+) -> Result<Linked, ReadAllFault>
+    requires can { CanTake plan.now schema.now }
+    requires within { intake.old.size ≤ 2 ^ 64 - 1 }
+    requires ended { intake.old.is_ended ≡ true → IsAtEnd (So.left source.old) }
+    ensures linked { IfOk result (HasLinked plan.now schema.now (So.left source.old) (So.left source.new) intake.old intake.new) }
+    ensures cause { IsErrOf result ReadAllFault.Source → Rose (So.faults source.old) (So.faults source.new) }
+    ensures read_on { IsReadOn (So.left source.old) (So.left source.new) }
+    ensures later { So.faults source.old ≤ So.faults source.new }
+{
+    let Ok(none) = none_linked(alloc, schema, plan) else {
+        return Err(ReadAllFault::OutOfMemory);
+    };
+    if workers == 1 {
+        return read_in_turn(alloc, none, intake, source, schema, plan, piece_size);
+    }
+    read_rounds(
+        rt, alloc, workers, none, intake, source, schema, plan, piece_size,
+    )
+}
+
 /// Reads all that is left of a source, and its records into columns meanwhile. One worker reads text by text, each up to where rows seem to
 /// begin. Where there are several, the caller reads the texts of a round, and the others read the records of each as soon as it came, as the
 /// caller does once all of them came. What was kept of the source before stands in front of them. What is not read so without a gap is put
@@ -165,22 +197,16 @@ pub fn read_arriving<W: Threads + Wait + Sync, So: Source>(
     ensures later { So.faults source.old ≤ So.faults source.new }
 {
     let size = piece_size_for(piece_size, plan.projection.places.len());
-    let Ok(none) = none_linked(alloc, schema, plan) else {
-        return Err(ReadAllFault::OutOfMemory);
-    };
-    let Linked { stacks, front } = if workers == 1 {
-        read_in_turn(alloc, none, intake, source, schema, plan, size)?
-    } else {
-        read_rounds(rt, alloc, workers, none, intake, source, schema, plan, size)?
-    };
+    let linked = link_source(rt, alloc, workers, intake, source, schema, plan, size)?;
     intake.read_on(source, usize::MAX)?;
-    let last = plan_behind(plan, front.rows, plan.last);
+    let last = plan_behind(plan, linked.front.rows, plan.last);
     let rest = intake.rest();
     let Ok(left) = read_by_workers(
         rt, alloc, &OpenGate, workers, schema, rest, &last, piece_size,
     ) else {
         return Err(ReadAllFault::OutOfMemory);
     };
+    let Linked { stacks, front } = linked;
     match link_left(alloc, schema, stacks, plan, front, left) {
         Ok(read) => Ok(read),
         Err(_) => Err(ReadAllFault::OutOfMemory),

@@ -1,4 +1,4 @@
-use Rattle.std.proofs.Common.{◌≡◌, List, ℕ, drop, subst, inr}
+use Rattle.std.proofs.Common.{◌≡◌, List, drop, subst, inr}
 use Rattle.std.specs.Prelude.{IfOk, OnOk, IfErr, IsOkUnless, None, Option, Result, Ok, Err}
 use Rattle.pl_frame.specs.Frame.{ColumnValue}
 use Rattle.pl_frame.specs.declared.error.PolarsError.{PolarsError}

@@ -1,4 +1,4 @@
-use Rattle.std.proofs.Common.{◌≡◌, List, ◌++◌, ◌≤◌, [], length, drop, sym, ◌∙◌, ap, arith, length-drop}
+use Rattle.std.proofs.Common.{◌≡◌, List, ◌++◌, [], length, drop, sym, ◌∙◌, ap, arith, length-drop}
 use Rattle.std.specs.Option.{option_map}
 use Rattle.pl_frame.specs.Schema.{Entry}
 use Rattle.pl_cells.specs.NullValues.{compiled_for}

@@ -1,9 +1,9 @@
-use Rattle.std.proofs.Common.{◌≡◌, ◌++◌, ◌-◌, ◌^◌, ℕ, [], refl, subst, arith, le_refl}
+use Rattle.std.proofs.Common.{◌≡◌, ◌++◌, ◌-◌, ◌^◌, [], subst, le_refl}
 use Rattle.pl_frame.proofs.Known.{Consumes-nil}
 use Rattle.pl_intake.proofs.IntakeLaws.{ok-holds, IsReadOn-behind}
-use Rattle.pl_read.specs.Ahead.{IsReadAhead, IsSourceRead}
+use Rattle.pl_read.specs.Ahead.{IsReadAhead}
 use Rattle.pl_read.proofs.AheadLaws.{IsReadAhead-longer}
-use Rattle.pl_read.proofs.SourceReadLaws.{unread-behind, wanting-behind, behind-first}
+use Rattle.pl_read.proofs.SourceReadLaws.{unread-behind, behind-first}
 use Rattle.pl_read.proofs.ahead.read_from.Goals as goal
 
 pub returns-in-Err-clause-answer : goal.returns-in-Err-clause-answer

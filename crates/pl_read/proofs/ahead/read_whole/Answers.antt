@@ -1,4 +1,4 @@
-use Rattle.std.proofs.Common.{◌≡◌, ◌++◌, List, ℕ, sym, ◌∙◌, ap, subst}
+use Rattle.std.proofs.Common.{◌≡◌, ◌++◌, List, ℕ, ◌∙◌, ap, subst}
 use Rattle.std.specs.Prelude.{MatchResult}
 use Rattle.pl_read.specs.Options.{settled_schema}
 use Rattle.pl_read.specs.Reading.{IsRead, IsReadFault}

@@ -1,4 +1,4 @@
-use Rattle.std.proofs.Common.{rules, ◌-◌, ◌^◌}
+use Rattle.std.proofs.Common.{◌-◌, ◌^◌}
 use Rattle.std.specs.List.{concat}
 use Rattle.pl_intake.specs.Intake.{HasGiven}
 use Rattle.pl_intake.proofs.TextLaws.{values_of, HasGiven-first}

@@ -1,4 +1,4 @@
-use Rattle.std.proofs.Common.{◌≡◌, ◌<◌, length, sym, ◌∙◌, ap, arith}
+use Rattle.std.proofs.Common.{◌<◌, length, sym, ◌∙◌, ap, arith}
 use Rattle.std.specs.Sync.OnceLock.{Named}
 use Rattle.pl_intake.proofs.TextLaws.{Token, token-at}
 use Rattle.pl_read.specs.Arriving.{IsTaken}

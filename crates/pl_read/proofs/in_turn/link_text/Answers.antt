@@ -1,4 +1,4 @@
-use Rattle.std.proofs.Common.{◌≡◌, ◌++◌, ◌∷◌, [], ap, ◌∙◌, append-nil, sym}
+use Rattle.std.proofs.Common.{◌++◌, ◌∷◌, [], ap, ◌∙◌}
 use Rattle.pl_read.proofs.ArrivingLaws.{AreReadAt-one}
 use Rattle.pl_read.proofs.in_turn.link_text.Goals as goal
 

@@ -1,4 +1,4 @@
-use Rattle.std.proofs.Common.{◌≡◌, ◌++◌, ◌-◌, ◌≤◌, List, ℕ, Bor, length, map, sym, ◌∙◌, ap, subst, arith, length-append}
+use Rattle.std.proofs.Common.{◌++◌, List, ℕ, Bor, map, sym, subst, arith, length-append}
 use Rattle.std.specs.List.{concat}
 use Rattle.pl_rows.proofs.FrameLaws.{written_back}
 use Rattle.pl_rows.specs.Texts.{AllLinked}

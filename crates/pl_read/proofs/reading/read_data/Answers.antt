@@ -1,4 +1,4 @@
-use Rattle.std.proofs.Common.{◌≡◌, sym, subst, length}
+use Rattle.std.proofs.Common.{sym, subst, length}
 use Rattle.pl_frame.specs.Dialect.{IsDialect}
 use Rattle.pl_scan.specs.Dialect.{comment_of as scan_comment_of}
 use Rattle.pl_rows.specs.Plan.{AreRising}

@@ -37,26 +37,30 @@ lane_sum = borrow.Rule.Simd.Lanes.act2 (mir.Syntax.add mir.Syntax.unsigned) (bor
 abbrev pub fours : List ℕ → List ℕ
 fours lanes = zip2 lane_sum (zip2 lane_product (dots lanes tens) hundreds) (dots lanes ones)
 
+-- what holds of any sixteen lanes holds of a list of so many
+sixteen : (P : List ℕ → Type 0) → ((a b c d e f g h i j k l m n o p : ℕ) → P (a ∷ b ∷ c ∷ d ∷ e ∷ f ∷ g ∷ h ∷ i ∷ j ∷ k ∷ l ∷ m ∷ n ∷ o ∷ p ∷ [])) → (lanes : List ℕ) → length lanes ≡ 16 → P lanes
+sixteen P all (a ∷ b ∷ c ∷ d ∷ e ∷ f ∷ g ∷ h ∷ i ∷ j ∷ k ∷ l ∷ m ∷ n ∷ o ∷ p ∷ []) long = all a b c d e f g h i j k l m n o p
+sixteen P all _ long = absurd (omega arith)
+
 pub products_fit : (lanes : List ℕ) → length lanes ≡ 16 → AreDigits lanes → Each2 ProductFits (dots lanes tens) hundreds
-products_fit (a ∷ b ∷ c ∷ d ∷ e ∷ f ∷ g ∷ h ∷ i ∷ j ∷ k ∷ l ∷ m ∷ n ∷ o ∷ p ∷ []) long digits = (omega arith, (omega arith, (omega arith, (omega arith, tt))))
-products_fit _ long digits = absurd (omega arith)
+products_fit = sixteen (λ lanes. AreDigits lanes → Each2 ProductFits (dots lanes tens) hundreds) (λ a b c d e f g h i j k l m n o p digits. (omega arith, (omega arith, (omega arith, (omega arith, tt)))))
 
 pub sums_fit : (lanes : List ℕ) → length lanes ≡ 16 → AreDigits lanes → Each2 SumFits (zip2 lane_product (dots lanes tens) hundreds) (dots lanes ones)
-sums_fit (a ∷ b ∷ c ∷ d ∷ e ∷ f ∷ g ∷ h ∷ i ∷ j ∷ k ∷ l ∷ m ∷ n ∷ o ∷ p ∷ []) long digits = (omega arith, (omega arith, (omega arith, (omega arith, tt))))
-sums_fit _ long digits = absurd (omega arith)
+sums_fit = sixteen (λ lanes. AreDigits lanes → Each2 SumFits (zip2 lane_product (dots lanes tens) hundreds) (dots lanes ones)) (λ a b c d e f g h i j k l m n o p digits. (omega arith, (omega arith, (omega arith, (omega arith, tt)))))
+
+four_of : (at : ℕ) → at < 4 → (a b c d e f g h i j k l m n o p : ℕ) → AreDigits (a ∷ b ∷ c ∷ d ∷ e ∷ f ∷ g ∷ h ∷ i ∷ j ∷ k ∷ l ∷ m ∷ n ∷ o ∷ p ∷ []) → get_or (fours (a ∷ b ∷ c ∷ d ∷ e ∷ f ∷ g ∷ h ∷ i ∷ j ∷ k ∷ l ∷ m ∷ n ∷ o ∷ p ∷ [])) at 0 < 10000
+four_of zero few a b c d e f g h i j k l m n o p digits = omega arith
+four_of (suc zero) few a b c d e f g h i j k l m n o p digits = omega arith
+four_of (suc (suc zero)) few a b c d e f g h i j k l m n o p digits = omega arith
+four_of (suc (suc (suc zero))) few a b c d e f g h i j k l m n o p digits = omega arith
+four_of (suc (suc (suc (suc more)))) few a b c d e f g h i j k l m n o p digits = absurd (omega (arith, few))
 
 pub four_small : (lanes : List ℕ) → length lanes ≡ 16 → AreDigits lanes → (k : ℕ) → k < 4 → get_or (fours lanes) k 0 < 10000
-four_small (a ∷ b ∷ c ∷ d ∷ e ∷ f ∷ g ∷ h ∷ i ∷ j ∷ k ∷ l ∷ m ∷ n ∷ o ∷ p ∷ []) long digits zero few = omega arith
-four_small (a ∷ b ∷ c ∷ d ∷ e ∷ f ∷ g ∷ h ∷ i ∷ j ∷ k ∷ l ∷ m ∷ n ∷ o ∷ p ∷ []) long digits (suc zero) few = omega arith
-four_small (a ∷ b ∷ c ∷ d ∷ e ∷ f ∷ g ∷ h ∷ i ∷ j ∷ k ∷ l ∷ m ∷ n ∷ o ∷ p ∷ []) long digits (suc (suc zero)) few = omega arith
-four_small (a ∷ b ∷ c ∷ d ∷ e ∷ f ∷ g ∷ h ∷ i ∷ j ∷ k ∷ l ∷ m ∷ n ∷ o ∷ p ∷ []) long digits (suc (suc (suc zero))) few = omega arith
-four_small (a ∷ b ∷ c ∷ d ∷ e ∷ f ∷ g ∷ h ∷ i ∷ j ∷ k ∷ l ∷ m ∷ n ∷ o ∷ p ∷ []) long digits (suc (suc (suc (suc q)))) few = absurd (omega arith)
-four_small _ long digits _ few = absurd (omega arith)
+four_small lanes long digits k few = sixteen (λ l. AreDigits l → get_or (fours l) k 0 < 10000) (four_of k few) lanes long digits
 
 pub fours_number : (lanes : List ℕ) → length lanes ≡ 16
     → (get_or (fours lanes) 0 0 * 10000 + get_or (fours lanes) 1 0) * 100000000 + (get_or (fours lanes) 2 0 * 10000 + get_or (fours lanes) 3 0) ≡ digits_number 0 lanes
-fours_number (a ∷ b ∷ c ∷ d ∷ e ∷ f ∷ g ∷ h ∷ i ∷ j ∷ k ∷ l ∷ m ∷ n ∷ o ∷ p ∷ []) long = omega arith
-fours_number _ long = absurd (omega arith)
+fours_number = sixteen (λ l. (get_or (fours l) 0 0 * 10000 + get_or (fours l) 1 0) * 100000000 + (get_or (fours l) 2 0 * 10000 + get_or (fours l) 3 0) ≡ digits_number 0 l) (λ a b c d e f g h i j k l m n o p. omega arith)
 
 -- ---- lanes that are digits
 

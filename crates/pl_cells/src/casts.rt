@@ -83,11 +83,33 @@ fn make_casts(
     ensures refused { IfErr result (IsCastFault (first_fault ignore_errors columns.now to_cast.now)) }
 {
     let mut casts = Vec::new(alloc);
+    match put_casts(alloc, &mut casts, columns, to_cast, ignore_errors) {
+        Ok(()) => Ok(casts),
+        Err(fault) => {
+            drop(casts);
+            Err(fault)
+        }
+    }
+}
+
+// The same, into a list that is empty.
+fn put_casts(
+    alloc: Global,
+    casts: &mut Vec<Option<(usize, Column)>>,
+    columns: &[Column],
+    to_cast: &[Field],
+    ignore_errors: bool,
+) -> PolarsResult<()>
+    requires none { casts.old.items ≡ [] }
+    ensures made { OnOk result (casts.new.items ≡ map (placed_cast columns.now) to_cast.now) }
+    ensures faultless { OnOk result (first_fault ignore_errors columns.now to_cast.now ≡ None) }
+    ensures refused { IfErr result (IsCastFault (first_fault ignore_errors columns.now to_cast.now)) }
+{
     for field in to_cast {
         let cast = cast_field(alloc, columns, field, ignore_errors)?;
-        push_cast(&mut casts, cast)?;
+        push_cast(casts, cast)?;
     }
-    Ok(casts)
+    Ok(())
 }
 
 // Puts a column with its place at the end.

@@ -292,6 +292,38 @@ impl Buffer {
         ensures refused { IfErr result (IsFaultOf (column_cells (reading_of (state_of self.old) missing_is_null ignore_errors) (means_null (option_copied null_values.entry) column) quote_char (state_of self.old).dtype column (take rows (fields_of text.now table.now)))) }
         ensures kept { OnErr result (cut_to (length (state_of self.old).values) (state_of self.new) ≡ state_of self.old) }
     {
+        self.put_cells(
+            text,
+            table,
+            rows,
+            quote_char,
+            null_values,
+            column,
+            ignore_errors,
+            missing_is_null,
+        )
+    }
+
+    // The same, with what was added as it is said of a column of any one type.
+    #[inline(always)]
+    fn put_cells(
+        &mut self,
+        text: &[u8],
+        table: &Table,
+        rows: usize,
+        quote_char: Option<u8>,
+        null_values: Option<&NullValuesCompiled>,
+        column: usize,
+        ignore_errors: bool,
+        missing_is_null: bool,
+    ) -> Result<(), CellFault>
+        requires within { AreWithin (length text.now) table.now }
+        requires rows { rows ≤ length table.now }
+        requires texts { HaveTexts null_values (suc column) }
+        ensures added { OnOk result (AddsCells (column_cells (reading_of (state_of self.old) missing_is_null ignore_errors) (means_null (option_copied null_values.entry) column) quote_char (state_of self.old).dtype column (take rows (fields_of text.now table.now))) (state_of self.old) (state_of self.new)) }
+        ensures refused { IfErr result (IsFaultOf (column_cells (reading_of (state_of self.old) missing_is_null ignore_errors) (means_null (option_copied null_values.entry) column) quote_char (state_of self.old).dtype column (take rows (fields_of text.now table.now)))) }
+        ensures kept { OnErr result (cut_to (length (state_of self.old).values) (state_of self.new) ≡ state_of self.old) }
+    {
         for_each_type!(self, buffer => put_column(
             buffer, text, table, rows, quote_char, null_values, column, ignore_errors, missing_is_null,
         ))

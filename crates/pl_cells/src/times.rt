@@ -127,30 +127,18 @@ pub(crate) fn in_64_bits(number: i128) -> Option<i64>
     }
 }
 
-// The count of units, of which so many make a second, of a day and of the nanoseconds of that day.
-#[inline(always)]
-fn count_of(units: u64, day: i64, nanoseconds: u64) -> i128
-    requires units_in { units ≤ 10 ^ 9 }
-    requires some { 0 < units }
-    requires day_in { is_within day_range day ≡ true }
-    requires time_in { nanoseconds < 86400 * 10 ^ 9 }
-    ensures { result ≡ count_of_units units day nanoseconds }
-{
-    let whole = i128::from(day) * i128::from(86_400 * units);
-    whole + i128::from(nanoseconds / (NANOSECONDS / units))
-}
-
-// The same for a unit. Each has an arm of its own, in which the divisor is known.
+// The count of units of a day and of the nanoseconds of that day. Each unit has an arm of its own, in which the divisor is known.
 #[inline(always)]
 fn count_in(unit: TimeUnit, day: i64, nanoseconds: u64) -> i128
     requires day_in { is_within day_range day ≡ true }
     requires time_in { nanoseconds < 86400 * 10 ^ 9 }
     ensures { result ≡ count_of_units (units_in_second unit) day nanoseconds }
 {
+    let day = i128::from(day);
     match unit {
-        TimeUnit::Milliseconds => count_of(1_000, day, nanoseconds),
-        TimeUnit::Microseconds => count_of(1_000_000, day, nanoseconds),
-        TimeUnit::Nanoseconds => count_of(NANOSECONDS, day, nanoseconds),
+        TimeUnit::Milliseconds => day * 86_400_000 + i128::from(nanoseconds / 1_000_000),
+        TimeUnit::Microseconds => day * 86_400_000_000 + i128::from(nanoseconds / 1_000),
+        TimeUnit::Nanoseconds => day * 86_400_000_000_000 + i128::from(nanoseconds),
     }
 }
 

@@ -1,7 +1,7 @@
 use Rattle.std.proofs.Common.{◌≡◌, None, map, take}
 use Rattle.pl_cells.specs.Casts.{first_fault}
 use Rattle.pl_cells.specs.CastPlaces.{placed_cast}
-use Rattle.pl_cells.proofs.casts.make_casts.Given as goal
+use Rattle.pl_cells.proofs.casts.put_casts.Given as goal
 
 abbrev pub invariant-loop-field : goal.invariant-loop-field
 invariant-loop-field l = record {

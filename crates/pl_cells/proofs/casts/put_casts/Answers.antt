@@ -3,7 +3,7 @@ use Rattle.pl_frame.proofs.FrameLaws.{read_at}
 use Rattle.pl_cells.specs.Casts.{first_fault, IsCastFault}
 use Rattle.pl_cells.specs.CastPlaces.{placed_cast}
 use Rattle.pl_cells.proofs.CastLaws.{refused_first, faultless_more, row_made}
-use Rattle.pl_cells.proofs.casts.make_casts.Goals as goal
+use Rattle.pl_cells.proofs.casts.put_casts.Goals as goal
 
 pub returns-in_err-cast-clause-refused : goal.returns-in_err-cast-clause-refused
 returns-in_err-cast-clause-refused c =

@@ -132,8 +132,13 @@ fn work<'a, K: Scanning, T: Task, P: Ledger, S: Ledger, R: Ledger, C: Ledger, G:
     requires behind { AllByRecursion (IsBehindLineEnd dialect.now.eol_char T.setup.bytes) T.setup.ends }
 {
     for _ in rt.forever() {
-        let Ok(Some(piece)) = board.take(rt, &mut seat) else {
-            return seat;
+        let piece = match board.take(rt, &mut seat) {
+            Ok(Some(piece)) => piece,
+            Ok(None) => return seat,
+            Err(fault) => {
+                drop(fault);
+                return seat;
+            }
         };
         let number = piece.number();
         gate.before(number);
@@ -185,11 +190,13 @@ fn summaries<
         alloc, state, workers, blanks,
     )?;
     let shared = &board;
-    let Ok(seats) = thread::map_vec(rt, seats, &|seat| { work(rt, shared, seat, dialect, gate) })
-    else {
-        return Err(PolarsError::OutOfMemory);
-    };
-    Ok(board.finish(seats))
+    match thread::map_vec(rt, seats, &|seat| { work(rt, shared, seat, dialect, gate) }) {
+        Ok(seats) => Ok(board.finish(seats)),
+        Err(_) => {
+            drop(board);
+            Err(PolarsError::OutOfMemory)
+        }
+    }
 }
 
 // What was posted of the piece of this number and range, if it was.
@@ -303,7 +310,9 @@ fn states_alone<K: Scanning, G: Gate>(
     ensures refused { IsOkUnless result error.OutOfMemory }
 {
     let none = BoardState::<PieceStates<K>>::new(&bytes[..0], Vec::new(alloc), None);
-    states_in_order(alloc, &none, bytes, ends, dialect, gate)
+    let states = states_in_order(alloc, &none, bytes, ends, dialect, gate);
+    drop(none);
+    states
 }
 
 // The first so many numbers. Refuses only want of memory.
@@ -361,7 +370,9 @@ fn states_by_workers<
     let board = summaries::<K, T, P, S, R, C, W, G>(
         rt, alloc, front, front_ends, dialect, workers, blanks, gate,
     )?;
-    states_in_order(alloc, &board, bytes, ends, dialect, gate)
+    let states = states_in_order(alloc, &board, bytes, ends, dialect, gate);
+    drop(board);
+    states
 }
 
 /// The state of a scan in front of each piece of a text, where `ends` are the places at which the pieces end: each of them just

@@ -202,6 +202,7 @@ impl<'a, D: Done> BoardState<'a, D> {
     {
         let piece = posted.piece();
         if !self.awaits(piece) {
+            drop(posted);
             return false;
         }
         let number = piece.number();
@@ -232,7 +233,24 @@ impl<'a, D: Done> BoardState<'a, D> {
     pub fn into_results(self) -> Vec<Option<Posted<'a, D>>>
         ensures { result.items ≡ self.entry.results }
     {
-        self.results
+        let BoardState {
+            bytes: _,
+            ends,
+            limit: _,
+            results,
+            log,
+            posts: _,
+            front: _,
+            front_rows: _,
+            seats: _,
+            running: _,
+            clean: _,
+            stray,
+        } = self;
+        drop(ends);
+        drop(log);
+        drop(stray);
+        results
     }
 
     /// How many seats were made.
@@ -300,7 +318,9 @@ impl<'a, D: Done> BoardState<'a, D> {
     {
         self.clean -= 1;
         if self.stray.is_none() {
-            self.stray = Some((self.log.len(), posted));
+            drop(std::mem::replace(&mut self.stray, Some((self.log.len(), posted))));
+        } else {
+            drop(posted);
         }
     }
 }

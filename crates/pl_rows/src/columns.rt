@@ -1,5 +1,5 @@
 //! From a schema to buffers, from buffers to columns, and a range of records into columns.
-ghost use Rattle.std.specs.Prelude.{◌≡◌, ◌<◌, ℕ, None, length, slice_index, IfOk};
+ghost use Rattle.std.specs.Prelude.{◌≡◌, ◌<◌, [], ℕ, None, OnOk, length, slice_index, IfOk};
 ghost use Rattle.std.specs.List.{range_with_len};
 ghost use Rattle.pl_cells.specs.InitBuffers.{empty_buffers, first_unreadable, IsTypeFault};
 ghost use Rattle.pl_cells.specs.NullValues.{HaveTexts};
@@ -10,6 +10,7 @@ ghost use Rattle.pl_rows.specs.Columns.{columns_of};
 ghost use Rattle.pl_rows.specs.Ranges.{IsRangeRead};
 
 use crate::plan::RangePlan;
+use crate::push::push;
 use crate::range::{RangeEnd, read_range};
 use pl_cells::buffer::Buffer;
 use pl_cells::init_buffers::init_buffers;
@@ -58,18 +59,39 @@ fn wanting(fault: PolarsError) -> AllocError
     }
 }
 
+// Puts the columns that buffers are into a list that is empty. Refuses only want of memory.
+fn put_columns(
+    alloc: Global,
+    columns: &mut Vec<Column>,
+    buffers: Vec<Buffer>,
+) -> Result<(), AllocError>
+    requires none { columns.old.items ≡ [] }
+    ensures { OnOk result (columns.new.items ≡ columns_of (states buffers.items)) }
+{
+    for buffer in buffers {
+        match buffer.into_series() {
+            Ok(column) => push(columns, column)?,
+            Err(fault) => {
+                drop(fault);
+                return Err(AllocError);
+            }
+        }
+    }
+    Ok(())
+}
+
 /// The columns that buffers are. Refuses only want of memory.
 pub fn into_columns(alloc: Global, buffers: Vec<Buffer>) -> Result<Vec<Column>, AllocError>
     ensures { IfOk result (λ columns. columns.items ≡ columns_of (states buffers.items)) }
 {
     let mut columns = Vec::new(alloc);
-    for buffer in buffers {
-        match buffer.into_series() {
-            Ok(column) => columns.push(column)?,
-            Err(_) => return Err(AllocError),
+    match put_columns(alloc, &mut columns, buffers) {
+        Ok(()) => Ok(columns),
+        Err(fault) => {
+            drop(columns);
+            Err(fault)
         }
     }
-    Ok(columns)
 }
 
 /// The columns that buffers are, in no more memory than they need; the buffers stay. Refuses only want of memory.
@@ -78,7 +100,7 @@ pub(crate) fn packed_columns(alloc: Global, buffers: &[Buffer]) -> Result<Vec<Co
 {
     let mut columns = Vec::new(alloc);
     for buffer in buffers {
-        columns.push(buffer.packed(alloc)?)?;
+        push(&mut columns, buffer.packed(alloc)?)?;
     }
     Ok(columns)
 }
@@ -108,7 +130,14 @@ pub fn read_columns(
     let places = plan.projection.places;
     let quote_char = plan.dialect.quote_char;
     let mut buffers = empty_buffers(alloc, schema, places, quote_char, plan.options.encoding)?;
-    let end = read_range(alloc, &mut buffers, range, plan)?;
-    let columns = into_columns(alloc, buffers)?;
-    Ok(RangeColumns { columns, end })
+    match read_range(alloc, &mut buffers, range, plan) {
+        Ok(end) => {
+            let columns = into_columns(alloc, buffers)?;
+            Ok(RangeColumns { columns, end })
+        }
+        Err(fault) => {
+            drop(buffers);
+            Err(fault)
+        }
+    }
 }

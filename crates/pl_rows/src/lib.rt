@@ -10,6 +10,7 @@ pub mod laws;
 pub mod linking;
 pub mod pieces;
 pub mod plan;
+pub mod push;
 pub mod range;
 mod row;
 mod row_rest;

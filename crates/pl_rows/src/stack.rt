@@ -4,6 +4,7 @@ ghost use Rattle.pl_cells.specs.InitBuffers.{entry_at};
 ghost use Rattle.pl_frame.specs.FrameParts.{empty_columns, stacked, with_values, HaveSameColumns};
 ghost use Rattle.std.specs.Prelude.{ℕ, slice_index};
 
+use crate::push::push;
 use pl_frame::column::Column;
 use pl_frame::data_type::DataType;
 use pl_frame::name::PlSmallStr;
@@ -49,10 +50,10 @@ impl Stack {
         ensures { OnOk result (self.new ≡ with_values self.old (self.old.values ++ part.values)) }
     {
         if part.len() == 0 {
+            drop(part);
             return Ok(());
         }
-        self.parts.push(part)?;
-        Ok(())
+        push(&mut self.parts, part)
     }
 
     // The column, in which the parts are linked. Refuses only want of memory.
@@ -61,6 +62,46 @@ impl Stack {
     {
         Column::stacked(alloc, self.name, self.dtype, self.parts)
     }
+}
+
+// A stack without cells for a column of a schema. Refuses only want of memory.
+fn empty_stack(alloc: Global, schema: &Schema, place: usize) -> Result<Stack, AllocError>
+    requires { place < length schema.now }
+    ensures { IfOk result (λ stack. stack ≡ record { name = (entry_at schema.now place).0; dtype = (entry_at schema.now place).1; values = [] }) }
+{
+    let (name, dtype) = schema.entry(place);
+    let name = match name.try_clone() {
+        Ok(name) => name,
+        Err(fault) => {
+            drop(fault);
+            return Err(AllocError);
+        }
+    };
+    match dtype.try_clone() {
+        Ok(dtype) => Ok(Stack::new(alloc, name, dtype)),
+        Err(fault) => {
+            drop(fault);
+            drop(name);
+            Err(AllocError)
+        }
+    }
+}
+
+// Puts a stack without cells for each of these columns of a schema into a list that is empty. Refuses only want of memory.
+fn put_stacks(
+    alloc: Global,
+    stacks: &mut Vec<Stack>,
+    schema: &Schema,
+    places: &[usize],
+) -> Result<(), AllocError>
+    requires none { stacks.old.items ≡ [] }
+    requires places { (k : ℕ) → k < length places.now → slice_index places.now k < length schema.now }
+    ensures { OnOk result (stacks.new.items ≡ empty_columns (map (entry_at schema.now) places.now)) }
+{
+    for place in places {
+        push(stacks, empty_stack(alloc, schema, *place)?)?;
+    }
+    Ok(())
 }
 
 /// A stack without cells for each of these columns of a schema. Refuses only want of memory.
@@ -73,17 +114,13 @@ pub fn empty_stacks(
     ensures { IfOk result (λ stacks. stacks.items ≡ empty_columns (map (entry_at schema.now) places.now)) }
 {
     let mut stacks = Vec::new(alloc);
-    for place in places {
-        let (name, dtype) = schema.entry(*place);
-        let Ok(name) = name.try_clone() else {
-            return Err(AllocError);
-        };
-        let Ok(dtype) = dtype.try_clone() else {
-            return Err(AllocError);
-        };
-        stacks.push(Stack::new(alloc, name, dtype))?;
+    match put_stacks(alloc, &mut stacks, schema, places) {
+        Ok(()) => Ok(stacks),
+        Err(fault) => {
+            drop(stacks);
+            Err(fault)
+        }
     }
-    Ok(stacks)
 }
 
 /// Puts a column behind each stack. Refuses only want of memory.
@@ -99,13 +136,27 @@ pub fn push_columns(stacks: &mut [Stack], columns: Vec<Column>) -> Result<(), Al
     Ok(())
 }
 
+// Puts the columns, in which the parts of each stack are linked, into a list that is empty. Refuses only want of memory.
+fn link_all(alloc: Global, columns: &mut Vec<Column>, stacks: Vec<Stack>) -> Result<(), AllocError>
+    requires none { columns.old.items ≡ [] }
+    ensures { OnOk result (columns.new.items ≡ stacks.items) }
+{
+    for stack in stacks {
+        push(columns, stack.into_column(alloc)?)?;
+    }
+    Ok(())
+}
+
 /// The columns, in which the parts of each stack are linked. Refuses only want of memory.
 pub fn into_columns(alloc: Global, stacks: Vec<Stack>) -> Result<Vec<Column>, AllocError>
     ensures { IfOk result (λ columns. columns.items ≡ stacks.items) }
 {
     let mut columns = Vec::new(alloc);
-    for stack in stacks {
-        columns.push(stack.into_column(alloc)?)?;
+    match link_all(alloc, &mut columns, stacks) {
+        Ok(()) => Ok(columns),
+        Err(fault) => {
+            drop(columns);
+            Err(fault)
+        }
     }
-    Ok(columns)
 }

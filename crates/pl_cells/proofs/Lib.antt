@@ -13,6 +13,7 @@ pub mod EnumLaws
 pub mod IntegerLaws
 pub mod JoinLaws
 pub mod LaneLaws
+mod MadeLaws
 pub mod NullEqualLaws
 pub mod NullLaws
 pub mod PlaceLaws

@@ -1,5 +1,5 @@
 //! The buffers that a reader begins with.
-ghost use Rattle.std.specs.Prelude.{◌≡◌, ◌<◌, true, None, Some, ℕ, length, map, slice_get, slice_index, IfOk, IfErr, OnOk, IsOkUnless};
+ghost use Rattle.std.specs.Prelude.{◌≡◌, ◌<◌, ◌++◌, ◌∷◌, [], true, None, Some, ℕ, length, map, slice_get, slice_index, IfOk, IfErr, IsOk, OnOk, IsOkUnless};
 ghost use Rattle.pl_frame.specs.declared.error.PolarsError.TheVariants as error;
 ghost use Rattle.pl_frame.specs.Types.{is_readable};
 ghost use Rattle.pl_cells.specs.InitBuffers.{state_of, entry_at, empty_buffer, empty_buffers, first_unreadable, IsTypeFault};
@@ -83,6 +83,64 @@ fn buffer_at(
     Ok(buffer)
 }
 
+// Puts what was made at the end, where it was. Refuses what its making did, and want of memory.
+fn push_made<T: Drop>(items: &mut Vec<T>, made: PolarsResult<T>) -> PolarsResult<()>
+    ensures made { OnOk result (IsOk made) }
+    ensures pushed { OnOk result (IfOk made (λ item. items.new.items ≡ items.old.items ++ item ∷ [])) }
+    ensures refused { IsOkUnless made error.OutOfMemory → IsOkUnless result error.OutOfMemory }
+{
+    match made {
+        Ok(item) => match items.push(item) {
+            Ok(()) => Ok(()),
+            Err(_) => Err(PolarsError::OutOfMemory),
+        },
+        Err(fault) => Err(fault),
+    }
+}
+
+// Puts the empty buffer for the column at a place of a schema at the end. Refuses only want of memory.
+fn put_buffer(
+    alloc: Global,
+    buffers: &mut Vec<Buffer>,
+    place: usize,
+    capacity: usize,
+    schema: &Schema,
+    quote_char: Option<u8>,
+    encoding: CsvEncoding,
+) -> PolarsResult<()>
+    requires place { place < length schema.now }
+    requires readable { is_readable (entry_at schema.now place).1 ≡ true }
+    ensures put { OnOk result (map state_of buffers.new.items ≡ map state_of buffers.old.items ++ empty_buffer quote_char encoding (entry_at schema.now place) ∷ []) }
+    ensures refused { IsOkUnless result error.OutOfMemory }
+{
+    let made = buffer_at(alloc, place, capacity, schema, quote_char, encoding);
+    push_made(buffers, made)
+}
+
+// Puts the empty buffer for each of these columns into a list that is empty. Refuses only want of memory.
+fn put_buffers(
+    alloc: Global,
+    buffers: &mut Vec<Buffer>,
+    projection: &[usize],
+    capacity: usize,
+    schema: &Schema,
+    quote_char: Option<u8>,
+    encoding: CsvEncoding,
+) -> PolarsResult<()>
+    requires none { buffers.old.items ≡ [] }
+    requires places { (k : ℕ) → k < length projection.now → slice_index projection.now k < length schema.now }
+    requires readable { first_unreadable schema.now projection.now ≡ None }
+    ensures made { OnOk result (map state_of buffers.new.items ≡ empty_buffers quote_char encoding schema.now projection.now) }
+    ensures refused { IsOkUnless result error.OutOfMemory }
+{
+    for place in projection {
+        put_buffer(
+            alloc, buffers, *place, capacity, schema, quote_char, encoding,
+        )?;
+    }
+    Ok(())
+}
+
 fn make_buffers(
     alloc: Global,
     projection: &[usize],
@@ -97,11 +155,19 @@ fn make_buffers(
     ensures refused { IsOkUnless result error.OutOfMemory }
 {
     let mut buffers = Vec::new(alloc);
-    for place in projection {
-        let buffer = buffer_at(alloc, *place, capacity, schema, quote_char, encoding)?;
-        if buffers.push(buffer).is_err() {
-            return Err(PolarsError::OutOfMemory);
+    match put_buffers(
+        alloc,
+        &mut buffers,
+        projection,
+        capacity,
+        schema,
+        quote_char,
+        encoding,
+    ) {
+        Ok(()) => Ok(buffers),
+        Err(fault) => {
+            drop(buffers);
+            Err(fault)
         }
     }
-    Ok(buffers)
 }

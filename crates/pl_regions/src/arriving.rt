@@ -28,6 +28,7 @@ use pl_intake::intake::Intake;
 use pl_intake::rooms::Rooms;
 use pl_intake::texts::{FEW, close_cells, left_behind, read_texts, texts_of};
 use pl_rows::plan::RangePlan;
+use pl_rows::push::push;
 use pl_verbatim::verbatim::Verbatim;
 use pl_write::options::SerializeOptions;
 use std::alloc::{AllocError, Global};
@@ -62,7 +63,7 @@ fn settle<'a>(
         let Taken { region, token } = taken;
         if region.place < tokens.len() {
             tokens[region.place].agrees(&token);
-            regions.push(region)?;
+            push(&mut regions, region)?;
         }
     }
     Ok(regions)
@@ -255,7 +256,7 @@ fn read_beside<'a, W: Threads + Wait + Sync, So: Source>(
     let Ok(mut all) = printed else {
         return Err(ReadAllFault::OutOfMemory);
     };
-    if all.push(taken).is_err() {
+    if push(&mut all, taken).is_err() {
         return Err(ReadAllFault::OutOfMemory);
     }
     Ok(all)

@@ -8,6 +8,7 @@ ghost use Rattle.pl_regions.specs.Regions.{ArePlaced, ArePut, IsRegionOf};
 use crate::region::Region;
 use pl_frame::schema::Schema;
 use pl_rows::plan::RangePlan;
+use pl_rows::push::push;
 use pl_verbatim::verbatim::Verbatim;
 use pl_write::options::SerializeOptions;
 use pl_write::row_printer::RowPrinter;
@@ -54,7 +55,7 @@ fn take_regions<'a>(
             piece_size,
         );
         let is_whole = region.end == region.text.len();
-        if taken.push(region).is_err() {
+        if push(&mut taken, region).is_err() {
             return taken;
         }
         if !is_whole {
@@ -74,7 +75,7 @@ pub(crate) fn empty_places<'a>(
 {
     let mut places = Vec::new(alloc);
     for _ in 0..count {
-        places.push(None)?;
+        push(&mut places, None)?;
     }
     Ok(places)
 }

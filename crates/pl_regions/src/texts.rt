@@ -11,6 +11,7 @@ use pl_frame::schema::Schema;
 use pl_intake::rooms::Rooms;
 use pl_intake::texts::{TakenText, take_text};
 use pl_rows::plan::RangePlan;
+use pl_rows::push::push;
 use pl_verbatim::verbatim::Verbatim;
 use pl_write::options::SerializeOptions;
 use pl_write::row_printer::RowPrinter;
@@ -64,7 +65,7 @@ pub(crate) fn take_texts<'a, W: Wait>(
             piece_size,
         );
         let is_whole = region.end == text.len();
-        if taken.push(Taken { region, token }).is_err() {
+        if push(&mut taken, Taken { region, token }).is_err() {
             return taken;
         }
         if !is_whole {

@@ -20,6 +20,7 @@ use pl_intake::rooms::Rooms;
 use pl_intake::texts::{FEW, TakenText, close_cells, read_texts, take_text};
 use pl_rows::columns::empty_buffers;
 use pl_rows::plan::RangePlan;
+use pl_rows::push::push;
 use pl_rows::whole_pieces::{PieceFrame, read_packed};
 use std::alloc::{AllocError, Global};
 use std::sync::atomic::{AtomicUsize, Ordering};
@@ -70,7 +71,7 @@ fn take_texts<'a, W: Wait>(
             next.store(cells.len(), Ordering::SeqCst);
             return all;
         };
-        if all.push(Taken { place, token, read }).is_err() {
+        if push(&mut all, Taken { place, token, read }).is_err() {
             return all;
         }
     }
@@ -233,7 +234,7 @@ fn read_beside<'a, W: Threads + Wait + Sync, So: Source>(
     let Ok(mut all) = taken_beside else {
         return Err(ReadAllFault::OutOfMemory);
     };
-    if all.push(taken).is_err() {
+    if push(&mut all, taken).is_err() {
         return Err(ReadAllFault::OutOfMemory);
     }
     Ok(all)

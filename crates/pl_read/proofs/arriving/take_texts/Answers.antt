@@ -1,5 +1,5 @@
 use Rattle.std.proofs.Common.{◌≡◌, ◌++◌, ◌∷◌, [], List, ℕ, length, not, sym, ◌∙◌, ap, subst, arith}
-use Rattle.std.specs.Prelude.{All, Some, if◌then◌else◌}
+use Rattle.std.specs.Prelude.{All, Some}
 use Rattle.std.proofs.lemmas.List.Elements.{All-push}
 use Rattle.pl_rows.specs.Plan.{states}
 use Rattle.pl_rows.specs.WholePieces.{IsPieceFrame, IsPieceFound}
@@ -7,6 +7,7 @@ use Rattle.pl_rows.proofs.FrameLaws.{written_back}
 use Rattle.pl_rows.proofs.PlanLaws.{rising-below}
 use Rattle.pl_read.specs.Arriving.{IsTaken}
 use Rattle.pl_read.specs.declared.arriving.Taken.{Taken}
+use Rattle.pl_intake.proofs.IntakeLaws.{ok-holds}
 use Rattle.pl_read.proofs.arriving.take_texts.Goals as goal
 
 pub empty_buffers-requires-clause-places : goal.empty_buffers-requires-clause-places
@@ -20,7 +21,7 @@ loop-preserved g c =
     let one : Taken = record { place = c.in-Some.field-0.place; token = c.in-Some.field-0.token; read = c.in-Ok-Some.read } in
     let all = c.loop.all.items in
     let pushed = c.is_err.ensures.negation ∙ ap not c.if-is_err.false in
-    let items : c.push.new.self.items ≡ all ++ one ∷ [] = c.push.ensures.items ∙ ap (λ t. if t then all ++ one ∷ [] else all) pushed in
+    let items : c.push.new.items.items ≡ all ++ one ∷ [] = ok-holds c.push.result (c.push.new.items.items ≡ all ++ one ∷ []) pushed c.push.ensures.pushed in
     let text : c.as_slice-text.result.now ≡ c.in-Some.field-0.token.value.items = c.as_slice-text.ensures.value ∙ ap (λ text. text.items) c.value.ensures in
     let found : IsPieceFound plan schema c.as_slice-text.result.now (Some c.in-Ok-Some.read) = subst (IsPieceFound plan schema c.as_slice-text.result.now) c.in-Ok-Some.field-0-is c.in-Ok-Some.ensures.found in
     let own : P one = record {

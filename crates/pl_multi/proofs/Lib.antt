@@ -2,6 +2,8 @@ mod HeldLaws
 mod HiveLaws
 mod JoinedLaws
 mod NameLaws
+mod PrintedLaws
+mod PrintingLaws
 mod RowsLaws
 mod RunLaws
 mod ScanLaws

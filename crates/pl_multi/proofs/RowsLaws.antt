@@ -67,7 +67,7 @@ same-part o parts wanted part bytes names =
     ∙ (λ i. columns i ++ schema-values (height_of read) part.values i)
     ∙ ap (λ l. entries_read o schema ++ text_entries l) names)
 
-none-or : (b c : Bool) → (b || c) ≡ false → (b ≡ false) × (c ≡ false)
+pub none-or : (b c : Bool) → (b || c) ≡ false → (b ≡ false) × (c ≡ false)
 none-or false c e = (refl, e)
 none-or true c e = absurd (cc)
 
@@ -109,7 +109,7 @@ part-height part [] h = by part.values
     by (value ∷ values) = values-height 0 (value ∷ values)
 part-height part (column ∷ columns) h = both-height (length column.values) (column ∷ columns) (value_columns (length column.values) part.values) h (values-height (length column.values) part.values)
 
-names-schema : (columns others : List ColumnValue) → HaveSameColumns columns others → names_of columns ≡ names_of others
+pub names-schema : (columns others : List ColumnValue) → HaveSameColumns columns others → names_of columns ≡ names_of others
 names-schema [] [] e = refl
 names-schema [] (o ∷ os) e = absurd (cc)
 names-schema (c ∷ cs) [] e = absurd (cc)
@@ -185,7 +185,7 @@ free-none o parts e =
     subst (λ l. AllPairs (λ a b. a ≢ b) (index_name o.row_index ++ l)) (sym (names-none o parts))
     (distinct_from_first_repeat (column_names o (given_schema o) parts) (no-repeat (column_names o (given_schema o) parts) e))
 
-level : (n : ℕ) (columns : List ColumnValue) → HaveHeight n columns → HaveHeight (height_of columns) columns
+pub level : (n : ℕ) (columns : List ColumnValue) → HaveHeight n columns → HaveHeight (height_of columns) columns
 level n [] h = tt
 level n (column ∷ columns) h = subst (λ m. HaveHeight m (column ∷ columns)) (sym h.0) h
 

@@ -1,20 +1,26 @@
 -- What a run over many files answers, by its outcome.
 use Rattle.std.proofs.Common.{◌≡◌, ℕ, List, sym, ◌∙◌, ap, subst, arith, inl, inr}
-use Rattle.std.specs.Prelude.{◌⊎◌, Option, None, Some, Result, Ok, Err, IfErr}
+use Rattle.std.specs.Prelude.{◌⊎◌, Option, None, Some, Result, Ok, Err, IfOk, IfErr, OnOk}
+use Rattle.std.specs.Io.KnownBytes.{Appends}
 use Rattle.pl_frame.specs.Causes.{Rose}
 use Rattle.pl_frame.specs.Frame.{ColumnValue}
+use Rattle.pl_frame.specs.declared.error.PolarsError.TheVariants as error
+use Rattle.pl_write.specs.Writing.{AppendsPrefix}
 use Rattle.pl_csv.proofs.StatusLaws.{refusal-not_zero}
+use Rattle.pl_csv.specs.declared.run.Refusal.TheVariants as refusal
 use Rattle.pl_csv.specs.Transcoding.{HasAsciiQuote}
 use Rattle.pl_csv.specs.Views.{SinkView}
-use Rattle.pl_multi.specs.Run.{IsTextFault, IsDueJoined, IsMultiDue, EndsAsMultiDue, meaning_status, outcome_status}
-use Rattle.pl_multi.specs.Scan.{PartBytes, IsScanMeaning, AreTold, ScansUnlessFailed}
+use Rattle.pl_multi.specs.Printing.{IsJoinedBy, joined_text}
+use Rattle.pl_multi.specs.Run.{opener_view, IsWritten, IsPartWritten, IsUnwritten, IsTextFault, IsDueJoined, IsMultiDue, EndsAsMultiDue, meaning_status, outcome_status}
+use Rattle.pl_multi.specs.Scan.{PartBytes, IsJoined, IsScanFault, IsScanMeaning, AreTold, ScansUnlessFailed}
 use Rattle.pl_multi.specs.Telling.{multi_status, refusal_of}
 use Rattle.pl_multi.specs.Words.{Asked, asked_of_words}
-use Rattle.pl_multi.specs.declared.part.Part.{Part}
+use Rattle.pl_multi.specs.declared.printing.Joined.{Joined}
 use Rattle.pl_multi.specs.declared.run.MultiRefusal.{MultiRefusal}
 use Rattle.pl_multi.specs.declared.run.MultiRefusal.TheVariants as multi
 use Rattle.pl_multi.specs.declared.scan.MultiFault.{MultiFault}
 use Rattle.pl_multi.specs.declared.scan.MultiFault.TheVariants as fault
+use Rattle.pl_multi.proofs.ScanLaws.{scan-complete}
 
 -- no refusal has status 0
 pub multi-not_zero : (r : MultiRefusal) (status : ℕ) → status ≡ multi_status r → status ≡ 0 → ⊥
@@ -30,11 +36,12 @@ multi-not_zero multi.Index status is zero = omega (arith, is, zero)
 abbrev pub ScanEnds : Result (List ColumnValue) MultiFault → (due before now : ℕ) → Type 0
 ScanEnds result due before now = (meaning_status result ≡ due) ⊎ (result ≡ Err fault.OutOfMemory) ⊎ ((place : ℕ) × (result ≡ Err (fault.Io place)) × Rose before now)
 
-pub scan-ends : (job : Asked) (parts : List Part) (holds : List ℕ → Option (List ℕ)) (result : Result (List ColumnValue) MultiFault) (before now due : ℕ) → parts ≡ job.parts
-    → ((given : List PartBytes) (meaning : Result (List ColumnValue) MultiFault) → AreTold holds parts given → IsScanMeaning job.read job.slice given meaning → ScansUnlessFailed result meaning before now)
+pub scan-ends : (job : Asked) (holds : List ℕ → Option (List ℕ)) (result : Result (List ColumnValue) MultiFault) (before now due : ℕ)
+    → IfOk result (IsJoined holds job.read job.slice job.parts) → IfErr result (IsScanFault holds before now job.read job.slice job.parts)
     → HasAsciiQuote job.write → IsDueJoined job holds due → ScanEnds result due before now
-scan-ends job parts holds result before now due same complete ascii (inl wide) = absurd (omega (arith, ascii, wide.0))
-scan-ends job parts holds result before now due same complete ascii (inr (other, (given, meaning, told, means, is))) = by (complete given meaning (subst (λ p. AreTold holds p given) (sym same) told) means)
+scan-ends job holds result before now due frame refused ascii (inl wide) = absurd (omega (arith, ascii, wide.0))
+scan-ends job holds result before now due frame refused ascii (inr (other, (given, meaning, told, means, is))) =
+    by (scan-complete holds before now job.read job.slice job.parts result frame refused given meaning told means)
   where
     by : ScansUnlessFailed result meaning before now → ScanEnds result due before now
     by (inl same) = inl (ap meaning_status same ∙ sym is)
@@ -66,6 +73,25 @@ pub ends-fault : (text : List ℕ) (out out_now : SinkView) (given : MultiRefusa
     → EndsAsMultiDue due (multi_status given) before now out.faults out_now.faults
 ends-fault text out out_now given due before now (inl (failed, rose), part) zero = inr (inr (inr (ap multi_status failed, zero, rose)))
 ends-fault text out out_now given due before now (inr wanting, part) zero = inr (inl (ap multi_status wanting))
+
+-- where it was read of all parts, it is that of their joined read, written or not
+module _ (job : Asked) (holds : List ℕ → Option (List ℕ)) (joined : Joined) (ascii : HasAsciiQuote job.write) (is : IsJoinedBy holds job joined) where
+  pub written-is : {X : Type 0} (received received_now : Option (List ℕ)) (result : Result X MultiRefusal) → OnOk result (Appends received received_now (joined_text job.write joined))
+      → OnOk result (IsWritten holds job received received_now)
+  written-is received received_now (Ok done) text = record { ascii = ascii; frame = is.frame; is = is.is; written = subst (Appends received received_now) is.text_is text }
+  written-is received received_now (Err given) text = tt
+
+  pub unwritten-is : {X : Type 0} (before faults : ℕ) (out out_now : SinkView) (result : Result X MultiRefusal) → IfErr result (IsTextFault (joined_text job.write joined) out out_now)
+      → IfErr result (IsUnwritten job (opener_view holds before) faults out out_now)
+  unwritten-is before faults out out_now (Ok done) refused = tt
+  unwritten-is before faults out out_now (Err given) (cause, part) = by cause
+    where
+      written : IsPartWritten holds job out.received out_now.received
+      written = record { ascii = ascii; frame = is.frame; is = is.is; written = subst (AppendsPrefix out.received out_now.received) is.text_is part }
+
+      by : ((given ≡ multi.Run (refusal.Polars error.IO)) × Rose out.faults out_now.faults) ⊎ (given ≡ multi.Run (refusal.Polars error.OutOfMemory)) → IsUnwritten job (opener_view holds before) faults out out_now given
+      by (inl (failed, rose)) = inr (inr (inl (failed, rose, written)))
+      by (inr wanting) = inr (inr (inr (wanting, written)))
 
 -- and so does one that was due, written or not
 pub ends-written : {X : Type 0} (text : List ℕ) (out out_now : SinkView) (result : Result X MultiRefusal) (due before now : ℕ) → IfErr result (IsTextFault text out out_now) → due ≡ 0

@@ -4,4 +4,5 @@ pub mod Scan
 pub mod Joining
 pub mod Words
 pub mod Telling
+pub mod Printing
 pub mod Run

@@ -54,8 +54,8 @@ fn read_rows<W: Threads + Wait + Sync>(
     }
 }
 
-// The refusal of a part for a cause against its bytes, or want of memory.
-fn part_fault(part: usize, fault: PolarsError) -> MultiFault
+/// The refusal of a part for a cause against its bytes, or want of memory.
+pub(crate) fn part_fault(part: usize, fault: PolarsError) -> MultiFault
     ensures { result ≡ part_fault part fault }
 {
     match fault {

@@ -7,6 +7,7 @@ mod joining;
 mod multi_words;
 pub mod part;
 mod paths;
+mod printing;
 pub mod run;
 pub mod scan;
 mod telling;

@@ -1,25 +1,22 @@
 //! The top call over many files: from the words of a command line and what an opener holds to the text of their joined read.
 ghost use Rattle.std.specs.Prelude.{◌≡◌, ◌≢◌, ◌≤◌, ◌⊎◌, ℕ, List, map, string_bytes, IfOk, IfErr, OnOk, None};
 ghost use Rattle.std.specs.Io.KnownBytes.{Appends};
-ghost use Rattle.pl_text.specs.FrameText.{text_of_frame};
-ghost use Rattle.pl_write.specs.Options.{frame_options};
 ghost use Rattle.pl_csv.specs.Views.{sink_view};
+ghost use Rattle.pl_multi.specs.Printing.{joined_text};
 ghost use Rattle.pl_multi.specs.Run.{opener_view, IsWritten, IsTextFault, IsUnwritten, IsMultiWritten, IsMultiRefused, IsMultiRefusedWith, IsDueJoined, IsMultiDue, EndsAsMultiDue, outcome_status};
 ghost use Rattle.pl_multi.specs.Telling.{multi_status, refusal_of};
 ghost use Rattle.pl_multi.specs.Words.{asked, asked_of_words};
 
 use crate::multi_words::{MultiJob, parse_multi};
-use crate::scan::{MultiFault, scan_multi};
+use crate::printing::{Joined, read_parts, write_joined};
+use crate::scan::MultiFault;
 use crate::telling::tell_multi;
 use pl_csv::run::Refusal;
 use pl_frame::error::{ComputeFault, PolarsError};
-use pl_frame::frame::DataFrame;
 use pl_frame::name::PlSmallStr;
 use pl_frame::opener::Opener;
 use pl_frame::sink::{Sink, SinkFault};
-use pl_read::workers::worker_count;
 use pl_words::words::WordsFault;
-use pl_write::writer::write_frame;
 use std::alloc::Global;
 use std::sync::Wait;
 use std::thread::Threads;
@@ -77,24 +74,23 @@ fn refusal_of(cause: MultiFault) -> MultiRefusal
     }
 }
 
-// Writes the text of a frame to the sink.
-fn write_scanned<W: Threads + Wait + Sync, Si: Sink>(
+// Writes the text of what was read of all parts to the sink.
+fn write_read<W: Threads + Wait + Sync, Si: Sink>(
     rt: &W,
     alloc: Global,
-    frame: DataFrame,
+    joined: Joined,
     job: &MultiJob,
     out: &mut Si,
 ) -> Result<(), MultiRefusal>
-    ensures text { OnOk result (Appends (Si.received out.old) (Si.received out.new) (text_of_frame (frame_options job.now.write) frame)) }
-    ensures refused { IfErr result (IsTextFault (text_of_frame (frame_options job.now.write) frame)
+    ensures text { OnOk result (Appends (Si.received out.old) (Si.received out.new) (joined_text job.now.write joined)) }
+    ensures refused { IfErr result (IsTextFault (joined_text job.now.write joined)
         (sink_view (Si.received out.old) (Si.faults out.old) (Si.wants out.old))
         (sink_view (Si.received out.new) (Si.faults out.new) (Si.wants out.new))) }
     ensures later { Si.faults out.old ≤ Si.faults out.new }
     ensures wants_later { Si.wants out.old ≤ Si.wants out.new }
 {
-    let workers = worker_count(job.read.n_threads);
-    let written = write_frame(rt, alloc, workers, frame.columns(), &job.write, out);
-    drop(frame);
+    let written = write_joined(rt, alloc, &joined, job, out);
+    drop(joined);
     match written {
         Ok(()) => Ok(()),
         Err(SinkFault::Device) => Err(MultiRefusal::Run(Refusal::Polars(PolarsError::IO))),
@@ -127,8 +123,8 @@ fn do_job<W: Threads + Wait + Sync, O: Opener, Si: Sink>(
         let fault = PolarsError::ComputeError(ComputeFault::Quote);
         return Err(MultiRefusal::Run(Refusal::Polars(fault)));
     }
-    match scan_multi(rt, alloc, opener, &job.parts, &job.read, job.slice) {
-        Ok(frame) => write_scanned(rt, alloc, frame, job, out),
+    match read_parts(rt, alloc, opener, job) {
+        Ok(joined) => write_read(rt, alloc, joined, job, out),
         Err(cause) => Err(refusal_of(cause)),
     }
 }

@@ -133,9 +133,9 @@ fn check_names(
     Ok(empty_rows(alloc, read, settled, parts)?)
 }
 
-// The columns of the answer without its row index, and without rows, where nothing stands against the options and the parts, whatever
-// their bytes. Refuses the first such cause, and want of memory.
-fn check_scan(
+/// The columns of the answer without its row index, and without rows, where nothing stands against the options and the parts, whatever
+/// their bytes. Refuses the first such cause, and want of memory.
+pub(crate) fn check_scan(
     alloc: Global,
     parts: &[Part],
     read: &CsvReadOptions,

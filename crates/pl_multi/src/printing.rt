@@ -1,0 +1,325 @@
+//! The rows of parts, printed as they are read: what `scan_multi` answers, without making the frame where that is not needed.
+ghost use Rattle.std.specs.Prelude.{◌≡◌, ◌≤◌, ℕ, false, List, None, map, length, IfOk, IfErr, OnOk, IsSome, IsErrOf, Option};
+ghost use Rattle.std.specs.Bool.{OnTrue};
+ghost use Rattle.std.specs.Cow.{cow_slice_items};
+ghost use Rattle.std.specs.Io.KnownBytes.{Appends};
+ghost use Rattle.pl_frame.specs.Causes.{Rose};
+ghost use Rattle.pl_frame.specs.Frame.{IsFrame, names_of};
+ghost use Rattle.pl_options.specs.FirstCause.{IsFault};
+ghost use Rattle.pl_read.specs.SettleGiven.{given_schema};
+ghost use Rattle.pl_read.specs.Steps.{MayRead, late_cause};
+ghost use Rattle.pl_write.specs.Options.{frame_options};
+ghost use Rattle.pl_write.specs.Printed.{printed_text};
+ghost use Rattle.pl_write.specs.Writing.{AppendsPrefix};
+ghost use Rattle.pl_csv.specs.Transcoding.{HasAsciiQuote};
+ghost use Rattle.pl_multi.specs.Joining.{IsPartFault, IsJoinFault, IsSound};
+ghost use Rattle.pl_multi.specs.Parts.{first_other, partition_names};
+ghost use Rattle.pl_multi.specs.Printing.{IsPlain, have_codes, HasNoHead, AreLinesOf, ArePartLines, ArePrinted, IsJoinedBy, joined_text};
+ghost use Rattle.pl_multi.specs.Scan.{IsScanFault, no_rows};
+ghost use Rattle.pl_multi.specs.Words.{asked};
+
+use crate::joining::part_fault;
+use crate::multi_words::MultiJob;
+use crate::part::Part;
+use crate::paths::{Unread, read_path};
+use crate::scan::{MultiFault, check_scan, scan_multi};
+use pl_csv::convert::convert;
+use pl_frame::column::Column;
+use pl_frame::data_type::DataType;
+use pl_frame::error::{PolarsError, PolarsResult};
+use pl_frame::frame::DataFrame;
+use pl_frame::opener::Opener;
+use pl_frame::sink::{MemSink, Sink, SinkFault};
+use pl_options::read_options::CsvReadOptions;
+use pl_read::workers::worker_count;
+use pl_rows::stack::into_columns;
+use pl_write::options::CsvWriterOptions;
+use pl_write::printed::write_behind;
+use pl_write::writer::write_frame;
+use std::alloc::{AllocError, Global};
+use std::borrow::CowSlice;
+use std::sync::Wait;
+use std::thread::Threads;
+
+/// What was read of all parts, to be written.
+#[derive(Drop)]
+pub(crate) enum Joined {
+    /// Their frame.
+    Frame(DataFrame),
+    /// The lines of its rows, part by part, and its columns without rows.
+    Lines {
+        lines: Vec<MemSink>,
+        empty: DataFrame,
+    },
+}
+
+// Whether all rows are wanted, and they are neither numbered nor followed by values.
+fn is_plain(job: &MultiJob) -> bool
+    ensures { OnTrue result (IsPlain job.now.read job.now.slice job.now.parts.items) }
+{
+    if job.slice.is_some() || job.read.row_index.is_some() {
+        return false;
+    }
+    match job.parts.first() {
+        Some(first) => first.values.values().is_empty(),
+        None => true,
+    }
+}
+
+// Whether one of the columns has categories.
+fn have_codes(columns: &[Column]) -> bool
+    ensures { result ≡ have_codes columns.now }
+{
+    for column in columns {
+        if matches!(column.dtype(), DataType::Categorical) {
+            return true;
+        }
+    }
+    false
+}
+
+// Equal options, but for what stands before the rows: neither byte order mark nor header. Refuses only want of memory.
+fn without_head(write: &CsvWriterOptions) -> Result<CsvWriterOptions, AllocError>
+    requires { HasAsciiQuote write.now }
+    ensures head { IfOk result (λ lines. HasNoHead lines) }
+    ensures cells { IfOk result (λ lines. lines.serialize_options ≡ write.now.serialize_options) }
+{
+    let Ok(mut lines) = write.try_clone() else {
+        return Err(AllocError);
+    };
+    lines.include_bom = false;
+    lines.include_header = false;
+    Ok(lines)
+}
+
+// The lines of the rows of a part with these bytes. Refuses the first cause against them, and want of memory.
+fn print_bytes<W: Threads + Wait + Sync>(
+    rt: &W,
+    alloc: Global,
+    bytes: &[u8],
+    read: &CsvReadOptions,
+    write: &CsvWriterOptions,
+) -> PolarsResult<MemSink>
+    requires given { IsSome read.now.schema }
+    requires allowed { MayRead read.now }
+    requires plain { read.now.row_index ≡ None }
+    requires head { HasNoHead write.now }
+    ensures lines { IfOk result (λ sink. AreLinesOf read.now write.now bytes.now sink.received) }
+    ensures refused { IfErr result (IsFault (late_cause read.now (given_schema read.now) bytes.now)) }
+{
+    let mut sink = MemSink::new(alloc);
+    match convert(rt, alloc, bytes, read, write, &mut sink) {
+        Ok(()) => Ok(sink),
+        Err(fault) => Err(fault),
+    }
+}
+
+// The lines of the rows of the part at a place.
+fn print_part<W: Threads + Wait + Sync, O: Opener>(
+    rt: &W,
+    alloc: Global,
+    opener: &mut O,
+    part: &Part,
+    place: usize,
+    read: &CsvReadOptions,
+    write: &CsvWriterOptions,
+) -> Result<MemSink, MultiFault>
+    requires given { IsSome read.now.schema }
+    requires allowed { MayRead read.now }
+    requires plain { read.now.row_index ≡ None }
+    requires head { HasNoHead write.now }
+    ensures lines { IfOk result (λ sink. ArePartLines (O.holds opener.old) read.now write.now part.now sink.received) }
+    ensures refused { IfErr result (IsPartFault (O.holds opener.old) (O.faults opener.old) (O.faults opener.new) read.now part.now place) }
+    ensures later { O.faults opener.old ≤ O.faults opener.new }
+    ensures stays { (other : List ℕ) → O.holds opener.new other ≡ O.holds opener.old other }
+{
+    let bytes = match read_path(alloc, opener, part.path.as_str()) {
+        Ok(bytes) => bytes,
+        Err(Unread::Failed) => return Err(MultiFault::Io { part: place }),
+        Err(Unread::OutOfMemory) => return Err(MultiFault::OutOfMemory),
+    };
+    match print_bytes(rt, alloc, &bytes, read, write) {
+        Ok(lines) => Ok(lines),
+        Err(fault) => Err(part_fault(place, fault)),
+    }
+}
+
+// The lines of the rows of all parts, part by part. Refuses as `join_parts` does.
+fn print_each<W: Threads + Wait + Sync, O: Opener>(
+    rt: &W,
+    alloc: Global,
+    opener: &mut O,
+    parts: &[Part],
+    read: &CsvReadOptions,
+    write: &CsvWriterOptions,
+) -> Result<Vec<MemSink>, MultiFault>
+    requires sound { IsSound read.now None parts.now }
+    requires plain { IsPlain read.now None parts.now }
+    requires head { HasNoHead write.now }
+    requires empty { IsFrame (no_rows read.now parts.now) }
+    ensures lines { IfOk result (λ lines. ArePrinted (O.holds opener.old) read.now write.now parts.now (length parts.now) (map (λ sink. sink.received) lines.items)) }
+    ensures refused { IfErr result (IsJoinFault (O.holds opener.old) (O.faults opener.old) (O.faults opener.new) read.now None parts.now) }
+    ensures later { O.faults opener.old ≤ O.faults opener.new }
+    ensures stays { (other : List ℕ) → O.holds opener.new other ≡ O.holds opener.old other }
+{
+    let mut lines = Vec::new(alloc);
+    let mut place = 0;
+    while place < parts.len() {
+        match print_part(rt, alloc, opener, &parts[place], place, read, write) {
+            Ok(sink) => {
+                if lines.push(sink).is_err() {
+                    return Err(MultiFault::OutOfMemory);
+                }
+            }
+            Err(fault) => return Err(fault),
+        }
+        place += 1;
+    }
+    Ok(lines)
+}
+
+// What was read of all parts, whose columns these are, printed part by part. Refuses the first cause against them, and want of memory.
+fn print_parts<W: Threads + Wait + Sync, O: Opener>(
+    rt: &W,
+    alloc: Global,
+    opener: &mut O,
+    job: &MultiJob,
+    empty: DataFrame,
+) -> Result<Joined, MultiFault>
+    requires ascii { HasAsciiQuote job.now.write }
+    requires sound { IsSound job.now.read job.now.slice job.now.parts.items }
+    requires plain { IsPlain job.now.read job.now.slice job.now.parts.items }
+    requires empty { empty ≡ no_rows job.now.read job.now.parts.items }
+    requires uncoded { have_codes empty ≡ false }
+    ensures joined { IfOk result (IsJoinedBy (O.holds opener.old) (asked job.now)) }
+    ensures refused { IfErr result (IsScanFault (O.holds opener.old) (O.faults opener.old) (O.faults opener.new) job.now.read job.now.slice job.now.parts.items) }
+    ensures later { O.faults opener.old ≤ O.faults opener.new }
+    ensures stays { (other : List ℕ) → O.holds opener.new other ≡ O.holds opener.old other }
+{
+    let write = without_head(&job.write)?;
+    match print_each(rt, alloc, opener, &job.parts, &job.read, &write) {
+        Ok(lines) => Ok(Joined::Lines { lines, empty }),
+        Err(fault) => Err(fault),
+    }
+}
+
+// What was read of all parts, of which a frame is made.
+fn scan_parts<W: Threads + Wait + Sync, O: Opener>(
+    rt: &W,
+    alloc: Global,
+    opener: &mut O,
+    job: &MultiJob,
+) -> Result<Joined, MultiFault>
+    ensures joined { IfOk result (IsJoinedBy (O.holds opener.old) (asked job.now)) }
+    ensures refused { IfErr result (IsScanFault (O.holds opener.old) (O.faults opener.old) (O.faults opener.new) job.now.read job.now.slice job.now.parts.items) }
+    ensures later { O.faults opener.old ≤ O.faults opener.new }
+    ensures stays { (other : List ℕ) → O.holds opener.new other ≡ O.holds opener.old other }
+{
+    match scan_multi(rt, alloc, opener, &job.parts, &job.read, job.slice) {
+        Ok(frame) => Ok(Joined::Frame(frame)),
+        Err(fault) => Err(fault),
+    }
+}
+
+// The columns of the answer without rows, where nothing stands against the options and the parts, whatever their bytes. Refuses the first
+// such cause, and want of memory.
+fn empty_frame(alloc: Global, job: &MultiJob) -> Result<DataFrame, MultiFault>
+    requires { IsPlain job.now.read job.now.slice job.now.parts.items }
+    ensures sound { OnOk result (IsSound job.now.read job.now.slice job.now.parts.items) }
+    ensures empty { IfOk result (λ empty. empty ≡ no_rows job.now.read job.now.parts.items) }
+    ensures refused { IfErr result (λ fault. (holds : List ℕ → Option (List ℕ)) (before now : ℕ) → IsScanFault holds before now job.now.read job.now.slice job.now.parts.items fault) }
+{
+    let stacks = match check_scan(alloc, &job.parts, &job.read, job.slice) {
+        Ok(stacks) => stacks,
+        Err(fault) => return Err(fault),
+    };
+    let columns = into_columns(alloc, stacks)?;
+    Ok(DataFrame::of_distinct(columns))
+}
+
+/// Reads all parts, as a job asks for: each row is printed as it is read, where all are wanted and they have neither numbers nor values nor
+/// categories, and else their frame is made. Refuses as `scan_multi` does.
+pub(crate) fn read_parts<W: Threads + Wait + Sync, O: Opener>(
+    rt: &W,
+    alloc: Global,
+    opener: &mut O,
+    job: &MultiJob,
+) -> Result<Joined, MultiFault>
+    requires { HasAsciiQuote job.now.write }
+    ensures joined { IfOk result (IsJoinedBy (O.holds opener.old) (asked job.now)) }
+    ensures refused { IfErr result (IsScanFault (O.holds opener.old) (O.faults opener.old) (O.faults opener.new) job.now.read job.now.slice job.now.parts.items) }
+    ensures later { O.faults opener.old ≤ O.faults opener.new }
+    ensures stays { (other : List ℕ) → O.holds opener.new other ≡ O.holds opener.old other }
+{
+    if !is_plain(job) {
+        return scan_parts(rt, alloc, opener, job);
+    }
+    let empty = match empty_frame(alloc, job) {
+        Ok(empty) => empty,
+        Err(fault) => return Err(fault),
+    };
+    if have_codes(empty.columns()) {
+        drop(empty);
+        return scan_parts(rt, alloc, opener, job);
+    }
+    print_parts(rt, alloc, opener, job, empty)
+}
+
+// The texts that sinks received. Refuses only want of memory.
+fn received<'a>(
+    alloc: Global,
+    sinks: &'a [MemSink],
+) -> Result<Vec<CowSlice<'a, u8, Global>>, AllocError>
+    ensures { IfOk result (λ texts. map cow_slice_items texts.items ≡ map (λ sink. sink.received) sinks.now) }
+{
+    let mut texts = Vec::new(alloc);
+    for sink in sinks {
+        texts.push(CowSlice::Borrowed(sink.received()))?;
+    }
+    Ok(texts)
+}
+
+// Writes lines behind the head of their columns to a sink.
+fn write_lines<W: Threads + Sync, Si: Sink>(
+    rt: &W,
+    alloc: Global,
+    lines: &[MemSink],
+    empty: &DataFrame,
+    write: &CsvWriterOptions,
+    out: &mut Si,
+) -> Result<(), SinkFault>
+    ensures text { OnOk result (Appends (Si.received out.old) (Si.received out.new) (printed_text (frame_options write.now) (names_of empty.now) (map (λ sink. sink.received) lines.now) empty.now)) }
+    ensures prefix { AppendsPrefix (Si.received out.old) (Si.received out.new) (printed_text (frame_options write.now) (names_of empty.now) (map (λ sink. sink.received) lines.now) empty.now) }
+    ensures later { Si.faults out.old ≤ Si.faults out.new }
+    ensures later_wants { Si.wants out.old ≤ Si.wants out.new }
+    ensures device { IsErrOf result SinkFault.Device → Rose (Si.faults out.old) (Si.faults out.new) }
+{
+    let Ok(texts) = received(alloc, lines) else {
+        return Err(SinkFault::OutOfMemory);
+    };
+    write_behind(rt, alloc, 1, &texts, empty.columns(), write, out)
+}
+
+/// Writes the text of what was read of all parts to a sink. Refuses a fault of the device, and want of memory. A prefix of the text was
+/// then appended.
+pub(crate) fn write_joined<W: Threads + Wait + Sync, Si: Sink>(
+    rt: &W,
+    alloc: Global,
+    joined: &Joined,
+    job: &MultiJob,
+    out: &mut Si,
+) -> Result<(), SinkFault>
+    ensures text { OnOk result (Appends (Si.received out.old) (Si.received out.new) (joined_text job.now.write joined.now)) }
+    ensures prefix { AppendsPrefix (Si.received out.old) (Si.received out.new) (joined_text job.now.write joined.now) }
+    ensures later { Si.faults out.old ≤ Si.faults out.new }
+    ensures later_wants { Si.wants out.old ≤ Si.wants out.new }
+    ensures device { IsErrOf result SinkFault.Device → Rose (Si.faults out.old) (Si.faults out.new) }
+{
+    match joined {
+        Joined::Frame(frame) => {
+            let workers = worker_count(job.read.n_threads);
+            write_frame(rt, alloc, workers, frame.columns(), &job.write, out)
+        }
+        Joined::Lines { lines, empty } => write_lines(rt, alloc, lines, empty, &job.write, out),
+    }
+}

@@ -28,7 +28,3 @@ values-more rest segment behind are =
     ap (λ l. filter_map value_in (all_but_last l)) (are ∙ ap (λ (l : List (List ℕ)). segment ∷ l) some.2)
     ∙ filter-more value_in segment (all_but_last (some.0 ∷ some.1))
     ∙ ap (λ l. option_to_list (value_in segment) ++ filter_map value_in (all_but_last l)) (sym some.2)
-
--- the last segment has none
-pub values-last : (rest : List ℕ) → parts_at 47 rest ≡ rest ∷ [] → hive_values rest ≡ []
-values-last rest are = ap (λ l. filter_map value_in (all_but_last l)) are

@@ -20,7 +20,7 @@ use Rattle.pl_read.proofs.ReaderLaws.{first-same}
 use Rattle.pl_write.specs.Batches.{all_lines}
 use Rattle.pl_write.specs.Options.{cell_options, frame_options}
 use Rattle.pl_write.specs.declared.options.CsvWriterOptions.{CsvWriterOptions}
-use Rattle.pl_csv.specs.Transcoding.{quote_cause, all_causes, HasAsciiQuote, IsCause, IsConverted, IsTranscodeFault}
+use Rattle.pl_csv.specs.Transcoding.{quote_cause, all_causes, IsCause, IsConverted, IsTranscodeFault}
 use Rattle.pl_csv.specs.Views.{SinkView}
 use Rattle.pl_csv.proofs.TranscodeLaws.{quote_none}
 use Rattle.pl_multi.specs.Printing.{HasNoHead, AreLinesOf}

@@ -1,8 +1,8 @@
 -- The lines of parts, one part behind the other, are those of their joined read.
 use Rattle.std.proofs.Common.{◌≡◌, ℕ, ◌+◌, ◌<◌, Bool, true, false, ◌||◌, if◌then◌else◌, nat_lt, List, [], ◌∷◌, ◌++◌, map, length, get_or, Option, Some, None, refl, sym, ◌∙◌, ap, subst}
 use Rattle.std.specs.Prelude.{◌≤◌, Ok, is_none, is_some, unwrap_or}
-use Rattle.std.specs.List.{concat, list_any}
-use Rattle.std.specs.Option.{option_map, option_map_or}
+use Rattle.std.specs.List.{concat}
+use Rattle.std.specs.Option.{option_map}
 use Rattle.std.proofs.lemmas.List.{append-nil, map-append}
 use Rattle.std.proofs.lemmas.List.Folds.{concat-append}
 use Rattle.pl_frame.specs.Frame.{ColumnValue, IsFrame, HaveHeight, height_of, names_of}
@@ -10,8 +10,7 @@ use Rattle.pl_frame.specs.FrameParts.{stacked, schema_of, HaveSameColumns}
 use Rattle.pl_frame.specs.Outside.{Writing}
 use Rattle.pl_frame.specs.Schema.{Entry}
 use Rattle.pl_frame.specs.declared.data_type.DataType.TheVariants as dtype
-use Rattle.pl_text.specs.FrameText.{WriteOptions, head_text, text_of_frame}
-use Rattle.pl_cells.specs.InitBuffers.{entry_at}
+use Rattle.pl_text.specs.FrameText.{head_text, text_of_frame}
 use Rattle.pl_options.specs.FirstCause.{first_some}
 use Rattle.pl_options.specs.declared.read_options.CsvReadOptions.{CsvReadOptions}
 use Rattle.pl_options.specs.declared.row_index.RowIndex.{RowIndex}
@@ -30,7 +29,7 @@ use Rattle.pl_write.specs.Options.{cell_options, frame_options}
 use Rattle.pl_write.specs.Printed.{printed_text}
 use Rattle.pl_write.specs.declared.options.CsvWriterOptions.{CsvWriterOptions}
 use Rattle.pl_write.proofs.StackLaws.{lines-stacked, lines-empty}
-use Rattle.pl_multi.specs.Parts.{partition_names, first_other, entries_read, is_wrong, start_of, end_of}
+use Rattle.pl_multi.specs.Parts.{partition_names, entries_read, is_wrong, start_of, end_of}
 use Rattle.pl_multi.specs.Scan.{part_options, part_rows, value_columns, no_rows, rows_from, index_fault, late_fault, numbered, IsJoined}
 use Rattle.pl_multi.specs.Joining.{AreJoined, Join, IsJoinFault, IsPartFault, IsSound}
 use Rattle.pl_multi.specs.Printing.{IsPlain, have_codes, ArePartLines, ArePrinted}

@@ -268,11 +268,6 @@ none-repeated names seen all first same are =
     let none : first_repeat all ≡ None = ap first_repeat (sym (map-same seen ∙ same ∙ are)) ∙ sym first in
     ap (option_map (λ place. slice_index_or all place [])) none
 
-pub some-repeated : (names seen all : List (List ℕ)) (place : ℕ) → Some place ≡ first_repeat (map (λ (x : List ℕ). x) seen) → seen ≡ names → names ≡ all → repeated_name all ≡ Some (slice_index_or names place [])
-some-repeated names seen all place first same are =
-    let some : first_repeat all ≡ Some place = ap first_repeat (sym (map-same seen ∙ same ∙ are)) ∙ sym first in
-    ap (option_map (λ place. slice_index_or all place [])) some ∙ ap (λ l. Some (slice_index_or l place [])) (sym are)
-
 -- ---- columns that were changed in place
 
 pub length-same : (columns others : List ColumnValue) → HaveSameColumns columns others → length columns ≡ length others

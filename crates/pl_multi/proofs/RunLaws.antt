@@ -12,7 +12,7 @@ use Rattle.pl_csv.specs.Transcoding.{HasAsciiQuote}
 use Rattle.pl_csv.specs.Views.{SinkView}
 use Rattle.pl_multi.specs.Printing.{IsJoinedBy, joined_text}
 use Rattle.pl_multi.specs.Run.{opener_view, IsWritten, IsPartWritten, IsUnwritten, IsTextFault, IsDueJoined, IsMultiDue, EndsAsMultiDue, meaning_status, outcome_status}
-use Rattle.pl_multi.specs.Scan.{PartBytes, IsJoined, IsScanFault, IsScanMeaning, AreTold, ScansUnlessFailed}
+use Rattle.pl_multi.specs.Scan.{IsJoined, IsScanFault, ScansUnlessFailed}
 use Rattle.pl_multi.specs.Telling.{multi_status, refusal_of}
 use Rattle.pl_multi.specs.Words.{Asked, asked_of_words}
 use Rattle.pl_multi.specs.declared.printing.Joined.{Joined}

@@ -29,14 +29,6 @@ front-none [] ys e = refl
 front-none (None ∷ xs) ys e = front-none xs ys e
 front-none (Some x ∷ xs) ys e = absurd (cc)
 
--- options that stand can be read by
-pub may-read : (o : CsvReadOptions) → IsFirstCause (given_causes o) o.parse_options None → MayRead o
-may-read o sound = record {
-  is_dialect = sound.is_dialect;
-  tells = sound.tells;
-  is = sym (front-none (early_causes o sound.is_dialect) (settled_causes o (given_schema o)) (sym sound.is));
-}
-
 -- a first cause against the options of a read is one against all that is given
 pub given-cause : (o : CsvReadOptions) (refusal : PolarsError) → IsFirstCause (early_causes o) o.parse_options (Some refusal) → IsFirstCause (given_causes o) o.parse_options (Some refusal)
 given-cause o refusal first = record {
@@ -124,10 +116,6 @@ pub names-fault : (o : CsvReadOptions) (slice : Option (ℕ × ℕ)) (parts : Li
 names-fault o slice parts sound right same given (inr wanting) = inr wanting
 names-fault o slice parts sound right same given (inl repeated) =
     inl (None, sound, early-names o slice parts right same (repeated_name (column_names o (given_schema o) parts)) refl ∙ first_some-one (option_map fault.Duplicate (repeated_name (column_names o (given_schema o) parts))) ∙ repeated)
-
-pub names-sound : (o : CsvReadOptions) (slice : Option (ℕ × ℕ)) (parts : List Part) → IsFirstCause (given_causes o) o.parse_options None → is_wrong o slice ≡ false → first_other parts ≡ None
-    → repeated_name (column_names o (given_schema o) parts) ≡ None → IsSound o slice parts
-names-sound o slice parts sound right same none = record { sound = sound; early = early-names o slice parts right same None none }
 
 -- ---- what the parts mean
 

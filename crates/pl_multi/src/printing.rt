@@ -13,7 +13,6 @@ ghost use Rattle.pl_write.specs.Printed.{printed_text};
 ghost use Rattle.pl_write.specs.Writing.{AppendsPrefix};
 ghost use Rattle.pl_csv.specs.Transcoding.{HasAsciiQuote};
 ghost use Rattle.pl_multi.specs.Joining.{IsPartFault, IsJoinFault, IsSound};
-ghost use Rattle.pl_multi.specs.Parts.{first_other, partition_names};
 ghost use Rattle.pl_multi.specs.Printing.{IsPlain, have_codes, HasNoHead, AreLinesOf, ArePartLines, ArePrinted, IsJoinedBy, joined_text};
 ghost use Rattle.pl_multi.specs.Scan.{IsScanFault, no_rows};
 ghost use Rattle.pl_multi.specs.Words.{asked};

@@ -1,11 +1,11 @@
 //! The top call over many files: from the words of a command line and what an opener holds to the text of their joined read.
-ghost use Rattle.std.specs.Prelude.{◌≡◌, ◌≢◌, ◌≤◌, ◌⊎◌, ℕ, List, map, string_bytes, IfOk, IfErr, OnOk, None};
+ghost use Rattle.std.specs.Prelude.{◌≡◌, ◌≢◌, ◌≤◌, ℕ, List, map, string_bytes, IfErr, OnOk};
 ghost use Rattle.std.specs.Io.KnownBytes.{Appends};
 ghost use Rattle.pl_csv.specs.Views.{sink_view};
 ghost use Rattle.pl_multi.specs.Printing.{joined_text};
 ghost use Rattle.pl_multi.specs.Run.{opener_view, IsWritten, IsTextFault, IsUnwritten, IsMultiWritten, IsMultiRefused, IsMultiRefusedWith, IsDueJoined, IsMultiDue, EndsAsMultiDue, outcome_status};
 ghost use Rattle.pl_multi.specs.Telling.{multi_status, refusal_of};
-ghost use Rattle.pl_multi.specs.Words.{asked, asked_of_words};
+ghost use Rattle.pl_multi.specs.Words.{asked};
 
 use crate::multi_words::{MultiJob, parse_multi};
 use crate::printing::{Joined, read_parts, write_joined};

@@ -1,5 +1,5 @@
 //! The fault line of a run over many files, told to the sink of errors piece by piece, without taking memory.
-ghost use Rattle.std.specs.Prelude.{◌≡◌, ◌≤◌, ◌++◌, codes, decimal};
+ghost use Rattle.std.specs.Prelude.{◌≤◌, ◌++◌, codes, decimal};
 ghost use Rattle.pl_csv.specs.Telling.{fault_line, IsTold, IsTelling};
 ghost use Rattle.pl_csv.specs.Views.{sink_view};
 ghost use Rattle.pl_multi.specs.Telling.{multi_line, part_text};

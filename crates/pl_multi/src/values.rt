@@ -1,7 +1,6 @@
 //! The values of a part behind each of its rows.
-ghost use Rattle.std.specs.Prelude.{◌≡◌, ◌∷◌, ◌++◌, [], replicate, Some, IfOk, OnOk, IsUtf8};
-ghost use Rattle.pl_frame.specs.Frame.{HaveHeight, height_of};
-ghost use Rattle.pl_multi.specs.Scan.{value_columns, with_part_values};
+ghost use Rattle.std.specs.Prelude.{◌≡◌, ◌∷◌, ◌++◌, [], replicate, Some, IfOk, OnOk};
+ghost use Rattle.pl_multi.specs.Scan.{value_columns};
 
 use crate::part::Part;
 use pl_frame::column::Column;

@@ -1,4 +1,4 @@
-use Rattle.std.proofs.Common.{List, Some, subst}
+use Rattle.std.proofs.Common.{Some, subst}
 use Rattle.pl_frame.specs.Outside.{Writing}
 use Rattle.pl_csv.specs.Transcoding.{IsConverted}
 use Rattle.pl_csv.specs.Views.{sink_view}

@@ -1,6 +1,6 @@
 -- What a scan answers, by its steps.
-use Rattle.std.proofs.Common.{◌≡◌, ◌⊎◌, ℕ, Bool, true, false, if◌then◌else◌, List, [], ◌∷◌, ◌++◌, map, Option, Some, None, refl, sym, ◌∙◌, ap, subst, inl, inr}
-use Rattle.std.specs.Prelude.{Result, Ok, Err, IsSome, IfOk, IfErr, OnOk}
+use Rattle.std.proofs.Common.{◌≡◌, ◌⊎◌, ℕ, Bool, true, false, if◌then◌else◌, List, [], ◌∷◌, map, Option, Some, None, refl, sym, ◌∙◌, ap, subst, inl, inr}
+use Rattle.std.specs.Prelude.{Result, Ok, Err, IfOk, IfErr, OnOk}
 use Rattle.std.specs.Option.{option_map}
 use Rattle.pl_frame.specs.Frame.{ColumnValue}
 use Rattle.pl_frame.specs.Names.{repeated_name}
@@ -23,11 +23,6 @@ use Rattle.pl_multi.specs.declared.scan.MultiFault.TheVariants as fault
 use Rattle.pl_multi.proofs.HeldLaws.{some-bytes, some-held, held-told}
 
 -- ---- causes before any byte
-
-front-none : {X : Type 0} (xs ys : List (Option X)) → first_some (xs ++ ys) ≡ None → first_some xs ≡ None
-front-none [] ys e = refl
-front-none (None ∷ xs) ys e = front-none xs ys e
-front-none (Some x ∷ xs) ys e = absurd (cc)
 
 -- a first cause against the options of a read is one against all that is given
 pub given-cause : (o : CsvReadOptions) (refusal : PolarsError) → IsFirstCause (early_causes o) o.parse_options (Some refusal) → IsFirstCause (given_causes o) o.parse_options (Some refusal)
@@ -55,13 +50,6 @@ not-wrong o slice parts refused early = by (is_wrong o slice) refl
         let rest = option_map fault.Read refused ∷ option_map fault.Partitions (first_other parts) ∷ option_map fault.Duplicate (repeated_name (column_names o (given_schema o) parts)) ∷ [] in
         let first : early_fault refused o slice parts ≡ Some fault.Options = ap (λ b. first_some (wrong_first b ∷ rest)) e in
         absurd (cc)
-
-pub is-given : (o : CsvReadOptions) (slice : Option (ℕ × ℕ)) → is_wrong o slice ≡ false → IsSome o.schema
-is-given o slice right = by o.schema refl
-  where
-    by : (schema : Option (List _)) → o.schema ≡ schema → IsSome o.schema
-    by None e = absurd (cc)
-    by (Some s) e = search (e)
 
 pub no-other : (o : CsvReadOptions) (slice : Option (ℕ × ℕ)) (parts : List Part) → early_fault None o slice parts ≡ None → first_other parts ≡ None
 no-other o slice parts early = by (first_other parts) refl

@@ -1,3 +1,7 @@
+pub mod BindLaws
+pub mod BuildLaws
 pub mod Fields
+pub mod GroupLaws
 pub mod Numbers
+pub mod PlaceLaws
 pub mod Whole

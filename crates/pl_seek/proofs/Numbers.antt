@@ -74,10 +74,6 @@ numbers_more done bytes number after total e so_far =
     ∙ sym (ap (λ (ns : List ℕ). done ++ ns) (numbers_step bytes number after e).0)
     ∙ so_far
 
--- and ends
-pub numbers_end : (done bytes total : List ℕ) → number_at bytes ≡ None → done ++ numbers_in (length bytes / 8) bytes ≡ total → done ≡ total
-numbers_end done bytes total e so_far = sym (append-nil done) ∙ ap (λ (ns : List ℕ). done ++ ns) (sym (numbers_none bytes e)) ∙ so_far
-
 rising_next : (a : ℕ) (ns : List ℕ) → AreRising (a ∷ ns) → AreRising ns
 rising_next a ns h k lt =
     let next : suc k + 1 ≡ suc (k + 1) = omega arith in
@@ -95,6 +91,3 @@ rising_more a b ns = (λ h. (h 0 (omega arith), λ k lt. rising_next a (b ∷ ns
 
 pub rising_one : (a : ℕ) → AreRising (a ∷ [])
 rising_one a = λ k lt. absurd (omega arith)
-
-pub rising_none : AreRising []
-rising_none = λ k lt. absurd (omega arith)

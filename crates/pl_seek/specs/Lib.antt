@@ -1,4 +1,9 @@
+pub mod Binding
+pub mod Building
+pub mod Checking
+pub mod Grouping
 pub mod Index
 pub mod Inside
+pub mod Places
 pub mod Reading
 pub mod Viewing

@@ -1,6 +1,7 @@
 //! An index of record places.
-ghost use Rattle.std.specs.Prelude.{◌≡◌, IfOk, IsErrOf, IsOkUnless};
+ghost use Rattle.std.specs.Prelude.{◌≡◌, ◌<◌, IfOk, OnOk, IfErr, IsErrOf, IsOkUnless};
 ghost use Rattle.pl_seek.specs.Index.{Index, IsIndex, ArePlaces, HasIndex, index_bytes};
+ghost use Rattle.pl_seek.specs.Binding.{first_difference, IsDifference};
 ghost use Rattle.pl_seek.specs.declared.fault.SeekFault.TheVariants as fault;
 
 use crate::fault::SeekFault;
@@ -34,9 +35,19 @@ impl Model for SeekIndex {
     ghost invariant = { λ index. IsIndex (inside index) };
 }
 
+// The least number of a place that is another one in the other list, as far as both go.
+fn first_difference(places: &[usize], own: &[usize]) -> Option<usize>
+    ensures { result ≡ first_difference places.now own.now }
+{
+    places
+        .iter()
+        .zip(own.iter())
+        .position(|(place, other)| *place != *other)
+}
+
 impl SeekIndex {
-    // An index of these parts, without taking memory.
-    fn new(
+    /// An index of these parts, without taking memory.
+    pub(crate) fn new(
         digest: [u8; 32],
         settings: Settings,
         comment_prefix: Vec<u8>,
@@ -62,6 +73,51 @@ impl SeekIndex {
             records,
             places,
         }
+    }
+
+    /// How many records are a group.
+    pub fn every(&self) -> usize
+        ensures value { result ≡ self.now.every }
+        ensures some { 0 < result }
+    {
+        self.every
+    }
+
+    /// How many records there are.
+    pub fn records(&self) -> usize
+        ensures { result ≡ self.now.records }
+    {
+        self.records
+    }
+
+    /// Where each group begins.
+    pub fn places(&self) -> &[usize]
+        ensures { result.now ≡ self.now.places }
+    {
+        &self.places
+    }
+
+    /// Refuses what differs in another index of groups of as many records: the digest (`Input`), or else the settings (`Settings`), or
+    /// else the least place, or the number of records (`Places`).
+    pub(crate) fn compare(&self, own: &SeekIndex) -> Result<(), SeekFault>
+        requires { self.now.every ≡ own.now.every }
+        ensures same { OnOk result (self.now ≡ own.now) }
+        ensures refused { IfErr result (IsDifference self.now own.now) }
+    {
+        if self.digest.as_slice() != own.digest.as_slice() {
+            return Err(SeekFault::Input);
+        }
+        if self.settings != own.settings || self.comment_prefix != own.comment_prefix {
+            return Err(SeekFault::Settings);
+        }
+        if let Some(number) = first_difference(&self.places, &own.places) {
+            return Err(SeekFault::Places { number });
+        }
+        if self.records != own.records {
+            let number = self.places.len().min(own.places.len());
+            return Err(SeekFault::Places { number });
+        }
+        Ok(())
     }
 
     /// The bytes of this index, which `from_bytes` reads again. Refuses only want of memory.

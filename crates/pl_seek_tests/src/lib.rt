@@ -2,4 +2,6 @@
 #![tactic(auto)]
 
 #[cfg(test)]
+mod bind;
+#[cfg(test)]
 mod index;

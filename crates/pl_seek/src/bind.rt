@@ -1,0 +1,66 @@
+//! An index bound to its input.
+ghost use Rattle.std.specs.Prelude.{◌≡◌, IfOk, OnOk, IfErr};
+ghost use Rattle.pl_seek.specs.Binding.{IsBindFault};
+ghost use Rattle.pl_seek.specs.Building.{index_in, MayIndex};
+
+use crate::build::build_index;
+use crate::fault::SeekFault;
+use crate::index::SeekIndex;
+use pl_options::read_options::CsvReadOptions;
+use std::alloc::Global;
+use std::marker::Model;
+
+/// An input, and the index that it has under options.
+pub struct Bound<'a> {
+    input: &'a [u8],
+    read: CsvReadOptions,
+    index: SeekIndex,
+}
+
+impl<'a> Model for Bound<'a> {
+    ghost use Rattle.std.specs.Prelude.{◌≡◌};
+    ghost use Rattle.pl_seek.specs.Binding.{Binding};
+    ghost use Rattle.pl_seek.specs.Building.{index_in, MayIndex};
+
+    ghost Value = { Binding };
+
+    ghost view = { λ bound. record { input = bound.input.now; read = bound.read; every = bound.index.every } };
+
+    ghost invariant = { λ bound. MayIndex bound.read bound.input.now × (bound.index ≡ index_in bound.read bound.index.every bound.input.now) };
+}
+
+impl<'a> Drop for Bound<'a> {
+    fn drop(self) {
+        let Bound {
+            input: _,
+            read: _,
+            index: _,
+        } = self;
+    }
+}
+
+/// The input with the index, where this is the index that the input has under the options. Its digest, its settings, its number of
+/// records and each of its places are compared with those of the input, and none is trusted.
+///
+/// Refuses what `build_index` refuses; then another digest (`Input`), other settings (`Settings`), and the least place that is not that
+/// of the input, or else another number of records (`Places`); and want of memory.
+pub fn bind<'a>(
+    alloc: Global,
+    input: &'a [u8],
+    read: &CsvReadOptions,
+    index: SeekIndex,
+) -> Result<Bound<'a>, SeekFault>
+    ensures bound { IfOk result (λ bound. bound ≡ record { input = input.now; read = read.now; every = index.every }) }
+    ensures may { OnOk result (MayIndex read.now input.now) }
+    ensures same { OnOk result (index ≡ index_in read.now index.every input.now) }
+    ensures refused { IfErr result (IsBindFault read.now input.now index) }
+{
+    let own = build_index(alloc, input, read, index.every())?;
+    let compared = index.compare(&own);
+    drop(own);
+    compared?;
+    match read.try_clone() {
+        Ok(read) => Ok(Bound { input, read, index }),
+        Err(_) => Err(SeekFault::OutOfMemory),
+    }
+}

@@ -1,0 +1,165 @@
+//! Where the records of an input begin.
+ghost use Rattle.std.specs.Prelude.{◌≡◌, ℕ, ◌<◌, ◌≤◌, ◌+◌, ◌++◌, ◌∷◌, ◌^◌, ◌==◌, [], List, not, true, false, length, drop, get_or, OnOk, IfOk};
+ghost use Rattle.std.specs.List.{prefix_len};
+ghost use Rattle.pl_frame.specs.Dialect.{marks, AreDistinct};
+ghost use Rattle.pl_scan.specs.Comment.{is_comment};
+ghost use Rattle.pl_scan.specs.Dialect.{marks_of, comment_of};
+ghost use Rattle.pl_scan.specs.Fields.{is_quote, extent};
+ghost use Rattle.pl_scan.specs.Items.{item, text_of};
+ghost use Rattle.pl_seek.specs.Grouping.{HasSeen, unless_comment};
+ghost use Rattle.pl_seek.specs.Places.{group_places, record_places};
+
+use memchr::memchr;
+use pl_scan::comment::is_comment_line;
+use pl_scan::dialect::Dialect;
+use pl_scan::items::record_len;
+use std::alloc::{AllocError, Global};
+
+/// Of the places of records that came, those of which each begins a group.
+#[derive(Drop)]
+pub(crate) struct Groups {
+    pub every: usize,
+    pub records: usize,
+    pub places: Vec<usize>,
+    // How many records come before the next group.
+    pub wait: usize,
+}
+
+impl Groups {
+    // Before all records.
+    fn new(alloc: Global, every: usize) -> Groups
+        requires { 0 < every }
+        ensures seen { HasSeen result [] }
+        ensures every { result.every ≡ every }
+    {
+        Groups {
+            every,
+            records: 0,
+            places: Vec::new(alloc),
+            wait: 0,
+        }
+    }
+
+    // Takes the place of the next record. Refuses only want of memory.
+    #[inline]
+    fn add(&mut self, place: usize) -> Result<(), AllocError>
+        requires some { 0 < self.old.every }
+        requires few { self.old.records + 1 < 2 ^ 64 }
+        ensures seen { OnOk result ((seen : List ℕ) → HasSeen self.old seen → HasSeen self.new (seen ++ place ∷ [])) }
+        ensures every { OnOk result (self.new.every ≡ self.old.every) }
+    {
+        if self.wait == 0 {
+            self.places.push(place)?;
+            self.wait = self.every;
+        }
+        self.wait -= 1;
+        self.records += 1;
+        Ok(())
+    }
+
+    // Takes the place of the next item, unless it is a comment. Refuses only want of memory.
+    #[inline]
+    fn add_unless(&mut self, is_comment: bool, place: usize) -> Result<(), AllocError>
+        requires some { 0 < self.old.every }
+        requires few { self.old.records + 1 < 2 ^ 64 }
+        ensures seen { OnOk result ((seen : List ℕ) → HasSeen self.old seen → HasSeen self.new (seen ++ unless_comment is_comment place)) }
+        ensures every { OnOk result (self.new.every ≡ self.old.every) }
+    {
+        if is_comment { Ok(()) } else { self.add(place) }
+    }
+}
+
+// The length of the line at the front, without its line end.
+#[inline]
+fn line_len(bytes: &[u8], eol_char: u8) -> usize
+    ensures fits { result ≤ length bytes.now }
+    ensures value { result ≡ prefix_len (λ x. not (x == eol_char)) bytes.now }
+{
+    match memchr(eol_char, bytes) {
+        Some(at) => at,
+        None => bytes.len(),
+    }
+}
+
+// Whether none of the bytes is the quote.
+#[inline]
+fn lacks_quote(bytes: &[u8], quote_char: Option<u8>) -> bool
+    ensures { result ≡ true → (k : ℕ) → k < length bytes.now → is_quote quote_char (get_or bytes.now k 0) ≡ false }
+{
+    match quote_char {
+        Some(quote) => memchr(quote, bytes).is_none(),
+        None => true,
+    }
+}
+
+// The length of the record at the front: that of its line, where no quote is there.
+#[inline]
+fn record_len_by_line(rest: &[u8], dialect: &Dialect<'_>) -> usize
+    requires { AreDistinct (marks_of dialect.now) }
+    ensures fits { result ≤ length rest.now }
+    ensures value { result ≡ extent (marks_of dialect.now) rest.now }
+{
+    let len = line_len(rest, dialect.eol_char);
+    if lacks_quote(&rest[..len], dialect.quote_char) {
+        len
+    } else {
+        record_len(
+            rest,
+            dialect.separator,
+            dialect.quote_char,
+            dialect.eol_char,
+        )
+    }
+}
+
+// Whether the item at the front is a comment, and how long it is.
+#[inline]
+pub(crate) fn front_item(rest: &[u8], dialect: &Dialect<'_>) -> (bool, usize)
+    requires { AreDistinct (marks_of dialect.now) }
+    ensures comment { result.0 ≡ is_comment (comment_of dialect.now) rest.now }
+    ensures fits { result.1 ≤ length rest.now }
+    ensures len { result.1 ≡ length (text_of (item (marks_of dialect.now) (comment_of dialect.now) rest.now)) }
+{
+    if is_comment_line(rest, dialect.comment_prefix) {
+        (true, line_len(rest, dialect.eol_char))
+    } else {
+        (false, record_len_by_line(rest, dialect))
+    }
+}
+
+// What stands behind so many bytes and the one behind them.
+#[inline]
+pub(crate) fn behind_item(rest: &[u8], len: usize) -> &[u8]
+    requires { len ≤ length rest.now }
+    ensures { result.now ≡ drop (len + 1) rest.now }
+{
+    match &rest[len..] {
+        [_, behind @ ..] => behind,
+        [] => &[],
+    }
+}
+
+/// The places where the records of an input begin whose data begins at this place: of each group the first, and how many records
+/// there are. Refuses only want of memory.
+pub(crate) fn find_places(
+    alloc: Global,
+    input: &[u8],
+    start: usize,
+    dialect: &Dialect<'_>,
+    every: usize,
+) -> Result<Groups, AllocError>
+    requires some { 0 < every }
+    requires within { start ≤ length input.now }
+    requires apart { AreDistinct (marks_of dialect.now) }
+    ensures records { IfOk result (λ groups. groups.records ≡ length (record_places (marks_of dialect.now) (comment_of dialect.now) (length input.now) (drop start input.now))) }
+    ensures places { IfOk result (λ groups. groups.places.items ≡ group_places every (record_places (marks_of dialect.now) (comment_of dialect.now) (length input.now) (drop start input.now))) }
+{
+    let mut groups = Groups::new(alloc, every);
+    let mut rest = &input[start..];
+    while !rest.is_empty() {
+        let (is_comment, len) = front_item(rest, dialect);
+        groups.add_unless(is_comment, input.len() - rest.len())?;
+        rest = behind_item(rest, len);
+    }
+    Ok(groups)
+}

@@ -3,5 +3,6 @@ pub mod BuildLaws
 pub mod Fields
 pub mod GroupLaws
 pub mod Numbers
+pub mod PartLaws
 pub mod PlaceLaws
 pub mod Whole

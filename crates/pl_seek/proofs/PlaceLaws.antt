@@ -22,7 +22,7 @@ use Rattle.pl_seek.proofs.GroupLaws.{Rise, rise-from, ceil_is, groups-first, gro
 -- ---- items
 
 -- the item at the front, by whether a comment begins there
-abbrev item_by : Bool → Marks → List ℕ → ItemText
+abbrev pub item_by : Bool → Marks → List ℕ → ItemText
 item_by t m b = cond t (CommentText (take_while (λ x. not (x == m.line_end)) b)) (RecordText (take (extent m b) b))
 
 pub text-fits : (m : Marks) (comment : Option (List ℕ)) (b : List ℕ) → length (text_of (item m comment b)) ≤ length b

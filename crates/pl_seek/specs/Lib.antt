@@ -4,6 +4,8 @@ pub mod Checking
 pub mod Grouping
 pub mod Index
 pub mod Inside
+pub mod PartSteps
+pub mod Parts
 pub mod Places
 pub mod Reading
 pub mod Viewing

@@ -7,6 +7,7 @@ mod checking;
 pub mod fault;
 pub mod index;
 pub mod laws;
+pub mod part;
 mod places;
 mod reading;
 pub mod settings;

@@ -1,0 +1,30 @@
+use Rattle.std.proofs.Common.{sym, ◌∙◌, ap, subst, length}
+use Rattle.pl_infer.specs.Schemas.{first_unreadable_column}
+use Rattle.pl_rows.specs.Plan.{AreRising}
+use Rattle.pl_read.specs.Projection.{projected}
+use Rattle.pl_read.specs.SettleGiven.{given_schema}
+use Rattle.pl_read.proofs.ProjectionLaws.{projected-rises, projected-below}
+use Rattle.pl_read.proofs.DataLaws.{readable-places}
+use Rattle.pl_seek.proofs.PartLaws.{are-read, readable-given, ok-map}
+use Rattle.pl_seek.proofs.part.read_records.Goals as goal
+
+pub read_columns-requires-clause-rising : goal.read_columns-requires-clause-rising
+read_columns-requires-clause-rising c =
+    let o = c.args.read.now in
+    rw (c.requires.settled.schema_is, c.plan_of-plan.ensures.plan.places_are) (projected-rises o (given_schema o))
+
+pub read_columns-requires-clause-readable : goal.read_columns-requires-clause-readable
+read_columns-requires-clause-readable c =
+    let o = c.args.read.now in
+    let is = c.requires.settled.schema_is in
+    let places = c.plan_of-plan.ensures.plan.places_are ∙ ap (projected o) (sym is) in
+    readable-places c.args.settled.now.schema c.plan_of-plan.result.projection.places.now (ap first_unreadable_column is ∙ readable-given o c.requires.sound)
+    (projected-below o c.args.settled.now.schema c.plan_of-plan.result.projection.places.now places)
+
+pub returns : goal.returns
+returns c =
+    let o = c.args.read.now in
+    ok-map c.read_columns.result
+    (λ read is. are-read c.plan_of-plan.result o c.args.skip c.args.length c.args.part.now c.behind_records-rest.result.now c.args.settled.now.schema read c.plan_of-plan.ensures.plan c.requires.settled.schema_is
+    c.plan_of-plan.ensures.distinct is c.behind_records-rest.ensures)
+    c.read_columns.ensures

@@ -1,12 +1,12 @@
 -- Whether an index is another one.
-use Rattle.std.proofs.Common.{◌≡◌, ◌≢◌, ℕ, zero, suc, Bool, true, false, cond, not, ◌==◌, ◌||◌, List, [], ◌∷◌, length, Option, Some, None, refl, sym, ◌∙◌, ap, subst, arith}
+use Rattle.std.proofs.Common.{◌≡◌, ◌≢◌, ℕ, Bool, true, false, cond, not, ◌==◌, ◌||◌, List, [], ◌∷◌, length, Some, None, refl, sym, ◌∙◌, ap, subst, arith}
 use Rattle.std.proofs.lemmas.Bool.Decides.{nat_tests}
 use Rattle.std.specs.Prelude.{min}
-use Rattle.std.specs.List.{position, list_any, zip}
+use Rattle.std.specs.List.{list_any, zip}
 use Rattle.pl_frame.proofs.SchemaLaws.{none_passes}
 use Rattle.std.specs.Int.{div_ceil}
 use Rattle.pl_options.specs.FirstCause.{first_some}
-use Rattle.pl_seek.specs.Index.{Index, IsIndex}
+use Rattle.pl_seek.specs.Index.{Index}
 use Rattle.pl_seek.specs.Binding.{HaveSameSettings, first_difference, places_difference}
 
 -- lists of one length in which no place differs

@@ -1,11 +1,11 @@
 -- What stands against an index of an input.
-use Rattle.std.proofs.Common.{◌≡◌, ℕ, ◌≤◌, ◌<◌, ◌-◌, [], Bool, true, false, List, length, drop, Option, Some, None, refl, sym, ◌∙◌, ap, subst, arith, inl, inr, length-drop}
-use Rattle.std.specs.Prelude.{IsSome, unwrap_or, is_none, is_some, ◌||◌}
+use Rattle.std.proofs.Common.{◌≡◌, ℕ, ◌<◌, [], true, false, List, length, drop, Option, Some, None, refl, sym, ◌∙◌, ap, subst, arith, inl, inr, length-drop}
+use Rattle.std.specs.Prelude.{unwrap_or, is_none, is_some, ◌||◌}
 use Rattle.pl_frame.specs.Schema.{Entry}
 use Rattle.pl_frame.specs.declared.error.PolarsError.{PolarsError}
 use Rattle.pl_frame.specs.declared.error.PolarsError.TheVariants as error
 use Rattle.pl_options.specs.declared.read_options.CsvReadOptions.{CsvReadOptions}
-use Rattle.pl_options.specs.FirstCause.{first_some, IsFirstCause, IsFault}
+use Rattle.pl_options.specs.FirstCause.{IsFirstCause, IsFault}
 use Rattle.pl_options.specs.Text.{marks_of, comment_of}
 use Rattle.pl_infer.specs.Inference.{inference_of, inferred}
 use Rattle.pl_read.specs.Options.{settled, settled_schema, data_of}
@@ -13,7 +13,7 @@ use Rattle.pl_read.specs.Refusals.{early_causes, causes_before_rows}
 use Rattle.pl_read.specs.SettleGiven.{given_schema}
 use Rattle.pl_read.specs.Steps.{MayRead, opening_cause}
 use Rattle.pl_read.proofs.CauseLaws.{first_some-early, first_some-late}
-use Rattle.pl_seek.specs.Building.{asks_nothing, is_wrong, causes_before, MayIndex, IsBuildFault, places_in, index_in}
+use Rattle.pl_seek.specs.Building.{asks_nothing, is_wrong, causes_before, MayIndex, IsBuildFault, places_in}
 use Rattle.pl_seek.specs.Checking.{fault_of}
 use Rattle.pl_seek.specs.Index.{ArePlaces}
 use Rattle.pl_seek.specs.Places.{record_places, group_places}

@@ -1,5 +1,5 @@
 -- The first records of groups.
-use Rattle.std.proofs.Common.{◌≡◌, ℕ, zero, suc, ◌+◌, ◌*◌, ◌-◌, ◌<◌, ◌≤◌, inl, inr, List, [], ◌∷◌, ◌++◌, map, length, get_or, slice_index, slice_index_or, refl, sym, ap, subst, ◌∙◌, arith}
+use Rattle.std.proofs.Common.{◌≡◌, ℕ, zero, suc, ◌+◌, ◌*◌, ◌-◌, ◌<◌, ◌≤◌, inl, inr, List, [], ◌∷◌, ◌++◌, map, length, get_or, slice_index, refl, sym, ap, ◌∙◌, arith}
 use Rattle.std.proofs.Math.Nat.{suc-mul, mul-le-mul_right}
 use Rattle.std.proofs.Math.ListN.{get_or-append}
 use Rattle.std.proofs.Math.Seq.{get_or-append_seam}
@@ -9,10 +9,8 @@ use Rattle.std.proofs.lemmas.List.{length-append}
 use Rattle.std.proofs.lemmas.List.FromFn.{map-range_with_len_more, get_or-map-range_with_len, length-map-range_with_len}
 use Rattle.std.specs.Int.{div_ceil}
 use Rattle.std.specs.List.{range_with_len}
-use Rattle.pl_seek.specs.Index.{AreRising, ArePlaces}
+use Rattle.pl_seek.specs.Index.{ArePlaces}
 use Rattle.pl_seek.specs.Places.{group_places}
-use Rattle.pl_seek.specs.Grouping.{HasSeen}
-use Rattle.pl_seek.specs.declared.places.Groups.{Groups}
 
 -- ---- numbers
 
@@ -50,7 +48,7 @@ same_map f h a (suc n) same =
     ap (λ y. y ∷ map f (range_with_len (a + 1) n)) (same a (omega arith) (omega arith))
     ∙ ap (λ ys. h a ∷ ys) (same_map f h (a + 1) n (λ k from below. same k (omega arith) (omega arith)))
 
-abbrev firsts : ℕ → List ℕ → ℕ → ℕ
+abbrev pub firsts : ℕ → List ℕ → ℕ → ℕ
 firsts every places group = get_or places (group * every) 0
 
 module _ (every groups wait place : ℕ) (seen : List ℕ) (some : 0 < every) (all : groups * every ≡ length seen + wait) (few : wait < every) where
@@ -125,3 +123,11 @@ are_places every from places some rise =
     index_is [] k inside = absurd (omega arith)
     index_is (x ∷ xs) zero inside = refl
     index_is (x ∷ xs) (suc k) inside = index_is xs k (omega arith)
+
+-- ---- places behind the last one
+
+pub ceil-rises : (a b e : ℕ) → 0 < e → a ≤ b → div_ceil a e ≤ div_ceil b e
+ceil-rises a b e some less = elim (cases_lt (div_ceil b e) (div_ceil a e)) [
+  | inl down ↦ absurd (let up = times_less (div_ceil b e) (div_ceil a e) e down in omega (arith, up, (div_ceil_times a e some).1, (div_ceil_times b e some).0, less))
+  | inr right ↦ right
+]

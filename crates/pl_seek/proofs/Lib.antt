@@ -5,4 +5,5 @@ pub mod GroupLaws
 pub mod Numbers
 pub mod PartLaws
 pub mod PlaceLaws
+pub mod RangeLaws
 pub mod Whole

@@ -1,9 +1,8 @@
 -- Records of a part, read alone.
-use Rattle.std.proofs.Common.{◌≡◌, ℕ, suc, ◌+◌, ◌-◌, ◌<◌, ◌≤◌, ◌==◌, ◌⊎◌, Bool, true, false, not, List, [], ◌∷◌, length, take, drop, Option, Some, None, refl, sym, ◌∙◌, ap, subst, arith, inl, inr, length-drop}
+use Rattle.std.proofs.Common.{◌≡◌, ℕ, suc, ◌+◌, ◌-◌, ◌<◌, ◌==◌, ◌⊎◌, Bool, true, false, not, List, [], ◌∷◌, length, take, drop, Option, Some, None, refl, sym, ◌∙◌, ap, subst, arith, inl, inr, length-drop}
 use Rattle.std.specs.Prelude.{Result, Ok, Err, IfOk}
-use Rattle.std.specs.List.{prefix_len}
 use Rattle.std.specs.Option.{option_map}
-use Rattle.std.proofs.lemmas.List.{length-take, length-take-le, drop_all, drop_more}
+use Rattle.std.proofs.lemmas.List.{length-take, length-take-le, drop_all}
 use Rattle.std.proofs.lemmas.List.Folds.{length-prefix_len}
 use Rattle.pl_frame.specs.Dialect.{Marks, AreDistinct, IsDialect}
 use Rattle.pl_frame.specs.Frame.{IsFrame}
@@ -24,7 +23,6 @@ use Rattle.pl_read.specs.Options.{rules_of}
 use Rattle.pl_read.specs.Projection.{projected}
 use Rattle.pl_read.specs.Rows.{columns_read}
 use Rattle.pl_read.specs.SettleGiven.{given_schema, given_causes}
-use Rattle.pl_read.specs.Steps.{IsPlanOf}
 use Rattle.pl_infer.specs.Schemas.{first_unreadable_column}
 use Rattle.pl_read.proofs.SelectionLaws.{each-none}
 use Rattle.pl_read.proofs.ChunkLaws.{IsFrame-range}
@@ -32,16 +30,14 @@ use Rattle.pl_read.proofs.NextLaws.{faulty-behind, faulty-inside}
 use Rattle.pl_read.proofs.ProjectionLaws.{projected-rises}
 use Rattle.pl_rows.specs.declared.columns.RangeColumns.{RangeColumns}
 use Rattle.pl_rows.specs.declared.plan.RangePlan.{RangePlan}
-use Rattle.pl_rows.specs.declared.range.RangeEnd.{RangeEnd}
 use Rattle.pl_rows.specs.declared.range.RangeEnd.TheVariants as end
 use Rattle.pl_rows.specs.Columns.{entries_in, columns_in, frame_of_rows}
-use Rattle.pl_rows.specs.Plan.{rules_of as plan_rules}
-use Rattle.pl_rows.specs.Ranges.{IsRangeRead, limited, rows_of, judged_rows, end_of, sound_rows, has_unjudged, is_judged}
+use Rattle.pl_rows.specs.Ranges.{IsRangeRead, limited, judged_rows, end_of, sound_rows, has_unjudged}
 use Rattle.pl_rows.specs.Rows.{first_faulty}
 use Rattle.pl_rows.proofs.RangeLaws.{rows-nil, rows-step, rows-comment, few_rows}
 use Rattle.pl_rows.proofs.WholeLaws.{judged-last, sound-all, none-first, fault-first}
 use Rattle.pl_table.specs.Rows.{Row, rows, row_at}
-use Rattle.pl_seek.specs.Parts.{rows_from, columns_of_rows, fault_in_rows, IsReadFault}
+use Rattle.pl_seek.specs.Parts.{rows_from, columns_of_rows, fault_in_rows}
 use Rattle.pl_seek.specs.PartSteps.{one_unless, IsPartPlan, AreRead}
 use Rattle.pl_seek.proofs.PlaceLaws.{item_by}
 

@@ -4,15 +4,16 @@ use Rattle.std.specs.Prelude.{take_while}
 use Rattle.std.specs.List.{filter_map, cons_option, prefix_len, range_with_len}
 use Rattle.std.proofs.Math.Nat.{suc-mul}
 use Rattle.std.proofs.lemmas.Bool.Decides.{nat_tests}
-use Rattle.std.proofs.lemmas.List.{length-take, length-take-le, get_or-drop, get_or-take, append_assoc, append-nil, length-append}
-use Rattle.std.proofs.lemmas.List.Sums.{prefix_len-le-length}
+use Rattle.std.proofs.lemmas.List.{length-take, get_or-drop, append_assoc, append-nil, length-append}
+use Rattle.std.proofs.lemmas.List.Sums.{prefix_len-le-length, position_or_len_is}
 use Rattle.std.proofs.lemmas.List.Folds.{length-prefix_len}
+use Rattle.memchr.specs.Find.{is_byte2}
 use Rattle.pl_frame.specs.Dialect.{Marks, AreDistinct}
 use Rattle.pl_scan.specs.Comment.{is_comment}
 use Rattle.pl_scan.specs.Fields.{is_quote, is_plain, is_stop, begins_quoted, behind, cut_plain, cut_field, field, extent}
-use Rattle.pl_scan.specs.Items.{ItemText, CommentText, RecordText, text_of, item, items_behind}
+use Rattle.pl_scan.specs.Items.{ItemText, CommentText, RecordText, text_of, item}
 use Rattle.pl_scan.proofs.FieldLaws.{behind-some, behind-shorter, cut_field-plain, is_stop-cut_field, is_quote-stop}
-use Rattle.pl_scan.proofs.ItemLaws.{extent_last, extent_more, IsRecordAt-extent, items_behind-nil, items_behind-step}
+use Rattle.pl_scan.proofs.ItemLaws.{extent_last, extent_more, items_behind-nil, items_behind-step}
 use Rattle.pl_scan.specs.Comment as scan
 use Rattle.pl_seek.specs.Places.{place_of, record_places, group_places}
 use Rattle.pl_seek.specs.Grouping.{HasSeen, HasCome, unless_comment}
@@ -187,10 +188,27 @@ extent_within m (suc n) b short distinct lacks = by_rest (behind m.separator (cu
 pub extent-line : (m : Marks) (b : List ℕ) → AreDistinct m → Lacks m b → extent m b ≡ prefix_len (λ x. not (x == m.line_end)) b
 extent-line m b distinct lacks = extent_within m (length b + 1) b (omega arith) distinct lacks
 
-pub lacks-line : (m : Marks) (b : List ℕ) (n : ℕ) → n ≤ length b → n ≡ prefix_len (λ x. not (x == m.line_end)) b → ((k : ℕ) → k < length (take n b) → is_quote m.quote (get_or (take n b) k 0) ≡ false) → Lacks m b
-lacks-line m b n fits is lacks k inside =
-    let less : k < n = omega (arith, is, inside) in
-    ap (is_quote m.quote) (sym (get_or-take n b k 0 less)) ∙ lacks k (omega (arith, length-take-le n b fits, less))
+or-left : (s t : Bool) → (s || t) ≡ false → s ≡ false
+or-left true t e = e
+or-left false t e = refl
+
+or-right : (s t : Bool) → (s || t) ≡ false → t ≡ false
+or-right true t e = absurd (cc)
+or-right false t e = e
+
+-- a line up to a line end or the end, in which neither a line end nor a quote stands
+module _ (e q : ℕ) (b : List ℕ) (n : ℕ) (fits : n ≤ length b) (before : (k : ℕ) → k < n → is_byte2 e q (get_or b k 0) ≡ false) where
+  pub line-at : (n < length b → (get_or b n 0 == e) ≡ true) → n ≡ prefix_len (λ x. not (x == e)) b
+  line-at at = sym (position_or_len_is (λ (x : ℕ). x == e) b n 0 fits (λ k less. or-left (get_or b k 0 == e) (get_or b k 0 == q) (before k less)) at)
+
+  pub lacks-at : (k : ℕ) → k < n → (get_or b k 0 == q) ≡ false
+  lacks-at k less = or-right (get_or b k 0 == e) (get_or b k 0 == q) (before k less)
+
+pub lacks-none : (m : Marks) (b : List ℕ) → m.quote ≡ None → Lacks m b
+lacks-none m b none k inside = ap (λ o. is_quote o (get_or b k 0)) none
+
+pub lacks-some : (m : Marks) (b : List ℕ) (q n : ℕ) → m.quote ≡ Some q → n ≡ prefix_len (λ x. not (x == m.line_end)) b → ((k : ℕ) → k < n → (get_or b k 0 == q) ≡ false) → Lacks m b
+lacks-some m b q n is len lacks k inside = ap (λ o. is_quote o (get_or b k 0)) is ∙ lacks k (omega (arith, len, inside))
 
 -- ---- the steps of the loop
 

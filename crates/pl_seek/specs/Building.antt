@@ -1,11 +1,10 @@
 -- The index of an input, and what stands against one (docs/index.md).
-use Rattle.std.specs.Prelude.{◌≡◌, ◌≢◌, ℕ, ◌<◌, Bool, false, true, ◌||◌, ◌==◌, not, min, if◌then◌else◌, List, [], ◌∷◌, ◌++◌, length, get_or, find, Option, None, Some, unwrap_or, is_none, is_some}
-use Rattle.std.specs.List.{range_with_len}
+use Rattle.std.specs.Prelude.{◌≡◌, ◌≢◌, ℕ, Bool, false, true, ◌||◌, ◌==◌, List, [], ◌++◌, length, Option, None, Some, unwrap_or, is_none, is_some}
 use Rattle.sha2.specs.Sha256.{sha256}
 use Rattle.pl_frame.specs.declared.error.PolarsError.{PolarsError}
 use Rattle.pl_frame.specs.declared.error.PolarsError.TheVariants as error
 use Rattle.pl_options.specs.declared.read_options.CsvReadOptions.{CsvReadOptions}
-use Rattle.pl_options.specs.FirstCause.{first_some, IsFirstCause}
+use Rattle.pl_options.specs.FirstCause.{IsFirstCause}
 use Rattle.pl_options.specs.Text.{marks_of, comment_of}
 use Rattle.pl_read.specs.Options.{keeps_ends, data_of}
 use Rattle.pl_read.specs.Refusals.{early_causes, causes_before_rows}

@@ -8,4 +8,5 @@ pub mod PartSteps
 pub mod Parts
 pub mod Places
 pub mod Reading
+pub mod Slices
 pub mod Viewing

@@ -1,7 +1,8 @@
 //! An index bound to its input.
-ghost use Rattle.std.specs.Prelude.{◌≡◌, IfOk, OnOk, IfErr};
+ghost use Rattle.std.specs.Prelude.{◌≡◌, IfOk, OnOk, IfErr, get_or, length};
 ghost use Rattle.pl_seek.specs.Binding.{IsBindFault};
 ghost use Rattle.pl_seek.specs.Building.{index_in, MayIndex};
+ghost use Rattle.pl_seek.specs.Slices.{range_in};
 
 use crate::build::build_index;
 use crate::fault::SeekFault;
@@ -62,5 +63,36 @@ pub fn bind<'a>(
     match read.try_clone() {
         Ok(read) => Ok(Bound { input, read, index }),
         Err(_) => Err(SeekFault::OutOfMemory),
+    }
+}
+
+// The place of a group, or the end where there is no such group.
+fn place_or(places: &[usize], group: usize, end: usize) -> usize
+    ensures { result ≡ get_or places.now group end }
+{
+    match places.get(group) {
+        Some(place) => *place,
+        None => end,
+    }
+}
+
+impl<'a> Bound<'a> {
+    /// The bytes that a slice of at most `count` records from number `start` on is read from, where they begin and where they end: from
+    /// where the group of its first record begins up to where the first group behind its end does, or the end of the input. Where there
+    /// is no record in it, both are the end.
+    pub fn range(&self, start: usize, count: usize) -> (usize, usize)
+        ensures { result ≡ range_in (index_in self.now.read self.now.every self.now.input) (length self.now.input) start count }
+    {
+        let size = self.input.len();
+        let every = self.index.every();
+        let places = self.index.places();
+        if start >= self.index.records() || count == 0 {
+            return (size, size);
+        }
+        let begin = place_or(places, start / every, size);
+        match start.checked_add(count) {
+            Some(end) => (begin, place_or(places, end.div_ceil(every), size)),
+            None => (begin, size),
+        }
     }
 }

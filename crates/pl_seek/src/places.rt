@@ -1,15 +1,15 @@
 //! Where the records of an input begin.
-ghost use Rattle.std.specs.Prelude.{◌≡◌, ℕ, ◌<◌, ◌≤◌, ◌+◌, ◌++◌, ◌∷◌, ◌^◌, ◌==◌, [], List, not, true, false, length, drop, get_or, OnOk, IfOk};
+ghost use Rattle.std.specs.Prelude.{◌≡◌, ℕ, ◌<◌, ◌≤◌, ◌+◌, ◌++◌, ◌∷◌, ◌^◌, ◌==◌, [], List, not, false, length, drop, get_or, IfSome, OnOk, IfOk};
 ghost use Rattle.std.specs.List.{prefix_len};
 ghost use Rattle.pl_frame.specs.Dialect.{marks, AreDistinct};
 ghost use Rattle.pl_scan.specs.Comment.{is_comment};
 ghost use Rattle.pl_scan.specs.Dialect.{marks_of, comment_of};
-ghost use Rattle.pl_scan.specs.Fields.{is_quote, extent};
+ghost use Rattle.pl_scan.specs.Fields.{extent};
 ghost use Rattle.pl_scan.specs.Items.{item, text_of};
 ghost use Rattle.pl_seek.specs.Grouping.{HasSeen, unless_comment};
 ghost use Rattle.pl_seek.specs.Places.{group_places, record_places};
 
-use memchr::memchr;
+use memchr::{memchr, memchr2};
 use pl_scan::comment::is_comment_line;
 use pl_scan::dialect::Dialect;
 use pl_scan::items::record_len;
@@ -81,34 +81,43 @@ fn line_len(bytes: &[u8], eol_char: u8) -> usize
     }
 }
 
-// Whether none of the bytes is the quote.
+// The length of the line at the front, without its line end, where no quote stands in it.
 #[inline]
-fn lacks_quote(bytes: &[u8], quote_char: Option<u8>) -> bool
-    ensures { result ≡ true → (k : ℕ) → k < length bytes.now → is_quote quote_char (get_or bytes.now k 0) ≡ false }
+fn plain_line_len(bytes: &[u8], eol_char: u8, quote: u8) -> Option<usize>
+    ensures fits { IfSome result (λ len. len ≤ length bytes.now) }
+    ensures value { IfSome result (λ len. len ≡ prefix_len (λ x. not (x == eol_char)) bytes.now) }
+    ensures lacks { IfSome result (λ len. (k : ℕ) → k < len → (get_or bytes.now k 0 == quote) ≡ false) }
 {
-    match quote_char {
-        Some(quote) => memchr(quote, bytes).is_none(),
-        None => true,
+    match memchr2(eol_char, quote, bytes) {
+        Some(at) => {
+            if bytes[at] == eol_char {
+                Some(at)
+            } else {
+                None
+            }
+        }
+        None => Some(bytes.len()),
     }
 }
 
-// The length of the record at the front: that of its line, where no quote is there.
+// The length of the record at the front: that of its line, where no quote stands in it.
 #[inline]
 fn record_len_by_line(rest: &[u8], dialect: &Dialect<'_>) -> usize
     requires { AreDistinct (marks_of dialect.now) }
     ensures fits { result ≤ length rest.now }
     ensures value { result ≡ extent (marks_of dialect.now) rest.now }
 {
-    let len = line_len(rest, dialect.eol_char);
-    if lacks_quote(&rest[..len], dialect.quote_char) {
-        len
-    } else {
-        record_len(
+    let Some(quote) = dialect.quote_char else {
+        return line_len(rest, dialect.eol_char);
+    };
+    match plain_line_len(rest, dialect.eol_char, quote) {
+        Some(len) => len,
+        None => record_len(
             rest,
             dialect.separator,
             dialect.quote_char,
             dialect.eol_char,
-        )
+        ),
     }
 }
 

@@ -115,3 +115,16 @@ fn wrong_options_are_refused_and_causes_against_the_input(rt: HostRuntime) {
     );
     drop(read);
 }
+
+#[test]
+fn a_slice_needs_the_groups_that_it_touches(rt: HostRuntime) {
+    let read = options(&rt, rt.alloc());
+    let index = index(&rt, rt.alloc());
+    let bound = bind(rt.alloc(), INPUT, &read, index).expect(&rt, "a bound input");
+    assert!(rt; bound.range(0, 1) == (2, 6));
+    assert!(rt; bound.range(2, 1) == (6, 8));
+    assert!(rt; bound.range(1, usize::MAX) == (2, 8));
+    assert!(rt; bound.range(9, 1) == (8, 8));
+    drop(bound);
+    drop(read);
+}

@@ -5,3 +5,5 @@
 mod bind;
 #[cfg(test)]
 mod index;
+#[cfg(test)]
+mod part;

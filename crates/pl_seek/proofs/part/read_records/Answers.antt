@@ -1,6 +1,5 @@
-use Rattle.std.proofs.Common.{sym, ◌∙◌, ap, subst, length}
+use Rattle.std.proofs.Common.{sym, ◌∙◌, ap}
 use Rattle.pl_infer.specs.Schemas.{first_unreadable_column}
-use Rattle.pl_rows.specs.Plan.{AreRising}
 use Rattle.pl_read.specs.Projection.{projected}
 use Rattle.pl_read.specs.SettleGiven.{given_schema}
 use Rattle.pl_read.proofs.ProjectionLaws.{projected-rises, projected-below}

@@ -1,4 +1,4 @@
-use Rattle.std.proofs.Common.{rules, arith, refl, sym, ap, ◌∙◌, length, drop}
+use Rattle.std.proofs.Common.{rules, refl, ap, ◌∙◌, length, drop}
 use Rattle.std.proofs.lemmas.List.{nil_from_length}
 use Rattle.pl_scan.specs.Dialect.{marks_of, comment_of}
 use Rattle.pl_seek.specs.Places.{group_places, record_places}

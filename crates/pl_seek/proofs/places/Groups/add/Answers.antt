@@ -1,4 +1,4 @@
-use Rattle.std.proofs.Common.{rules, arith, refl, sym}
+use Rattle.std.proofs.Common.{rules, arith, refl}
 use Rattle.pl_seek.proofs.PlaceLaws.{seen-first, seen-other}
 use Rattle.pl_seek.proofs.places.Groups.add.Goals as goal
 use Rattle.pl_seek.proofs.places.Groups.add.Goals.{then-self-eq0+in_ok-push, else-self-eq0}

@@ -5,6 +5,7 @@ BEGIN {
     print "# Completions of pl_csv for fish, made by manual/make of docs/command-line.md."
     print ""
     print "complete -c pl_csv -f"
+    print "complete -c pl_csv -n __fish_is_first_token -a help -d " quoted("what the words mean, or the word behind it")
 }
 
 # A text between single quotes of fish.

@@ -1,6 +1,7 @@
 # Completions of pl_csv for fish, made by manual/make of docs/command-line.md.
 
 complete -c pl_csv -f
+complete -c pl_csv -n __fish_is_first_token -a help -d 'what the words mean, or the word behind it'
 complete -c pl_csv -l schema -x -d 'the columns, with their types'
 complete -c pl_csv -l overwrite -x -d 'names and types in place of inferred ones, by name or else by place'
 complete -c pl_csv -l infer -x -a 'all' -d 'from how many items types are inferred, or from all'

@@ -1,6 +1,11 @@
-//! The program `pl_csv`: `run`, or `run_multi` where the first word is `multi`, over the words and the standard streams of the process.
+//! The program `pl_csv`: `run`, or `run_multi` where the first word is `multi`, over the words and the standard streams of the process; where
+//! it is `help`, what the words mean.
 #![tactic(auto)]
 
+mod help;
+mod help_words;
+
+use crate::help::help;
 use pl_csv::adapters::{FsOpener, ReadSource, WriteSink};
 use pl_csv::arguments::words;
 use pl_csv::run::run;
@@ -20,11 +25,19 @@ fn refuse(err: &mut impl Write, fault: &io::Error) -> u8 {
     status
 }
 
-// The words behind `multi`, where this is the first.
-fn behind_multi(words: &[String]) -> Option<&[String]> {
+// What the words ask for, with the words that say the rest.
+enum Call<'a> {
+    Help(&'a [String]),
+    Multi(&'a [String]),
+    Run(&'a [String]),
+}
+
+// What the words ask for, by the first of them.
+fn call_of(words: &[String]) -> Call<'_> {
     match words {
-        [first, others @ ..] if first.as_str() == "multi" => Some(others),
-        _ => None,
+        [first, others @ ..] if first.as_str() == "help" => Call::Help(others),
+        [first, others @ ..] if first.as_str() == "multi" => Call::Multi(others),
+        _ => Call::Run(words),
     }
 }
 
@@ -32,8 +45,9 @@ fn main(rt: HostRuntime) -> ExitCode {
     let mut out = WriteSink::new(rt.stdout());
     let mut err = WriteSink::new(rt.stderr());
     let status = match words(&rt) {
-        Ok(words) => match behind_multi(&words) {
-            Some(others) => run_multi(
+        Ok(words) => match call_of(&words) {
+            Call::Help(others) => help(others, &mut rt.stdout(), &mut rt.stderr()),
+            Call::Multi(others) => run_multi(
                 &rt,
                 rt.alloc(),
                 others,
@@ -41,10 +55,10 @@ fn main(rt: HostRuntime) -> ExitCode {
                 &mut out,
                 &mut err,
             ),
-            None => run(
+            Call::Run(words) => run(
                 &rt,
                 rt.alloc(),
-                &words,
+                words,
                 &mut ReadSource::new(rt.stdin()),
                 &mut out,
                 &mut err,

@@ -1,0 +1,2 @@
+mod NewLaws
+mod OptionLaws

@@ -1,0 +1,4 @@
+pub mod Options
+pub mod Settled
+pub mod Stream
+pub mod Kept

@@ -1,0 +1,125 @@
+-- A state of a stream, and the bytes that it stands for (docs/stream.md, "What is kept").
+use Rattle.std.specs.Prelude.{◌≡◌, ℕ, zero, suc, ◌+◌, ◌^◌, ◌<◌, ◌≤◌, Bool, false, not, ◌==◌, nat_lt, max, if◌then◌else◌, List, [], ◌++◌, map, take, length, Option, None, Some}
+use Rattle.std.specs.List.{prefix_len, fold, AllByRecursion}
+use Rattle.std.specs.Option.{option_and_then}
+use Rattle.pl_frame.specs.Compression.{is_compressed}
+use Rattle.pl_frame.specs.declared.error.PolarsError.{PolarsError}
+use Rattle.pl_options.specs.declared.read_options.CsvReadOptions.{CsvReadOptions}
+use Rattle.pl_options.specs.Text.{marks_of, comment_of}
+use Rattle.pl_read.specs.Options.{keeps_ends, data_of, rules_of}
+use Rattle.pl_read.specs.Refusals.{numbers_past}
+use Rattle.pl_read.specs.Rows.{columns_read}
+use Rattle.pl_read.specs.SettleGiven.{given_schema}
+use Rattle.pl_rows.specs.Rows.{first_fault}
+use Rattle.pl_scan.specs.Closing.{ends_open}
+use Rattle.pl_scan.specs.Items.{text_of, items_behind}
+use Rattle.pl_scan.specs.Laws.{IsEnded}
+use Rattle.pl_scan.specs.Start.{skip_line, skip_lines, cut_ends, cut_head, pass_items, pass_comments, pass_header}
+use Rattle.pl_table.specs.Rows.{Row, rows}
+use Rattle.pl_write.specs.declared.options.CsvWriterOptions.{CsvWriterOptions}
+use Rattle.pl_stream.specs.declared.place.Place.{Place}
+use Rattle.pl_stream.specs.declared.place.Place.TheVariants as place
+use Rattle.pl_stream.specs.Settled.{has_lines, settled_rows}
+
+-- a state: the options, the bytes that are kept, how far these are read, how many records were settled, the fault that a call answered, and
+-- whether the input ended
+pub record Stream : Type 0 where
+  pub read : CsvReadOptions
+  pub write : CsvWriterOptions
+  pub kept : List ℕ
+  pub place : Place
+  pub rows : ℕ
+  pub fault : Option PolarsError
+  pub is_finished : Bool
+
+-- one that no bytes came to
+abbrev pub new_stream : CsvReadOptions → CsvWriterOptions → Stream
+new_stream o write = record { read = o; write = write; kept = []; place = place.Start; rows = 0; fault = None; is_finished = false }
+
+-- ---- what is still to be done
+
+-- the data behind the comments, the header and the items that are skipped behind it
+abbrev pub behind_header : CsvReadOptions → List ℕ → Option (List ℕ)
+behind_header o b =
+    let m = marks_of o.parse_options in
+    let comment = comment_of o.parse_options in
+    pass_items m comment o.skip_rows_after_header (pass_header o.has_header m comment (pass_comments m comment b))
+
+-- the data behind so many items, and that
+abbrev pub behind_items : CsvReadOptions → ℕ → List ℕ → Option (List ℕ)
+behind_items o n b = option_and_then (behind_header o) (pass_items (marks_of o.parse_options) (comment_of o.parse_options) n b)
+
+-- the data behind leading line ends, unless these are kept, and that
+abbrev pub behind_ends : CsvReadOptions → List ℕ → Option (List ℕ)
+behind_ends o b = behind_items o o.skip_rows (if keeps_ends o then b else cut_ends o.parse_options.eol_char b)
+
+-- the data of what stands at a place, read on from there
+abbrev pub data_at : CsvReadOptions → Place → List ℕ → Option (List ℕ)
+data_at o place.Start b = data_of o b
+data_at o (place.Lines n) b = behind_ends o (skip_lines o.parse_options.eol_char n b)
+data_at o place.Ends b = behind_ends o b
+data_at o (place.Rows n) b = behind_items o n b
+data_at o place.Header b = behind_header o b
+data_at o (place.Behind n) b = pass_items (marks_of o.parse_options) (comment_of o.parse_options) n b
+data_at o place.Records b = Some b
+data_at o place.Full b = Some b
+
+-- ---- what came before
+
+-- what came before a place within the head: whatever follows, its data are those of what follows there
+abbrev pub IsInHead : CsvReadOptions → List ℕ → Place → Type 0
+IsInHead o before place = (more : List ℕ) → data_of o (before ++ more) ≡ data_at o place more
+
+-- what came before is the head and whole records, whatever follows
+pub record IsAtRecords (o : CsvReadOptions) (before : List ℕ) : Type 0 where
+  pub records : List ℕ
+  pub data_is : (more : List ℕ) → data_of o (before ++ more) ≡ Some (records ++ more)
+  pub ended : IsEnded o.parse_options.eol_char records
+  pub closed : ends_open (marks_of o.parse_options) (comment_of o.parse_options) records ≡ false
+
+-- what came before has all records that are asked for, whatever follows
+pub record IsPastLimit (o : CsvReadOptions) (before : List ℕ) : Type 0 where
+  pub limit : ℕ
+  pub limit_is : o.n_rows ≡ Some limit
+  pub first : List Row
+  pub count : length first ≡ limit
+  pub stay : (more : List ℕ) → (records : List ℕ) × (data_of o (before ++ more) ≡ Some records) × (take limit (rows (marks_of o.parse_options) (comment_of o.parse_options) records) ≡ first)
+
+-- what came before the bytes that are kept brought the read to a place
+abbrev pub IsBefore : CsvReadOptions → List ℕ → Place → Type 0
+IsBefore o before place.Records = IsAtRecords o before
+IsBefore o before place.Full = IsPastLimit o before
+IsBefore o before place = IsInHead o before place
+
+-- ---- how much is kept
+
+-- the longest of the lines that are skipped, its line end counted
+abbrev pub longest_line : ℕ → ℕ → List ℕ → ℕ
+longest_line e zero b = 0
+longest_line e (suc n) b = if has_lines e 1 b then max (prefix_len (λ x. not (x == e)) b + 1) (longest_line e n (skip_line e b)) else 0
+
+-- the longest of the items of a text, its line end counted where it has one
+abbrev pub longest_item : CsvReadOptions → List ℕ → ℕ
+longest_item o b =
+    fold max 0 (map (λ part. length (text_of part.0) + (if nat_lt 0 (length part.1) then 1 else 0)) (items_behind (marks_of o.parse_options) (comment_of o.parse_options) b))
+
+-- at most so many bytes are kept: four, and the longest skipped line or item behind the head
+abbrev pub most_kept : CsvReadOptions → List ℕ → ℕ
+most_kept o b =
+    let e = o.parse_options.eol_char in
+    4 + max (longest_line e o.skip_lines b) (longest_item o (cut_head o.skip_lines (keeps_ends o) e b))
+
+-- ---- the relation
+
+-- a state stands for the bytes that came: it keeps an end of them, what came before brought it to its place, and it counted the settled records,
+-- none of which has a fault or too great a number
+pub record StandsFor (stream : Stream) (b : List ℕ) : Type 0 where
+  pub small : length b < 2 ^ 64
+  pub before : List ℕ
+  pub is : b ≡ before ++ stream.kept
+  pub read : IsBefore stream.read before stream.place
+  pub few : length stream.kept ≤ most_kept stream.read b
+  pub plain : 4 ≤ length b → is_compressed b ≡ false
+  pub count : stream.rows ≡ length (settled_rows stream.read b)
+  pub sound : AllByRecursion (λ row. first_fault (rules_of stream.read (given_schema stream.read)) (columns_read stream.read (given_schema stream.read)) row ≡ None) (settled_rows stream.read b)
+  pub numbered : 0 < stream.rows → numbers_past stream.read.row_index stream.rows ≡ None

@@ -2,7 +2,6 @@
 ghost use Rattle.std.specs.Prelude.{◌≡◌, ◌≤◌, ℕ, List, [], length, IfOk, OnOk, IfErr};
 ghost use Rattle.pl_stream.specs.Options.{IsAccepted, IsRefused};
 ghost use Rattle.pl_stream.specs.Stream.{new_stream, StandsFor, most_kept};
-ghost use Rattle.pl_stream.specs.Kept.{error_of};
 
 use crate::checking::settle_stream;
 use crate::fault::StreamFault;

@@ -1,5 +1,5 @@
 -- A state of a stream, and the bytes that it stands for (docs/stream.md, "What is kept").
-use Rattle.std.specs.Prelude.{◌≡◌, ℕ, zero, suc, ◌+◌, ◌^◌, ◌<◌, ◌≤◌, Bool, false, not, ◌==◌, nat_lt, max, if◌then◌else◌, List, [], ◌++◌, map, take, length, Option, None, Some}
+use Rattle.std.specs.Prelude.{◌≡◌, ℕ, zero, suc, ◌+◌, ◌^◌, ◌<◌, ◌≤◌, Bool, true, false, not, ◌==◌, nat_lt, max, if◌then◌else◌, List, [], ◌++◌, map, take, length, Option, None, Some}
 use Rattle.std.specs.List.{prefix_len, fold, AllByRecursion}
 use Rattle.std.specs.Option.{option_and_then}
 use Rattle.pl_frame.specs.Compression.{is_compressed}
@@ -19,7 +19,7 @@ use Rattle.pl_table.specs.Rows.{Row, rows}
 use Rattle.pl_write.specs.declared.options.CsvWriterOptions.{CsvWriterOptions}
 use Rattle.pl_stream.specs.declared.place.Place.{Place}
 use Rattle.pl_stream.specs.declared.place.Place.TheVariants as place
-use Rattle.pl_stream.specs.Settled.{has_lines, settled_rows}
+use Rattle.pl_stream.specs.Settled.{has_lines, tells_head, settled_rows}
 
 -- a state: the options, the bytes that are kept, how far these are read, how many records were settled, the fault that a call answered, and
 -- whether the input ended
@@ -70,26 +70,32 @@ data_at o place.Full b = Some b
 abbrev pub IsInHead : CsvReadOptions → List ℕ → Place → Type 0
 IsInHead o before place = (more : List ℕ) → data_of o (before ++ more) ≡ data_at o place more
 
--- what came before is the head and whole records, whatever follows
-pub record IsAtRecords (o : CsvReadOptions) (before : List ℕ) : Type 0 where
+-- what came before is the head and so many whole records, whatever follows
+pub record IsAtRecords (o : CsvReadOptions) (before : List ℕ) (count : ℕ) : Type 0 where
   pub records : List ℕ
   pub data_is : (more : List ℕ) → data_of o (before ++ more) ≡ Some (records ++ more)
   pub ended : IsEnded o.parse_options.eol_char records
   pub closed : ends_open (marks_of o.parse_options) (comment_of o.parse_options) records ≡ false
+  pub count_is : count ≡ length (rows (marks_of o.parse_options) (comment_of o.parse_options) records)
 
--- what came before has all records that are asked for, whatever follows
-pub record IsPastLimit (o : CsvReadOptions) (before : List ℕ) : Type 0 where
-  pub limit : ℕ
-  pub limit_is : o.n_rows ≡ Some limit
+-- what came before has all records that are asked for, so many, whatever follows
+pub record IsPastLimit (o : CsvReadOptions) (before : List ℕ) (count : ℕ) : Type 0 where
+  pub limit_is : o.n_rows ≡ Some count
   pub first : List Row
-  pub count : length first ≡ limit
-  pub stay : (more : List ℕ) → (records : List ℕ) × (data_of o (before ++ more) ≡ Some records) × (take limit (rows (marks_of o.parse_options) (comment_of o.parse_options) records) ≡ first)
+  pub count_is : length first ≡ count
+  pub stay : (more : List ℕ) → (records : List ℕ) × (data_of o (before ++ more) ≡ Some records) × (take count (rows (marks_of o.parse_options) (comment_of o.parse_options) records) ≡ first)
 
--- what came before the bytes that are kept brought the read to a place
-abbrev pub IsBefore : CsvReadOptions → List ℕ → Place → Type 0
-IsBefore o before place.Records = IsAtRecords o before
-IsBefore o before place.Full = IsPastLimit o before
-IsBefore o before place = IsInHead o before place
+-- what came before the bytes that are kept brought the read to a place, and had so many records
+abbrev pub IsBefore : CsvReadOptions → List ℕ → Place → ℕ → Type 0
+IsBefore o before place.Records count = IsAtRecords o before count
+IsBefore o before place.Full count = IsPastLimit o before count
+IsBefore o before place count = IsInHead o before place × (count ≡ 0)
+
+-- enough came for a place: four bytes, and behind the lines that are skipped, all of these
+abbrev pub HasCome : CsvReadOptions → Place → List ℕ → Type 0
+HasCome o place.Start b = Unit {0}
+HasCome o (place.Lines n) b = 4 ≤ length b
+HasCome o place b = tells_head o b ≡ true
 
 -- ---- how much is kept
 
@@ -111,13 +117,14 @@ most_kept o b =
 
 -- ---- the relation
 
--- a state stands for the bytes that came: it keeps an end of them, what came before brought it to its place, and it counted the settled records,
--- none of which has a fault or too great a number
+-- a state stands for the bytes that came: it keeps an end of them, what came before brought it to its place and has all settled records, which it
+-- counted; none of these has a fault or too great a number
 pub record StandsFor (stream : Stream) (b : List ℕ) : Type 0 where
   pub small : length b < 2 ^ 64
   pub before : List ℕ
   pub is : b ≡ before ++ stream.kept
-  pub read : IsBefore stream.read before stream.place
+  pub come : HasCome stream.read stream.place b
+  pub read : IsBefore stream.read before stream.place stream.rows
   pub few : length stream.kept ≤ most_kept stream.read b
   pub plain : 4 ≤ length b → is_compressed b ≡ false
   pub count : stream.rows ≡ length (settled_rows stream.read b)

@@ -64,6 +64,7 @@ impl StreamState {
     /// are no dialect, an option with a value that it may not have, a quote to write with that is not ASCII, and what stands against the
     /// schema, the names, the null values and the places; the least column that is read and has categories (`Category`); that no column is
     /// read (`NoColumn`). Refuses also want of memory.
+    #[tactic(auto, using(crate::proofs::NewLaws::new_stands))]
     pub fn new(
         alloc: Global,
         read: &CsvReadOptions,

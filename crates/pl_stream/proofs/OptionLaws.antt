@@ -20,24 +20,24 @@ module _ (o : CsvReadOptions) (write : CsvWriterOptions) where
   others = settled_causes o (given_schema o)
 
   -- one of the early causes
-  pub early-refused : (refusal : PolarsError) → IsFirstCause (early_causes o) o.parse_options (Some refusal) → IsOptionFault o write refusal
-  early-refused refusal first = inl (record {
+  pub early_refused : (refusal : PolarsError) → IsFirstCause (early_causes o) o.parse_options (Some refusal) → IsOptionFault o write refusal
+  early_refused refusal first = inl (record {
     is_dialect = first.is_dialect;
     tells = first.tells;
     is = sym (first_some-early (early_causes o first.is_dialect) (quote_cause write ∷ others) refusal (sym first.is));
   })
 
   -- the quote
-  pub quote-refused : (refusal : PolarsError) → MayRead o → quote_cause write ≡ Some refusal → IsOptionFault o write refusal
-  quote-refused refusal may some = inl (record {
+  pub quote_refused : (refusal : PolarsError) → MayRead o → quote_cause write ≡ Some refusal → IsOptionFault o write refusal
+  quote_refused refusal may some = inl (record {
     is_dialect = may.is_dialect;
     tells = may.tells;
     is = sym (first_some-late (early_causes o may.is_dialect) (quote_cause write ∷ others) (sym may.is) ∙ first_some-here (quote_cause write) others refusal some);
   })
 
   -- the first of all causes but that of the quote, where there is none of the quote
-  pub first-quoted : (first : Option PolarsError) → MayRead o → quote_cause write ≡ None → IsFirstCause (given_causes o) o.parse_options first → IsFirstCause (option_causes o write) o.parse_options first
-  first-quoted first may none given = record {
+  pub first_quoted : (first : Option PolarsError) → MayRead o → quote_cause write ≡ None → IsFirstCause (given_causes o) o.parse_options first → IsFirstCause (option_causes o write) o.parse_options first
+  first_quoted first may none given = record {
     is_dialect = given.is_dialect;
     tells = given.tells;
     is = given.is ∙ first_some-late early others sound ∙ sym (first_some-late early (quote_cause write ∷ others) sound ∙ first_some-behind (quote_cause write) others none);
@@ -50,6 +50,6 @@ module _ (o : CsvReadOptions) (write : CsvWriterOptions) where
       sound = sym (first-same (early_causes o) o.parse_options None (first_some early) may (record { is_dialect = given.is_dialect; tells = given.tells; is = refl }))
 
   -- so is its fault
-  pub given-refused : (refusal : PolarsError) → MayRead o → quote_cause write ≡ None → IsGivenFault o refusal → IsOptionFault o write refusal
-  given-refused refusal may none (inl first) = inl (first-quoted (Some refusal) may none first)
-  given-refused refusal may none (inr wanting) = inr wanting
+  pub given_refused : (refusal : PolarsError) → MayRead o → quote_cause write ≡ None → IsGivenFault o refusal → IsOptionFault o write refusal
+  given_refused refusal may none (inl first) = inl (first_quoted (Some refusal) may none first)
+  given_refused refusal may none (inr wanting) = inr wanting

@@ -50,6 +50,7 @@ fn find_categories(schema: &Schema, places: &[usize]) -> Option<usize>
 }
 
 // What a stream goes by, where a schema is given and the options may stand. Refuses the first cause behind, and want of memory.
+#[tactic(auto, using(crate::proofs::OptionLaws::quote_refused, crate::proofs::OptionLaws::first_quoted, crate::proofs::OptionLaws::given_refused))]
 fn settle_quoted(
     alloc: Global,
     read: &CsvReadOptions,
@@ -68,6 +69,7 @@ fn settle_quoted(
 }
 
 // What a stream goes by, where a schema is given. Refuses the first cause against the options, and want of memory.
+#[tactic(auto, using(crate::proofs::OptionLaws::early_refused))]
 fn settle_options(
     alloc: Global,
     read: &CsvReadOptions,

@@ -1,9 +1,7 @@
 -- The first cause against the options of a stream.
-use Rattle.std.proofs.Common.{◌≡◌, ℕ, Bool, true, false, List, ◌∷◌, ◌++◌, refl, sym, ◌∙◌, inl, inr}
-use Rattle.std.specs.Prelude.{Option, None, Some, nat_lt, not}
-use Rattle.pl_frame.specs.declared.error.ComputeFault.TheVariants as compute_fault
+use Rattle.std.proofs.Common.{◌≡◌, List, ◌∷◌, refl, sym, ◌∙◌, inl, inr}
+use Rattle.std.specs.Prelude.{Option, None, Some}
 use Rattle.pl_frame.specs.declared.error.PolarsError.{PolarsError}
-use Rattle.pl_frame.specs.declared.error.PolarsError.TheVariants as error
 use Rattle.pl_options.specs.declared.read_options.CsvReadOptions.{CsvReadOptions}
 use Rattle.pl_options.specs.FirstCause.{first_some, IsFirstCause}
 use Rattle.pl_read.specs.Refusals.{early_causes}

@@ -1,4 +1,5 @@
-//! Records as the bytes come: a state that is fed a text piece by piece, and keeps no more of it than the record that is not whole yet.
+//! Records as the bytes come: the state of a reader that keeps no more of an input than the record that is not whole yet. It can be made and asked;
+//! no call feeds it yet.
 #![tactic(auto)]
 
 mod checking;

@@ -1,5 +1,6 @@
 pub mod BindLaws
 pub mod BuildLaws
+pub mod CutLaws
 pub mod Fields
 pub mod GroupLaws
 pub mod Numbers

@@ -95,7 +95,7 @@ module _ (m : Marks) (b : List ℕ) (n : ℕ) (inside : extent m b < n) (fits : 
   extent-cut : extent m (take n b) ≡ extent m b
   extent-cut = ap (λ (fs : List (List ℕ)). sum_by (λ (f : List ℕ). length f) fs + (length fs - 1)) fields-cut
 
-  row-cut : row_at m (take n b) ≡ row_at m b
+  pub row-cut : row_at m (take n b) ≡ row_at m b
   row-cut =
       let long : (length (drop (extent m (take n b)) (take n b)) == 0) ≡ false = filled (length (drop (extent m (take n b)) (take n b))) (omega (arith, length-drop (extent m (take n b)) (take n b), length-take-le n b fits, extent-cut, inside)) in
       let all : (length (drop (extent m b) b) == 0) ≡ false = filled (length (drop (extent m b) b)) (omega (arith, length-drop (extent m b) b, inside, fits)) in
@@ -168,11 +168,14 @@ module _ (m : Marks) (comment : Option (List ℕ)) (b : List ℕ) where
       by true = omega (arith, length-prefix_len (λ x. not (x == m.line_end)) b)
       by false = omega (arith, length-take-le (extent m b) b (IsRecordAt-extent m b).fits, record-line (IsRecordAt-extent m b).ended)
 
+  pub record-text : is_comment comment b ≡ false → extent m b ≡ length (text_of (item m comment b))
+  record-text plain = sym (ap (λ t. text_by t b) plain ∙ length-take-le (extent m b) b (IsRecordAt-extent m b).fits)
+
   module _ (n : ℕ) (free : IsCommentPrefix m.line_end comment) (inside : length (text_of (item m comment b)) < n) (fits : n ≤ length b) where
-    is-cut : is_comment comment (take n b) ≡ is_comment comment b
+    pub is-cut : is_comment comment (take n b) ≡ is_comment comment b
     is-cut = comment-cut m.line_end comment b n free (omega (arith, line-within, inside))
 
-    text-cut : length (text_of (item m comment (take n b))) ≡ length (text_of (item m comment b))
+    pub text-cut : length (text_of (item m comment (take n b))) ≡ length (text_of (item m comment b))
     text-cut = ap (λ t. text_by t (take n b)) is-cut ∙ by (is_comment comment b) inside
       where
         by : (t : Bool) → text_by t b < n → text_by t (take n b) ≡ text_by t b

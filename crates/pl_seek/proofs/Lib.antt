@@ -7,4 +7,7 @@ pub mod Numbers
 pub mod PartLaws
 pub mod PlaceLaws
 pub mod RangeLaws
+pub mod RecordAtLaws
+pub mod SliceLaws
+pub mod SliceRowLaws
 pub mod Whole

@@ -1,14 +1,15 @@
 -- Records of a part, read alone.
-use Rattle.std.proofs.Common.{◌≡◌, ℕ, suc, ◌+◌, ◌-◌, ◌<◌, ◌==◌, ◌⊎◌, Bool, true, false, not, List, [], ◌∷◌, length, take, drop, Option, Some, None, refl, sym, ◌∙◌, ap, subst, arith, inl, inr, length-drop}
-use Rattle.std.specs.Prelude.{Result, Ok, Err, IfOk}
-use Rattle.std.specs.Option.{option_map}
+use Rattle.std.proofs.Common.{◌≡◌, ℕ, suc, ◌+◌, ◌-◌, ◌<◌, ◌==◌, ◌⊎◌, Bool, true, false, not, List, [], ◌∷◌, ◌++◌, length, take, drop, Option, Some, None, refl, sym, ◌∙◌, ap, subst, arith, inl, inr, length-drop}
+use Rattle.std.specs.Prelude.{Result, Ok, Err, IfOk, if◌then◌else◌}
+use Rattle.std.specs.Option.{option_map, option_and_then}
 use Rattle.std.proofs.lemmas.List.{length-take, length-take-le, drop_all}
 use Rattle.std.proofs.lemmas.List.Folds.{length-prefix_len}
 use Rattle.pl_frame.specs.Dialect.{Marks, AreDistinct, IsDialect}
-use Rattle.pl_frame.specs.Frame.{IsFrame}
+use Rattle.pl_frame.specs.Frame.{IsFrame, height_of}
 use Rattle.pl_frame.specs.Schema.{Entry, HaveDistinctNames}
 use Rattle.pl_frame.specs.declared.error.FaultKind.{FaultKind}
 use Rattle.pl_frame.specs.declared.error.ComputeFault.TheVariants as compute_fault
+use Rattle.pl_frame.specs.declared.error.NamePlace.TheVariants as name_place
 use Rattle.pl_frame.specs.declared.error.PolarsError.{PolarsError}
 use Rattle.pl_frame.specs.declared.error.PolarsError.TheVariants as error
 use Rattle.pl_scan.specs.Comment.{is_comment}
@@ -19,13 +20,18 @@ use Rattle.pl_scan.proofs.ItemLaws.{IsRecordAt-extent}
 use Rattle.pl_options.specs.declared.read_options.CsvReadOptions.{CsvReadOptions}
 use Rattle.pl_options.specs.FirstCause.{first_some, Tells, IsFirstCause}
 use Rattle.pl_options.specs.Text.{marks_of, comment_of}
+use Rattle.pl_options.specs.declared.row_index.RowIndex.{RowIndex}
+use Rattle.pl_read.specs.Batches.{index_behind}
 use Rattle.pl_read.specs.Options.{rules_of}
-use Rattle.pl_read.specs.Projection.{projected}
-use Rattle.pl_read.specs.Rows.{columns_read}
-use Rattle.pl_read.specs.SettleGiven.{given_schema, given_causes}
+use Rattle.pl_read.specs.Projection.{projected, doubled_name, taken_name, has_projected}
+use Rattle.pl_read.specs.Rows.{columns_read, with_index}
+use Rattle.pl_read.specs.SettleGiven.{given_schema, settled_causes, given_causes}
+use Rattle.pl_read.specs.Refusals.{early_causes}
 use Rattle.pl_infer.specs.Schemas.{first_unreadable_column}
 use Rattle.pl_read.proofs.SelectionLaws.{each-none}
+use Rattle.pl_read.proofs.CauseLaws.{first_some-one, first_some-rest}
 use Rattle.pl_read.proofs.ChunkLaws.{IsFrame-range}
+use Rattle.pl_read.proofs.DataLaws.{IsFrame-indexed}
 use Rattle.pl_read.proofs.NextLaws.{faulty-behind, faulty-inside}
 use Rattle.pl_read.proofs.ProjectionLaws.{projected-rises}
 use Rattle.pl_rows.specs.declared.columns.RangeColumns.{RangeColumns}
@@ -38,7 +44,7 @@ use Rattle.pl_rows.proofs.RangeLaws.{rows-nil, rows-step, rows-comment, few_rows
 use Rattle.pl_rows.proofs.WholeLaws.{judged-last, sound-all, none-first, fault-first}
 use Rattle.pl_table.specs.Rows.{Row, rows, row_at}
 use Rattle.pl_seek.specs.Parts.{rows_from, columns_of_rows, fault_in_rows}
-use Rattle.pl_seek.specs.PartSteps.{one_unless, IsPartPlan, AreRead}
+use Rattle.pl_seek.specs.PartSteps.{one_unless, IsPartPlan, AreRead, AreColumns}
 use Rattle.pl_seek.proofs.PlaceLaws.{item_by}
 
 -- ---- behind so many records
@@ -89,22 +95,31 @@ passed-all m comment b all left (inr none) so_far =
 -- ---- what was read
 
 pub are-read : (plan : RangePlan) (o : CsvReadOptions) (skip count : ℕ) (part rest : List ℕ) (schema : List Entry) (read : RangeColumns) → IsPartPlan plan o count → schema ≡ given_schema o → HaveDistinctNames (given_schema o)
-    → IsRangeRead plan schema rest read
+    → taken_name o (given_schema o) ≡ None → IsRangeRead plan schema rest read
     → rows (scan.marks_of plan.dialect) (scan.comment_of plan.dialect) rest ≡ drop skip (rows (scan.marks_of plan.dialect) (scan.comment_of plan.dialect) part)
     → AreRead o (rows_from o skip count part) read
-are-read plan o skip count part rest schema read p schema_is distinct is behind =
+are-read plan o skip count part rest schema read p schema_is distinct free is behind =
+    let taken : take count (rows (scan.marks_of plan.dialect) (scan.comment_of plan.dialect) rest) ≡ rows_from o skip count part =
+    ap (take count) behind ∙ (λ i. take count (drop skip (rows (p.marks_are i) (p.comment_is i) part))) in
     let given : judged_rows plan rest ≡ rows_from o skip count part =
-    judged-last plan rest p.is_last
-    ∙ (λ i. limited (p.limit_is i) (rows (scan.marks_of plan.dialect) (scan.comment_of plan.dialect) rest))
-    ∙ ap (take count) behind
-    ∙ (λ i. take count (drop skip (rows (p.marks_are i) (p.comment_is i) part))) in
+    judged-last plan rest p.is_last ∙ (λ i. limited (p.limit_is i) (rows (scan.marks_of plan.dialect) (scan.comment_of plan.dialect) rest)) ∙ taken in
     let places : plan.projection.places.now ≡ projected o (given_schema o) = p.places_are in
     record {
       columns = is.columns ∙ (λ i. frame_of_rows (p.rules_are i) (entries_in (schema_is i) (places i)) (sound_rows (p.rules_are i) (columns_in (schema_is i) (places i)) (given i)));
       unjudged = has_unjudged plan rest;
       end_is = is.end_is ∙ (λ i. end_of (first_faulty (p.rules_are i) (columns_in (schema_is i) (places i)) 0 (given i)) (has_unjudged plan rest));
+      text = rest;
+      count = count;
+      given_is = sym taken ∙ (λ i. take count (rows (p.marks_are i) (p.comment_is i) rest));
       distinct = distinct;
+      free = free;
     }
+
+-- the row index has the name of no column, from whatever number it begins
+free-behind : (o : CsvReadOptions) (before : ℕ) (index : Option RowIndex) → option_and_then (λ (j : RowIndex). if has_projected o (given_schema o) j.name then Some j.name else None) index ≡ None
+    → option_and_then (λ (j : RowIndex). if has_projected o (given_schema o) j.name then Some j.name else None) (index_behind before index) ≡ None
+free-behind o before None free = refl
+free-behind o before (Some index) free = free
 
 module _ (o : CsvReadOptions) (given : List Row) (read : RangeColumns) (are : AreRead o given read) where
   abbrev first : Option (ℕ × (ℕ × FaultKind))
@@ -117,14 +132,23 @@ module _ (o : CsvReadOptions) (given : List Row) (read : RangeColumns) (are : Ar
     none : first ≡ None
     none = none-first first are.unjudged read.end are.end_is either
 
-    pub columns-all : read.columns.items ≡ columns_of_rows o given
+    columns-all : read.columns.items ≡ columns_of_rows o given
     columns-all = are.columns ∙ ap (columns_of_rows o) (sound-all (rules_of o (given_schema o)) (columns_read o (given_schema o)) 0 given none)
 
     pub none-faulty : (skip : ℕ) → fault_in_rows o skip given ≡ None
     none-faulty skip = ap (option_map fault) (faulty-behind (rules_of o (given_schema o)) (columns_read o (given_schema o)) skip given None none)
 
-    pub are-frame : IsFrame read.columns.items
+    are-numbered : (before : ℕ) → IsFrame (with_index (index_behind before o.row_index) (height_of read.columns.items) read.columns.items)
+    are-numbered before =
+        let later : CsvReadOptions = record o { row_index = index_behind before o.row_index; n_rows = Some are.count } in
+        subst (λ columns. IsFrame (with_index (index_behind before o.row_index) (height_of columns) columns)) (sym (columns-all ∙ ap (columns_of_rows o) are.given_is))
+        (IsFrame-indexed later (given_schema o) are.text are.distinct (free-behind o before o.row_index are.free))
+
+    are-frame : IsFrame read.columns.items
     are-frame = subst IsFrame (sym columns-all) (IsFrame-range (rules_of o (given_schema o)) given (given_schema o) (projected o (given_schema o)) are.distinct (projected-rises o (given_schema o)))
+
+    pub are-columns : AreColumns o given read.columns.items
+    are-columns = record { columns_are = columns-all; are_frame = are-frame; are_numbered = are-numbered }
 
   module _ (row column : ℕ) (kind : FaultKind) (is : read.end ≡ end.Fault row column kind) where
     some : first ≡ Some (row, (column, kind))
@@ -156,12 +180,22 @@ readable-given o sound =
     let each = each-none (given_causes o sound.is_dialect) (sym sound.is) in
     unmapped (λ column. error.ComputeError (compute_fault.Dtype column)) (first_unreadable_column (given_schema o)) each.1.1.1.0
 
-pub dialect-given : (o : CsvReadOptions) → IsFirstCause (given_causes o) o.parse_options None → IsDialect (marks_of o.parse_options) (comment_of o.parse_options)
-dialect-given o sound = by sound.is_dialect sound.tells sound.is
+pub free-given : (o : CsvReadOptions) → IsFirstCause (given_causes o) o.parse_options None → taken_name o (given_schema o) ≡ None
+free-given o sound =
+    let each = each-none (given_causes o sound.is_dialect) (sym sound.is) in
+    let taken = taken_name o (given_schema o) in
+    let none = unmapped (λ name. error.Duplicate name name_place.Projection) (first_some (doubled_name o (given_schema o) ∷ taken ∷ [])) each.1.1.1.1.1.1.0 in
+    sym (first_some-one taken) ∙ first_some-rest (doubled_name o (given_schema o)) (taken ∷ []) none
+
+pub dialect-early : (o : CsvReadOptions) (late : List (Option PolarsError)) → IsFirstCause (λ is_dialect. early_causes o is_dialect ++ late) o.parse_options None → IsDialect (marks_of o.parse_options) (comment_of o.parse_options)
+dialect-early o late sound = by sound.is_dialect sound.tells sound.is
   where
-    by : (t : Bool) → Tells t (IsDialect (marks_of o.parse_options) (comment_of o.parse_options)) → None ≡ first_some (given_causes o t) → IsDialect (marks_of o.parse_options) (comment_of o.parse_options)
+    by : (t : Bool) → Tells t (IsDialect (marks_of o.parse_options) (comment_of o.parse_options)) → None ≡ first_some (early_causes o t ++ late) → IsDialect (marks_of o.parse_options) (comment_of o.parse_options)
     by true tells is = tells
     by false tells is = absurd (cc)
+
+pub dialect-given : (o : CsvReadOptions) → IsFirstCause (given_causes o) o.parse_options None → IsDialect (marks_of o.parse_options) (comment_of o.parse_options)
+dialect-given o sound = dialect-early o (settled_causes o (given_schema o)) sound
 
 pub ok-map : {T E : Type 0} {P Q : T → Type 0} (r : Result T E) → ((x : T) → P x → Q x) → IfOk r P → IfOk r Q
 ok-map (Ok x) f p = f x p

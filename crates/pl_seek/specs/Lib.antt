@@ -8,5 +8,6 @@ pub mod PartSteps
 pub mod Parts
 pub mod Places
 pub mod Reading
+pub mod SliceSteps
 pub mod Slices
 pub mod Viewing

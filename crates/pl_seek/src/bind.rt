@@ -1,12 +1,16 @@
 //! An index bound to its input.
-ghost use Rattle.std.specs.Prelude.{◌≡◌, IfOk, OnOk, IfErr, get_or, length};
+ghost use Rattle.std.specs.Prelude.{◌≡◌, IfOk, OnOk, IfErr, None, get_or, length};
 ghost use Rattle.pl_seek.specs.Binding.{IsBindFault};
 ghost use Rattle.pl_seek.specs.Building.{index_in, MayIndex};
-ghost use Rattle.pl_seek.specs.Slices.{range_in};
+ghost use Rattle.pl_seek.specs.Parts.{IsReadFault};
+ghost use Rattle.pl_seek.specs.Slices.{range_in, slice_rows, slice_cause, slice_frame};
 
 use crate::build::build_index;
 use crate::fault::SeekFault;
 use crate::index::SeekIndex;
+use crate::numbering::numbered;
+use crate::part::part_columns;
+use pl_frame::frame::DataFrame;
 use pl_options::read_options::CsvReadOptions;
 use std::alloc::Global;
 use std::marker::Model;
@@ -93,6 +97,29 @@ impl<'a> Bound<'a> {
         match start.checked_add(count) {
             Some(end) => (begin, place_or(places, end.div_ceil(every), size)),
             None => (begin, size),
+        }
+    }
+    /// The records from number `start` on, at most `count`, as a frame of the columns that are read, behind their row index where one is
+    /// asked, which numbers them as the whole input does. They are read from the bytes of `range` alone, and no other record is judged.
+    ///
+    /// Refuses the first fault of the least of those records that has one, by its number in the input; then the last number of their row
+    /// index that does not fit 64 bits, or else the last code of the first column that does not fit 32 (`Polars`); and want of memory.
+    pub fn slice(
+        &self,
+        alloc: Global,
+        start: usize,
+        count: usize,
+    ) -> Result<DataFrame, SeekFault>
+        ensures frame { IfOk result (λ frame. frame ≡ slice_frame self.now.read start (slice_rows self.now.read self.now.input start count)) }
+        ensures sound { OnOk result (slice_cause self.now.read start (slice_rows self.now.read self.now.input start count) ≡ None) }
+        ensures refused { IfErr result (IsReadFault (slice_cause self.now.read start (slice_rows self.now.read self.now.input start count))) }
+    {
+        let skip = start % self.index.every();
+        let (begin, end) = self.range(start, count);
+        let part = &self.input[begin..end];
+        match part_columns(alloc, part, &self.read, skip, count, start) {
+            Ok(columns) => numbered(alloc, self.read.row_index.as_ref(), start, columns),
+            Err(fault) => Err(fault),
         }
     }
 }

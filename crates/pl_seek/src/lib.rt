@@ -7,6 +7,7 @@ mod checking;
 pub mod fault;
 pub mod index;
 pub mod laws;
+mod numbering;
 pub mod part;
 mod places;
 mod reading;

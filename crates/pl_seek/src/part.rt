@@ -10,11 +10,12 @@ ghost use Rattle.pl_options.specs.declared.read_options.CsvReadOptions.{CsvReadO
 ghost use Rattle.pl_options.specs.FirstCause.{IsFirstCause};
 ghost use Rattle.pl_read.specs.SettleGiven.{given_schema, given_causes, IsSettled};
 ghost use Rattle.pl_seek.specs.Parts.{CanReadPart, rows_from, columns_of_rows, fault_in_rows, IsReadFault};
-ghost use Rattle.pl_seek.specs.PartSteps.{one_unless, IsPartPlan, AreRead};
+ghost use Rattle.pl_seek.specs.PartSteps.{one_unless, IsPartPlan, AreRead, AreColumns};
 ghost use Rattle.pl_seek.specs.declared.fault.SeekFault.TheVariants as fault;
 
 use crate::fault::SeekFault;
 use crate::places::{behind_item, front_item};
+use pl_frame::column::Column;
 use pl_frame::error::{ComputeFault, PolarsError};
 use pl_frame::frame::DataFrame;
 use pl_options::read_options::CsvReadOptions;
@@ -92,22 +93,50 @@ fn read_records(
     read_columns(alloc, &settled.schema, rest, &plan)
 }
 
-// The frame of rows that were read, or the first fault of one of them, where so many records stand in front of them.
-fn frame_of(read: RangeColumns, skip: usize) -> Result<DataFrame, SeekFault>
-    requires read { (o : CsvReadOptions) × (given : List Row) × AreRead o given read × (skip + length given < 2 ^ 64) }
-    ensures frame { (o : CsvReadOptions) (given : List Row) → AreRead o given read → IfOk result (λ frame. frame ≡ columns_of_rows o given) }
-    ensures sound { (o : CsvReadOptions) (given : List Row) → AreRead o given read → OnOk result (fault_in_rows o skip given ≡ None) }
-    ensures refused { (o : CsvReadOptions) (given : List Row) → AreRead o given read → IfErr result (IsReadFault (fault_in_rows o skip given)) }
+// The columns of rows that were read, or the first fault of one of them, where so many records stand in front of them.
+fn columns_of(read: RangeColumns, before: usize) -> Result<Vec<Column>, SeekFault>
+    requires read { (o : CsvReadOptions) × (given : List Row) × AreRead o given read × (before + length given < 2 ^ 64) }
+    ensures columns { (o : CsvReadOptions) (given : List Row) → AreRead o given read → IfOk result (λ columns. AreColumns o given columns.items) }
+    ensures sound { (o : CsvReadOptions) (given : List Row) → AreRead o given read → OnOk result (fault_in_rows o before given ≡ None) }
+    ensures refused { (o : CsvReadOptions) (given : List Row) → AreRead o given read → IfErr result (IsReadFault (fault_in_rows o before given)) }
 {
     let RangeColumns { columns, end } = read;
     match end {
         RangeEnd::Fault { row, column, kind } => {
             drop(columns);
-            let row = skip + row;
+            let row = before + row;
             let record = ComputeFault::Record { row, column, kind };
             Err(SeekFault::Polars(PolarsError::ComputeError(record)))
         }
-        RangeEnd::Closed | RangeEnd::Open => Ok(DataFrame::of_distinct(columns)),
+        RangeEnd::Closed | RangeEnd::Open => Ok(columns),
+    }
+}
+
+/// The columns of the records of a part from number `skip` on, at most so many, each cell from its field; `before` is the number of the
+/// first of them where a fault is told. Refuses the first fault of the least of them that has one, and want of memory.
+pub(crate) fn part_columns(
+    alloc: Global,
+    part: &[u8],
+    read: &CsvReadOptions,
+    skip: usize,
+    count: usize,
+    before: usize,
+) -> Result<Vec<Column>, SeekFault>
+    requires given { IsSome read.now.schema }
+    requires fits { before + length (rows_from read.now skip count part.now) < 2 ^ 64 }
+    ensures columns { IfOk result (λ columns. AreColumns read.now (rows_from read.now skip count part.now) columns.items) }
+    ensures sound { OnOk result (fault_in_rows read.now before (rows_from read.now skip count part.now) ≡ None) }
+    ensures refused { IfErr result (IsReadFault (fault_in_rows read.now before (rows_from read.now skip count part.now))) }
+{
+    let settled = match settle_given(alloc, read) {
+        Ok(settled) => settled,
+        Err(_) => return Err(SeekFault::OutOfMemory),
+    };
+    let found = read_records(alloc, part, read, &settled, skip, count);
+    drop(settled);
+    match found {
+        Ok(found) => columns_of(found, before),
+        Err(_) => Err(SeekFault::OutOfMemory),
     }
 }
 
@@ -130,14 +159,6 @@ pub fn read_part(
     ensures sound { OnOk result (fault_in_rows read.now skip (rows_from read.now skip length part.now) ≡ None) }
     ensures refused { IfErr result (IsReadFault (fault_in_rows read.now skip (rows_from read.now skip length part.now))) }
 {
-    let settled = match settle_given(alloc, read) {
-        Ok(settled) => settled,
-        Err(_) => return Err(SeekFault::OutOfMemory),
-    };
-    let found = read_records(alloc, part, read, &settled, skip, length);
-    drop(settled);
-    match found {
-        Ok(found) => frame_of(found, skip),
-        Err(_) => Err(SeekFault::OutOfMemory),
-    }
+    let columns = part_columns(alloc, part, read, skip, length, skip)?;
+    Ok(DataFrame::of_distinct(columns))
 }

@@ -4,7 +4,7 @@ use Rattle.pl_read.specs.Projection.{projected}
 use Rattle.pl_read.specs.SettleGiven.{given_schema}
 use Rattle.pl_read.proofs.ProjectionLaws.{projected-rises, projected-below}
 use Rattle.pl_read.proofs.DataLaws.{readable-places}
-use Rattle.pl_seek.proofs.PartLaws.{are-read, readable-given, ok-map}
+use Rattle.pl_seek.proofs.PartLaws.{are-read, readable-given, free-given, ok-map}
 use Rattle.pl_seek.proofs.part.read_records.Goals as goal
 
 pub read_columns-requires-clause-rising : goal.read_columns-requires-clause-rising
@@ -25,5 +25,5 @@ returns c =
     let o = c.args.read.now in
     ok-map c.read_columns.result
     (λ read is. are-read c.plan_of-plan.result o c.args.skip c.args.length c.args.part.now c.behind_records-rest.result.now c.args.settled.now.schema read c.plan_of-plan.ensures.plan c.requires.settled.schema_is
-    c.plan_of-plan.ensures.distinct is c.behind_records-rest.ensures)
+    c.plan_of-plan.ensures.distinct (free-given o c.requires.sound) is c.behind_records-rest.ensures)
     c.read_columns.ensures

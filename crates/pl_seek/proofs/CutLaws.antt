@@ -1,12 +1,12 @@
 -- A text that is cut where a record begins: what stands in front of that record, and behind.
-use Rattle.std.proofs.Common.{◌≡◌, ℕ, zero, suc, ◌+◌, ◌-◌, ◌<◌, ◌≤◌, ◌==◌, ◌&&◌, ◌++◌, ◌⊎◌, Bool, true, false, cond, not, List, [], ◌∷◌, length, take, drop, get_or, Option, None, Some, refl, sym, ap, ◌∙◌, arith, inl, inr, zero-add, one-add, nat_eq, length-drop}
-use Rattle.std.specs.Prelude.{sum_by, take_while}
+use Rattle.std.proofs.Common.{◌≡◌, ℕ, zero, suc, ◌+◌, ◌-◌, ◌<◌, ◌≤◌, ◌==◌, ◌&&◌, ◌++◌, ◌⊎◌, Bool, true, false, cond, not, List, [], ◌∷◌, length, take, drop, Option, None, Some, refl, sym, ap, ◌∙◌, arith, inl, inr, zero-add, one-add, nat_eq, length-drop}
+use Rattle.std.specs.Prelude.{sum_by}
 use Rattle.std.specs.List.{prefix_len, starts_with, list_all}
 use Rattle.std.proofs.lemmas.Bool.Decides.{nat_tests}
-use Rattle.std.proofs.lemmas.List.{length-append, length-take-le, drop-drop, drop-take}
+use Rattle.std.proofs.lemmas.List.{length-append, length-take-le}
 use Rattle.std.proofs.lemmas.List.Sums.{prefix_len-le-length}
 use Rattle.std.proofs.lemmas.List.Folds.{length-prefix_len}
-use Rattle.pl_frame.specs.Dialect.{Marks, AreDistinct, IsCommentPrefix}
+use Rattle.pl_frame.specs.Dialect.{Marks, IsCommentPrefix}
 use Rattle.pl_scan.specs.Comment.{is_comment}
 use Rattle.pl_scan.specs.Fields.{quotes, begins_quoted, cut_field, field, behind, fields, extent}
 use Rattle.pl_scan.specs.Items.{text_of, item}
@@ -14,11 +14,8 @@ use Rattle.pl_scan.proofs.Walk.{is_end}
 use Rattle.pl_scan.proofs.FieldLaws.{mode, IsWalk-cut_field, behind-some, behind-shorter, fields_last, fields_more, both_left, both_right}
 use Rattle.pl_scan.proofs.ItemLaws.{extent_last, extent_more, IsRecordAt-extent}
 use Rattle.pl_scan.proofs.RecordLaws.{cut_field-before}
-use Rattle.pl_rows.proofs.RangeLaws.{rows-nil}
-use Rattle.pl_table.specs.Rows.{rows, row_at}
-use Rattle.pl_seek.specs.Places.{record_places}
-use Rattle.pl_seek.proofs.PartLaws.{rows-behind_comment, rows-behind_record}
-use Rattle.pl_seek.proofs.PlaceLaws.{item_by, text-fits, places-none, places-comment, places-record}
+use Rattle.pl_table.specs.Rows.{row_at}
+use Rattle.pl_seek.proofs.PlaceLaws.{item_by}
 
 -- ---- a record that ends before the cut
 

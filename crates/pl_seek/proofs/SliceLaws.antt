@@ -1,32 +1,25 @@
 -- A slice of an input that has an index.
-use Rattle.std.proofs.Common.{◌≡◌, ℕ, suc, zero, ◌+◌, ◌-◌, ◌%◌, ◌<◌, ◌≤◌, ◌^◌, ◌⊎◌, ◌==◌, ◌&&◌, nat_lt, Bool, true, false, cond, List, [], ◌∷◌, length, map, take, drop, Option, Some, None, refl, sym, ap, ◌∙◌, subst, arith, inl, inr}
-use Rattle.std.specs.Prelude.{if◌then◌else◌, unwrap_or, IfSome, Result, Ok, Err, OnOk}
+use Rattle.std.proofs.Common.{◌≡◌, ℕ, suc, zero, ◌+◌, ◌-◌, ◌%◌, ◌<◌, ◌≤◌, ◌⊎◌, ◌==◌, ◌&&◌, nat_lt, true, List, [], ◌∷◌, length, take, drop, Option, Some, None, refl, sym, ap, ◌∙◌, subst, arith, inl, inr}
+use Rattle.std.specs.Prelude.{if◌then◌else◌, unwrap_or, Result, Ok, Err, OnOk}
 use Rattle.std.specs.Option.{option_and_then}
-use Rattle.std.proofs.lemmas.Bool.{lt-ltb, le-ltb}
-use Rattle.std.proofs.lemmas.Bool.Decides.{nat_tests}
+use Rattle.std.proofs.lemmas.Bool.{lt-ltb}
 use Rattle.std.proofs.lemmas.List.{drop_all, length-map}
 use Rattle.pl_frame.specs.Dialect.{IsDialect}
 use Rattle.pl_frame.specs.Frame.{ColumnValue, height_of}
-use Rattle.pl_frame.specs.Columns.{dictionary}
-use Rattle.pl_frame.specs.declared.data_type.DataType.{DataType}
-use Rattle.pl_frame.specs.declared.data_type.DataType.TheVariants as dtype
-use Rattle.pl_frame.specs.declared.error.ComputeFault.TheVariants as compute_fault
 use Rattle.pl_frame.specs.declared.error.PolarsError.{PolarsError}
 use Rattle.pl_frame.specs.declared.error.PolarsError.TheVariants as error
 use Rattle.pl_options.specs.declared.read_options.CsvReadOptions.{CsvReadOptions}
 use Rattle.pl_options.specs.declared.row_index.RowIndex.{RowIndex}
-use Rattle.pl_options.specs.FirstCause.{when, first_some}
+use Rattle.pl_options.specs.FirstCause.{when}
 use Rattle.pl_options.specs.Text.{marks_of, comment_of, skips_of}
 use Rattle.pl_scan.proofs.StartLaws.{IsEndOf-data_left, IsEndOf-place}
-use Rattle.pl_infer.specs.Schemas.{is_categorical}
 use Rattle.pl_rows.proofs.RangeLaws.{rows-nil}
-use Rattle.pl_cells.specs.InitBuffers.{entry_at}
-use Rattle.pl_rows.specs.Columns.{read_column, entries_in, frame_of_rows}
+use Rattle.pl_rows.specs.Columns.{entries_in, frame_of_rows}
 use Rattle.pl_table.specs.Rows.{Row, rows}
 use Rattle.pl_read.specs.Batches.{index_behind}
 use Rattle.pl_read.specs.Options.{keeps_ends, rules_of, data_of}
 use Rattle.pl_read.specs.Projection.{projected}
-use Rattle.pl_read.specs.Refusals.{numbers_past, codes_past, index_past, nothing_read, causes_before_rows}
+use Rattle.pl_read.specs.Refusals.{index_past, nothing_read, causes_before_rows}
 use Rattle.pl_read.specs.Rows.{with_index}
 use Rattle.pl_read.specs.SettleGiven.{given_schema}
 use Rattle.pl_read.proofs.CauseLaws.{first_some-one, first_some-behind, first_some-here}
@@ -40,7 +33,7 @@ use Rattle.pl_seek.specs.SliceSteps.{past_behind}
 use Rattle.pl_seek.specs.declared.fault.SeekFault.{SeekFault}
 use Rattle.pl_seek.specs.declared.fault.SeekFault.TheVariants as fault
 use Rattle.pl_seek.proofs.PartLaws.{dialect-early, rows-fit}
-use Rattle.pl_seek.proofs.SliceRowLaws.{Gives, gives}
+use Rattle.pl_seek.proofs.SliceRowLaws.{gives}
 
 -- ---- the data of an input
 
@@ -76,26 +69,26 @@ module _ (o : CsvReadOptions) (input : List ℕ) (may : MayIndex o input) where
 
   -- ---- its rows
 
-  module _ (every : ℕ) (some : 0 < every) (start count : ℕ) where
-    range-gives : Gives (marks_of o.parse_options) (comment_of o.parse_options) dialect.distinct dialect.prefix input (left o input) (left-placed o input).0 (left-placed o input).1 every some start count
-        (range_in (index_in o every input) (length input) start count)
-    range-gives =
-        gives (marks_of o.parse_options) (comment_of o.parse_options) dialect.distinct dialect.prefix input (left o input) (left-placed o input).0 (left-placed o input).1 every some start count (index_in o every input)
-        refl refl refl
-
-    -- what the range of a slice is
+  module _ (every : ℕ) (start count : ℕ) where
+    -- what the range of a slice is, from groups of so many records
     pub record IsRange (range : ℕ × ℕ) : Type 0 where
       pub rising : range.0 ≤ range.1
       pub fits : range.1 ≤ length input
       pub rows_are : rows_from o (start % every) count (take (range.1 - range.0) (drop range.0 input)) ≡ slice_rows o input start count
 
-    is-range : (range : ℕ × ℕ) → range ≡ range_in (index_in o every input) (length input) start count → IsRange range
-    is-range range is =
-        subst IsRange (sym is) (record { rising = range-gives.rising; fits = range-gives.fits; rows_are = range-gives.rows_are })
+    is-range : 0 < every → (range : ℕ × ℕ) → range ≡ range_in (index_in o every input) (length input) start count → IsRange range
+    is-range some range is =
+        let placed = left-placed o input in
+        let found =
+        gives (marks_of o.parse_options) (comment_of o.parse_options) dialect.distinct dialect.prefix input (left o input) placed.0 placed.1 every some start count (index_in o every input) refl refl refl in
+        subst IsRange (sym is) (record { rising = found.rising; fits = found.fits; rows_are = found.rows_are })
 
     -- that of a binding
-    pub range-at : (v : Binding) (range : ℕ × ℕ) → ◌≡◌ {A = Binding} (record { input = input; read = o; every = every }) v → range ≡ range_in (index_in v.read v.every v.input) (length v.input) start count → IsRange range
-    range-at v range view is = is-range range (is ∙ sym (ap (λ (w : Binding). range_in (index_in w.read w.every w.input) (length w.input) start count) view))
+    pub range-at : (size : ℕ) (v : Binding) (range : ℕ × ℕ) → (every ≡ size) × (0 < every) → ◌≡◌ {A = Binding} (record { input = input; read = o; every = size }) v
+        → range ≡ range_in (index_in v.read v.every v.input) (length v.input) start count → IsRange range
+    range-at size v range is view range_is =
+        is-range is.1 range
+        (range_is ∙ sym (ap (λ (w : Binding). range_in (index_in w.read w.every w.input) (length w.input) start count) view) ∙ ap (λ e. range_in (index_in o e input) (length input) start count) (sym is.0))
 
   module _ (start count : ℕ) where
     pub given-fits : (bound : ℕ) → start < bound → length input < bound → start + length (slice_rows o input start count) < bound
@@ -146,8 +139,8 @@ on-ok (Ok x) f p = f p
 on-ok (Err e) f p = tt
 
 -- columns of rows that are those of a slice
-module _ (o : CsvReadOptions) (start : ℕ) (given of_part : List Row) (same : of_part ≡ given) (columns : List ColumnValue) (are : AreColumns o of_part columns)
-    (height : height_of (columns_of_rows o given) ≡ length given) (index : Option RowIndex) (index_is : index ≡ o.row_index) where
+module _ (o : CsvReadOptions) (start : ℕ) {given of_part : List Row} (same : of_part ≡ given) {columns : List ColumnValue} (are : AreColumns o of_part columns) (height : height_of (columns_of_rows o given) ≡ length given)
+    {index : Option RowIndex} (index_is : index ≡ o.row_index) where
   columns-given : columns ≡ columns_of_rows o given
   columns-given = are.columns_are ∙ ap (columns_of_rows o) same
 

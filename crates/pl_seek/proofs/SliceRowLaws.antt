@@ -1,5 +1,5 @@
 -- The records of a slice are read from its range alone.
-use Rattle.std.proofs.Common.{◌≡◌, ℕ, suc, ◌+◌, ◌-◌, ◌*◌, ◌/◌, ◌%◌, ◌<◌, ◌≤◌, ◌==◌, ◌||◌, ◌⊎◌, nat_le, Bool, true, false, cond, List, [], length, take, drop, get_or, Option, refl, sym, ap, ◌∙◌, arith, inl, inr, subst, length-drop}
+use Rattle.std.proofs.Common.{◌≡◌, ℕ, ◌+◌, ◌-◌, ◌*◌, ◌/◌, ◌%◌, ◌<◌, ◌≤◌, ◌==◌, ◌||◌, ◌⊎◌, nat_le, Bool, true, false, cond, List, [], length, take, drop, get_or, Option, refl, sym, ap, ◌∙◌, arith, inl, inr, subst, length-drop}
 use Rattle.std.specs.Int.{div_ceil}
 use Rattle.std.proofs.Math.Nat.{mul-le-mul_right, div-add-mod'}
 use Rattle.std.proofs.lemmas.Bool.{cases_lt}

@@ -104,12 +104,7 @@ impl<'a> Bound<'a> {
     ///
     /// Refuses the first fault of the least of those records that has one, by its number in the input; then the last number of their row
     /// index that does not fit 64 bits, or else the last code of the first column that does not fit 32 (`Polars`); and want of memory.
-    pub fn slice(
-        &self,
-        alloc: Global,
-        start: usize,
-        count: usize,
-    ) -> Result<DataFrame, SeekFault>
+    pub fn slice(&self, alloc: Global, start: usize, count: usize) -> Result<DataFrame, SeekFault>
         ensures frame { IfOk result (λ frame. frame ≡ slice_frame self.now.read start (slice_rows self.now.read self.now.input start count)) }
         ensures sound { OnOk result (slice_cause self.now.read start (slice_rows self.now.read self.now.input start count) ≡ None) }
         ensures refused { IfErr result (IsReadFault (slice_cause self.now.read start (slice_rows self.now.read self.now.input start count))) }

@@ -20,7 +20,7 @@ use Rattle.pl_seek.specs.Places.{record_places, group_places}
 use Rattle.pl_seek.proofs.GroupLaws.{are_places}
 use Rattle.pl_seek.proofs.PlaceLaws.{places-rise}
 
-settled-given : (o : CsvReadOptions) (input : List ℕ) → is_wrong o ≡ false → settled_schema o input ≡ given_schema o
+pub settled-given : (o : CsvReadOptions) (input : List ℕ) → is_wrong o ≡ false → settled_schema o input ≡ given_schema o
 settled-given o input right = by o.schema refl
   where
     by : (schema : Option (List Entry)) → o.schema ≡ schema → settled_schema o input ≡ given_schema o

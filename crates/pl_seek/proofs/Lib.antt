@@ -11,3 +11,4 @@ pub mod RecordAtLaws
 pub mod SliceLaws
 pub mod SliceRowLaws
 pub mod Whole
+pub mod WholeReadLaws

@@ -4,6 +4,7 @@ pub mod Checking
 pub mod Grouping
 pub mod Index
 pub mod Inside
+pub mod Laws
 pub mod PartSteps
 pub mod Parts
 pub mod Places

@@ -16,7 +16,7 @@ use std::process::Abort;
 const INPUT: &[u8; 8] = b"a\n1\n2\n3\n";
 
 // Options with a schema of one column of whole numbers.
-fn options(rt: &impl Abort, alloc: Global) -> CsvReadOptions {
+pub(crate) fn options(rt: &impl Abort, alloc: Global) -> CsvReadOptions {
     let mut schema = Schema::new(alloc);
     let title = PlSmallStr::from_str(alloc, "a").expect(rt, "a name");
     let added = schema.with_column(title, DataType::Int64);

@@ -4,6 +4,10 @@
 #[cfg(test)]
 mod bind;
 #[cfg(test)]
+mod frames;
+#[cfg(test)]
 mod index;
 #[cfg(test)]
 mod part;
+#[cfg(test)]
+mod slice;

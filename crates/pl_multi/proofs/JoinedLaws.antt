@@ -121,7 +121,7 @@ module _ (holds : List ℕ → Option (List ℕ)) (o : CsvReadOptions) (end : Op
 -- ---- one part, read later
 
 module _ (holds later_holds : List ℕ → Option (List ℕ)) (stays : (other : List ℕ) → later_holds other ≡ holds other) where
-  held-same : (given : PartBytes) → IsHeld later_holds given → IsHeld holds given
+  pub held-same : (given : PartBytes) → IsHeld later_holds given → IsHeld holds given
   held-same given held = subst (λ told. IfSome told (λ bytes. given.1 ≡ bytes)) (stays given.0.path) held
 
   module _ (o : CsvReadOptions) (end : Option ℕ) (parts : List Part) (place : ℕ) (columns : List ColumnValue) (are : AreJoined holds o end parts place columns)

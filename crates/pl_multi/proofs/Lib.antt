@@ -1,3 +1,4 @@
+mod GroupLaws
 mod HeldLaws
 mod HiveLaws
 mod JoinedLaws

@@ -5,4 +5,5 @@ pub mod Joining
 pub mod Words
 pub mod Telling
 pub mod Printing
+pub mod Groups
 pub mod Run

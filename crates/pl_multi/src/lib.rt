@@ -2,6 +2,7 @@
 #![tactic(auto)]
 
 mod checking;
+mod groups;
 pub mod hive;
 mod joining;
 mod multi_words;

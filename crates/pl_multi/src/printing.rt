@@ -1,31 +1,25 @@
 //! The rows of parts, printed as they are read: what `scan_multi` answers, without making the frame where that is not needed.
-ghost use Rattle.std.specs.Prelude.{◌≡◌, ◌≤◌, ℕ, false, List, None, map, length, IfOk, IfErr, OnOk, IsSome, IsErrOf, Option};
+ghost use Rattle.std.specs.Prelude.{◌≡◌, ◌≤◌, ◌<◌, ℕ, false, List, None, map, length, IfOk, IfErr, OnOk, IsErrOf, Option};
 ghost use Rattle.std.specs.Bool.{OnTrue};
 ghost use Rattle.std.specs.Cow.{cow_slice_items};
 ghost use Rattle.std.specs.Io.KnownBytes.{Appends};
 ghost use Rattle.pl_frame.specs.Causes.{Rose};
 ghost use Rattle.pl_frame.specs.Frame.{IsFrame, names_of};
-ghost use Rattle.pl_options.specs.FirstCause.{IsFault};
-ghost use Rattle.pl_read.specs.SettleGiven.{given_schema};
-ghost use Rattle.pl_read.specs.Steps.{MayRead, late_cause};
 ghost use Rattle.pl_write.specs.Options.{frame_options};
 ghost use Rattle.pl_write.specs.Printed.{printed_text};
 ghost use Rattle.pl_write.specs.Writing.{AppendsPrefix};
 ghost use Rattle.pl_csv.specs.Transcoding.{HasAsciiQuote};
-ghost use Rattle.pl_multi.specs.Joining.{IsPartFault, IsJoinFault, IsSound};
-ghost use Rattle.pl_multi.specs.Printing.{IsPlain, have_codes, HasNoHead, AreLinesOf, ArePartLines, ArePrinted, IsJoinedBy, joined_text};
+ghost use Rattle.pl_multi.specs.Joining.{IsJoinFault, IsSound};
+ghost use Rattle.pl_multi.specs.Printing.{IsPlain, have_codes, HasNoHead, ArePrinted, IsJoinedBy, joined_text};
 ghost use Rattle.pl_multi.specs.Scan.{IsScanFault, no_rows};
 ghost use Rattle.pl_multi.specs.Words.{asked};
 
-use crate::joining::part_fault;
+use crate::groups::{print_group, put_lines, read_group};
 use crate::multi_words::MultiJob;
 use crate::part::Part;
-use crate::paths::{Unread, read_path};
 use crate::scan::{MultiFault, check_scan, scan_multi};
-use pl_csv::convert::convert;
 use pl_frame::column::Column;
 use pl_frame::data_type::DataType;
-use pl_frame::error::{PolarsError, PolarsResult};
 use pl_frame::frame::DataFrame;
 use pl_frame::opener::Opener;
 use pl_frame::sink::{MemSink, Sink, SinkFault};
@@ -91,56 +85,11 @@ fn without_head(write: &CsvWriterOptions) -> Result<CsvWriterOptions, AllocError
     Ok(lines)
 }
 
-// The lines of the rows of a part with these bytes. Refuses the first cause against them, and want of memory.
-fn print_bytes<W: Threads + Wait + Sync>(
-    rt: &W,
-    alloc: Global,
-    bytes: &[u8],
-    read: &CsvReadOptions,
-    write: &CsvWriterOptions,
-) -> PolarsResult<MemSink>
-    requires given { IsSome read.now.schema }
-    requires allowed { MayRead read.now }
-    requires plain { read.now.row_index ≡ None }
-    requires head { HasNoHead write.now }
-    ensures lines { IfOk result (λ sink. AreLinesOf read.now write.now bytes.now sink.received) }
-    ensures refused { IfErr result (IsFault (late_cause read.now (given_schema read.now) bytes.now)) }
+// How many parts are read before they are printed, at most: by one worker each for itself.
+fn group_size(workers: usize) -> usize
+    ensures { 0 < result }
 {
-    let mut sink = MemSink::new(alloc);
-    match convert(rt, alloc, bytes, read, write, &mut sink) {
-        Ok(()) => Ok(sink),
-        Err(fault) => Err(fault),
-    }
-}
-
-// The lines of the rows of the part at a place.
-fn print_part<W: Threads + Wait + Sync, O: Opener>(
-    rt: &W,
-    alloc: Global,
-    opener: &mut O,
-    part: &Part,
-    place: usize,
-    read: &CsvReadOptions,
-    write: &CsvWriterOptions,
-) -> Result<MemSink, MultiFault>
-    requires given { IsSome read.now.schema }
-    requires allowed { MayRead read.now }
-    requires plain { read.now.row_index ≡ None }
-    requires head { HasNoHead write.now }
-    ensures lines { IfOk result (λ sink. ArePartLines (O.holds opener.old) read.now write.now part.now sink.received) }
-    ensures refused { IfErr result (IsPartFault (O.holds opener.old) (O.faults opener.old) (O.faults opener.new) read.now part.now place) }
-    ensures later { O.faults opener.old ≤ O.faults opener.new }
-    ensures stays { (other : List ℕ) → O.holds opener.new other ≡ O.holds opener.old other }
-{
-    let bytes = match read_path(alloc, opener, part.path.as_str()) {
-        Ok(bytes) => bytes,
-        Err(Unread::Failed) => return Err(MultiFault::Io { part: place }),
-        Err(Unread::OutOfMemory) => return Err(MultiFault::OutOfMemory),
-    };
-    match print_bytes(rt, alloc, &bytes, read, write) {
-        Ok(lines) => Ok(lines),
-        Err(fault) => Err(part_fault(place, fault)),
-    }
+    if workers > 1 { usize::MAX } else { 1 }
 }
 
 // The lines of the rows of all parts, part by part. Refuses as `join_parts` does.
@@ -161,18 +110,26 @@ fn print_each<W: Threads + Wait + Sync, O: Opener>(
     ensures later { O.faults opener.old ≤ O.faults opener.new }
     ensures stays { (other : List ℕ) → O.holds opener.new other ≡ O.holds opener.old other }
 {
+    let workers = worker_count(read.n_threads);
+    let most = group_size(workers);
     let mut lines = Vec::new(alloc);
     let mut place = 0;
     while place < parts.len() {
-        match print_part(rt, alloc, opener, &parts[place], place, read, write) {
-            Ok(sink) => {
-                if lines.push(sink).is_err() {
-                    return Err(MultiFault::OutOfMemory);
-                }
+        let mut group = Vec::new(alloc);
+        let all_read = read_group(alloc, opener, parts, place, most, &mut group);
+        print_group(rt, alloc, workers, &mut group, read, write);
+        let count = group.len();
+        match put_lines(&mut lines, group, place) {
+            Ok(()) => {}
+            Err(fault) => {
+                drop(all_read);
+                return Err(fault);
             }
+        }
+        match all_read {
+            Ok(()) => place += count,
             Err(fault) => return Err(fault),
         }
-        place += 1;
     }
     Ok(lines)
 }

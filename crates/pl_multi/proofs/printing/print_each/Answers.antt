@@ -1,7 +1,11 @@
-use Rattle.std.proofs.Common.{◌≡◌, [], ◌∷◌, ◌++◌, List, map, refl, ◌∙◌, ◌+◌, sym, subst, arith, rules}
+use Rattle.std.proofs.Common.{◌≡◌, [], ◌++◌, ◌+◌, ◌<◌, None, List, map, length, refl, ◌∙◌, sym, ap, subst, arith, rules}
+use Rattle.std.proofs.lemmas.List.{with_items_is, length-map}
 use Rattle.pl_frame.specs.Outside.{Writing}
+use Rattle.pl_multi.specs.Groups.{AreRead, IsUnread, IsFirstRefusal, sinks_of, first_refusal}
 use Rattle.pl_multi.specs.Printing.{ArePrinted}
-use Rattle.pl_multi.proofs.PrintingLaws.{printed-none, printed-more, printed-fault}
+use Rattle.pl_multi.specs.declared.groups.PartLines.{PartLines}
+use Rattle.pl_multi.proofs.GroupLaws.{bytes_of, printed_of, printed-from, group-printed, group-fault, unread-behind}
+use Rattle.pl_multi.proofs.PrintingLaws.{printed-none}
 use Rattle.pl_multi.proofs.printing.print_each.Goals as goal
 
 pub loop-place-init : goal.loop-place-init
@@ -21,27 +25,65 @@ loop-place-init g c =
 pub returns-in-Err-clause-refused : goal.returns-in-Err-clause-refused
 returns-in-Err-clause-refused g c =
     let l = c.loop-place.invariant in
-    printed-fault (g.O.Opener.holds c.args.opener.now) (g.O.Opener.holds c.loop-place.opener) l.stays c.args.read.now c.args.write.now c.args.parts.now c.requires.sound c.requires.plain
-    c.loop-place.place c.index-parts-place.result c.loop-place-test.true c.index-parts-place.is l.printed.columns l.printed.joined
-    (g.O.Opener.faults c.args.opener.now) (g.O.Opener.faults c.loop-place.opener) (g.O.Opener.faults c.print_part.new.opener) c.in-Err.fault l.later c.in-Err.ensures.refused
-
-pub loop-place-preserved : goal.loop-place-preserved
-loop-place-preserved g c =
-    let l = c.loop-place.invariant in
-    let mine = l.later in
-    let its = c.print_part.ensures.later in
     let holds = g.O.Opener.holds c.args.opener.now in
+    let later_holds = g.O.Opener.holds c.loop-place.opener in
     let read = c.args.read.now in
     let write = c.args.write.now in
     let parts = c.args.parts.now in
     let place = c.loop-place.place in
-    let old = c.loop-place.lines.items in
-    let more : c.push.new.self.items ≡ old ++ c.in-Ok.sink ∷ [] = search rules in
+    let new = c.print_group.new.group in
+    let sizes : length new ≡ length c.deref_mut.result.now = omega (arith, c.print_group.auto.group) in
+    let are = subst (λ (group : List PartLines). AreRead later_holds parts place (bytes_of group)) (sym c.deref_mut.ensures.value) c.read_group-all_read.ensures.read in
+    let came = printed-from later_holds read write parts place c.deref_mut.result.now new sizes c.print_group.ensures are in
+    let same = with_items_is c.read_group-all_read.new.group new (omega (arith, sizes, c.deref_mut.ensures.len)) in
+    group-fault holds later_holds l.stays read write parts c.requires.sound c.requires.plain place c.loop-place.lines.items (printed_of new) l.printed came
+    (g.O.Opener.faults c.args.opener.now) (g.O.Opener.faults c.loop-place.opener) (g.O.Opener.faults c.read_group-all_read.new.opener) c.in-Err.fault l.later
+    (subst (λ (group : List PartLines). IsFirstRefusal place (printed_of group) c.in-Err.fault) same c.in-Err.ensures.refused)
+
+pub loop-place-preserved : goal.loop-place-preserved
+loop-place-preserved g c =
+    let l = c.loop-place.invariant in
+    let holds = g.O.Opener.holds c.args.opener.now in
+    let later_holds = g.O.Opener.holds c.loop-place.opener in
+    let read = c.args.read.now in
+    let write = c.args.write.now in
+    let parts = c.args.parts.now in
+    let place = c.loop-place.place in
+    let lines = c.loop-place.lines.items in
+    let new = c.print_group.new.group in
+    let sizes : length new ≡ length c.deref_mut.result.now = omega (arith, c.print_group.auto.group) in
+    let are = subst (λ (group : List PartLines). AreRead later_holds parts place (bytes_of group)) (sym c.deref_mut.ensures.value) c.read_group-all_read.ensures.read in
+    let came = printed-from later_holds read write parts place c.deref_mut.result.now new sizes c.print_group.ensures are in
+    let same = with_items_is c.read_group-all_read.new.group new (omega (arith, sizes, c.deref_mut.ensures.len)) in
+    let count : length (printed_of new) ≡ c.len-count.result = omega (arith, length-map new (λ (one : PartLines). one.printed), sizes, c.deref_mut.ensures.len, c.len-count.ensures) in
+    let given : c.put_lines.new.lines.items ≡ lines ++ sinks_of (printed_of new) = c.in-Ok.ensures.lines ∙ ap (λ (group : List PartLines). lines ++ sinks_of (printed_of group)) same in
+    let more = group-printed holds later_holds l.stays read write parts c.requires.sound c.requires.plain place lines (printed_of new) l.printed came (subst (λ (group : List PartLines). first_refusal place (printed_of group) ≡ None) same c.in-Ok.ensures.sound) in
     record {
-      printed = subst (λ (sinks : List Writing). ArePrinted holds read write parts (place + 1) (map (λ (sink : Writing). sink.received) sinks)) (sym more)
-          (printed-more holds (g.O.Opener.holds c.loop-place.opener) l.stays read write parts c.requires.sound c.requires.plain
-          place c.index-parts-place.result c.loop-place-test.true c.index-parts-place.is old c.in-Ok.sink l.printed c.in-Ok.ensures.lines);
-      within = omega arith;
-      later = omega (arith, mine, its);
-      stays = λ other. c.print_part.ensures.stays other ∙ l.stays other;
+      printed = subst (λ (sinks : List Writing). ArePrinted holds read write parts (place + c.len-count.result) (map (λ (sink : Writing). sink.received) sinks)) (sym given)
+          (subst (λ n. ArePrinted holds read write parts (place + n) (map (λ (sink : Writing). sink.received) (lines ++ sinks_of (printed_of new)))) count more);
+      within = omega (arith, c.read_group-all_read.ensures.within, ap length c.deref_mut.ensures.value, c.deref_mut.ensures.len, c.len-count.ensures);
+      later = omega (arith, l.later, c.read_group-all_read.ensures.later);
+      stays = λ other. c.read_group-all_read.ensures.stays other ∙ l.stays other;
     }
+
+pub returns-in-Err-all_read-clause-refused : goal.returns-in-Err-all_read-clause-refused
+returns-in-Err-all_read-clause-refused g c =
+    let l = c.loop-place.invariant in
+    let holds = g.O.Opener.holds c.args.opener.now in
+    let later_holds = g.O.Opener.holds c.loop-place.opener in
+    let read = c.args.read.now in
+    let write = c.args.write.now in
+    let parts = c.args.parts.now in
+    let place = c.loop-place.place in
+    let lines = c.loop-place.lines.items in
+    let new = c.print_group.new.group in
+    let sizes : length new ≡ length c.deref_mut.result.now = omega (arith, c.print_group.auto.group) in
+    let are = subst (λ (group : List PartLines). AreRead later_holds parts place (bytes_of group)) (sym c.deref_mut.ensures.value) c.read_group-all_read.ensures.read in
+    let came = printed-from later_holds read write parts place c.deref_mut.result.now new sizes c.print_group.ensures are in
+    let same = with_items_is c.read_group-all_read.new.group new (omega (arith, sizes, c.deref_mut.ensures.len)) in
+    let more = group-printed holds later_holds l.stays read write parts c.requires.sound c.requires.plain place lines (printed_of new) l.printed came (subst (λ (group : List PartLines). first_refusal place (printed_of group) ≡ None) same c.in-Ok.ensures.sound) in
+    let count : length c.read_group-all_read.new.group.items ≡ length (printed_of new) = omega (arith, length-map new (λ (one : PartLines). one.printed), sizes, ap length c.deref_mut.ensures.value) in
+    let behind : place + length (printed_of new) < length parts = omega (arith, count, c.in-Err-all_read.ensures.behind) in
+    let unread = subst (λ n. IsUnread (g.O.Opener.faults c.loop-place.opener) (g.O.Opener.faults c.read_group-all_read.new.opener) (place + n) c.in-Err-all_read.fault) count c.in-Err-all_read.ensures.refused in
+    unread-behind holds later_holds l.stays read write parts c.requires.sound c.requires.plain (place + length (printed_of new)) (map (λ (sink : Writing). sink.received) (lines ++ sinks_of (printed_of new))) behind more
+    (g.O.Opener.faults c.args.opener.now) (g.O.Opener.faults c.loop-place.opener) (g.O.Opener.faults c.read_group-all_read.new.opener) c.in-Err-all_read.fault l.later unread

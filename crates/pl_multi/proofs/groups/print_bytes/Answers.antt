@@ -3,7 +3,7 @@ use Rattle.pl_frame.specs.Outside.{Writing}
 use Rattle.pl_csv.specs.Transcoding.{IsConverted}
 use Rattle.pl_csv.specs.Views.{sink_view}
 use Rattle.pl_multi.proofs.PrintedLaws.{lines-read, lines-refused, not-risen}
-use Rattle.pl_multi.proofs.printing.print_bytes.Goals as goal
+use Rattle.pl_multi.proofs.groups.print_bytes.Goals as goal
 
 pub returns-in-Ok-clause-lines : goal.returns-in-Ok-clause-lines
 returns-in-Ok-clause-lines g c =

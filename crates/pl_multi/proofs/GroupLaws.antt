@@ -9,7 +9,7 @@ use Rattle.pl_options.specs.declared.read_options.CsvReadOptions.{CsvReadOptions
 use Rattle.pl_read.specs.SettleGiven.{given_schema}
 use Rattle.pl_read.specs.Steps.{late_cause}
 use Rattle.pl_write.specs.declared.options.CsvWriterOptions.{CsvWriterOptions}
-use Rattle.pl_multi.specs.Groups.{IsPartAt, AreRead, IsUnread, IsPrintedOf, ArePrintedFrom, sinks_of, first_refusal, IsFirstRefusal}
+use Rattle.pl_multi.specs.Groups.{IsPartAt, AreRead, IsUnread, IsPrintedOf, ArePrintedFrom, sinks_of, first_refusal, IsFirstRefusal, for_one}
 use Rattle.pl_multi.specs.Joining.{IsSound, IsPartFault, IsJoinFault, part_fault}
 use Rattle.pl_multi.specs.Printing.{IsPlain, AreLinesOf, ArePrinted}
 use Rattle.pl_multi.specs.Scan.{IsHeld}
@@ -25,6 +25,11 @@ pub of-result : (read : CsvReadOptions) (write : CsvWriterOptions) (bytes : List
     → IfErr result (IsFault (late_cause read (given_schema read) bytes)) → IsPrintedOf read write bytes result
 of-result read write bytes (Ok sink) lines refused = lines
 of-result read write bytes (Err refusal) lines refused = refused
+
+-- bytes mean the same, however many workers read them
+pub one-printed : (read : CsvReadOptions) (write : CsvWriterOptions) (bytes : List ℕ) (result : Result Writing PolarsError) → IsPrintedOf (for_one read) write bytes result → IsPrintedOf read write bytes result
+one-printed read write bytes (Ok sink) is = record { sound = is.sound; are = is.are }
+one-printed read write bytes (Err refusal) is = is
 
 -- ---- what was read
 

@@ -37,6 +37,10 @@ IsUnread before now place _ = ⊥
 
 -- ---- what came of them
 
+-- the options for one worker alone
+abbrev pub for_one : CsvReadOptions → CsvReadOptions
+for_one read = record read { n_threads = Some 1 }
+
 -- the lines of the rows of bytes, or the first cause against these, or want of memory
 abbrev pub IsPrintedOf : CsvReadOptions → CsvWriterOptions → List ℕ → Result Writing PolarsError → Type 0
 IsPrintedOf read write bytes (Ok sink) = AreLinesOf read write bytes sink.received

@@ -4,7 +4,7 @@ ghost use Rattle.std.specs.Thread.{IsSync};
 ghost use Rattle.pl_options.specs.FirstCause.{IsFault};
 ghost use Rattle.pl_read.specs.SettleGiven.{given_schema};
 ghost use Rattle.pl_read.specs.Steps.{MayRead, late_cause};
-ghost use Rattle.pl_multi.specs.Groups.{AreRead, IsUnread, IsPrintedOf, sinks_of, first_refusal, IsFirstRefusal};
+ghost use Rattle.pl_multi.specs.Groups.{AreRead, IsUnread, IsPrintedOf, sinks_of, first_refusal, IsFirstRefusal, for_one};
 ghost use Rattle.pl_multi.specs.Printing.{HasNoHead, AreLinesOf};
 ghost use Rattle.pl_multi.specs.Scan.{IsHeld};
 ghost use Rattle.pl_multi.specs.declared.groups.PartLines.{PartLines};
@@ -20,7 +20,7 @@ use pl_frame::sink::MemSink;
 use pl_options::put::put;
 use pl_options::read_options::CsvReadOptions;
 use pl_write::options::CsvWriterOptions;
-use std::alloc::Global;
+use std::alloc::{AllocError, Global};
 use std::sync::Wait;
 use std::thread;
 use std::thread::Threads;
@@ -30,6 +30,10 @@ const PARTS: usize = 64;
 
 // So many bytes are a group: the part in which they are reached is its last.
 const BYTES: usize = 1 << 24;
+
+// A part of so many bytes is printed by as many workers as the options say, and one of fewer by one alone: others of its group are then
+// printed beside it.
+const LARGE: usize = 1 << 22;
 
 /// The bytes of a part, until its rows are printed, and then their lines. Before, want of memory stands for these.
 #[derive(Drop)]
@@ -60,6 +64,39 @@ fn print_bytes<W: Threads + Wait + Sync>(
     }
 }
 
+/// The options for one worker alone. Refuses only want of memory.
+pub(crate) fn for_one(read: &CsvReadOptions) -> Result<CsvReadOptions, AllocError>
+    ensures { IfOk result (λ single. single ≡ for_one read.now) }
+{
+    let Ok(mut single) = read.try_clone() else {
+        return Err(AllocError);
+    };
+    single.n_threads = Some(1);
+    Ok(single)
+}
+
+// The same as `print_bytes`, by one worker alone where the bytes are few.
+fn print_part<W: Threads + Wait + Sync>(
+    rt: &W,
+    alloc: Global,
+    bytes: &[u8],
+    read: &CsvReadOptions,
+    single: &CsvReadOptions,
+    write: &CsvWriterOptions,
+) -> PolarsResult<MemSink>
+    requires single { single.now ≡ for_one read.now }
+    requires given { IsSome read.now.schema }
+    requires allowed { MayRead read.now }
+    requires plain { read.now.row_index ≡ None }
+    requires head { HasNoHead write.now }
+    ensures { IsPrintedOf read.now write.now bytes.now result }
+{
+    if bytes.len() < LARGE {
+        return print_bytes(rt, alloc, bytes, single, write);
+    }
+    print_bytes(rt, alloc, bytes, read, write)
+}
+
 impl PartLines {
     // Prints its rows, and lets go of its bytes.
     fn print<W: Threads + Wait + Sync>(
@@ -67,15 +104,17 @@ impl PartLines {
         rt: &W,
         alloc: Global,
         read: &CsvReadOptions,
+        single: &CsvReadOptions,
         write: &CsvWriterOptions,
     )
+        requires single { single.now ≡ for_one read.now }
         requires given { IsSome read.now.schema }
         requires allowed { MayRead read.now }
         requires plain { read.now.row_index ≡ None }
         requires head { HasNoHead write.now }
         ensures { IsPrintedOf read.now write.now self.old.bytes.items self.new.printed }
     {
-        let printed = print_bytes(rt, alloc, &self.bytes, read, write);
+        let printed = print_part(rt, alloc, &self.bytes, read, single, write);
         put(&mut self.printed, printed);
         put(&mut self.bytes, Vec::new(alloc));
     }
@@ -155,9 +194,11 @@ pub(crate) fn print_group<W: Threads + Wait + Sync>(
     workers: usize,
     group: &mut [PartLines],
     read: &CsvReadOptions,
+    single: &CsvReadOptions,
     write: &CsvWriterOptions,
 )
     requires workers { 0 < workers }
+    requires single { single.now ≡ for_one read.now }
     requires given { IsSome read.now.schema }
     requires allowed { MayRead read.now }
     requires plain { read.now.row_index ≡ None }
@@ -167,12 +208,13 @@ pub(crate) fn print_group<W: Threads + Wait + Sync>(
 {
     let print = |_: usize, one: &mut PartLines|
         requires sync { IsSync W.row }
+        requires single { single.now ≡ for_one read.now }
         requires given { IsSome read.now.schema }
         requires allowed { MayRead read.now }
         requires plain { read.now.row_index ≡ None }
         requires head { HasNoHead write.now }
         ensures { IsPrintedOf read.entry.now write.entry.now one.old.bytes.items one.new.printed }
-    { one.print(rt, alloc, read, write) };
+    { one.print(rt, alloc, read, single, write) };
     thread::for_each_mut(rt, group, workers, &print);
 }
 

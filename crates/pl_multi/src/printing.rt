@@ -9,12 +9,13 @@ ghost use Rattle.pl_write.specs.Options.{frame_options};
 ghost use Rattle.pl_write.specs.Printed.{printed_text};
 ghost use Rattle.pl_write.specs.Writing.{AppendsPrefix};
 ghost use Rattle.pl_csv.specs.Transcoding.{HasAsciiQuote};
+ghost use Rattle.pl_multi.specs.Groups.{for_one};
 ghost use Rattle.pl_multi.specs.Joining.{IsJoinFault, IsSound};
 ghost use Rattle.pl_multi.specs.Printing.{IsPlain, have_codes, HasNoHead, ArePrinted, IsJoinedBy, joined_text};
 ghost use Rattle.pl_multi.specs.Scan.{IsScanFault, no_rows};
 ghost use Rattle.pl_multi.specs.Words.{asked};
 
-use crate::groups::{print_group, put_lines, read_group};
+use crate::groups::{for_one, print_group, put_lines, read_group};
 use crate::multi_words::MultiJob;
 use crate::part::Part;
 use crate::scan::{MultiFault, check_scan, scan_multi};
@@ -92,15 +93,17 @@ fn group_size(workers: usize) -> usize
     if workers > 1 { usize::MAX } else { 1 }
 }
 
-// The lines of the rows of all parts, part by part. Refuses as `join_parts` does.
+// The lines of the rows of all parts, part by part, given the options for one worker alone too. Refuses as `join_parts` does.
 fn print_each<W: Threads + Wait + Sync, O: Opener>(
     rt: &W,
     alloc: Global,
     opener: &mut O,
     parts: &[Part],
     read: &CsvReadOptions,
+    single: &CsvReadOptions,
     write: &CsvWriterOptions,
 ) -> Result<Vec<MemSink>, MultiFault>
+    requires single { single.now ≡ for_one read.now }
     requires sound { IsSound read.now None parts.now }
     requires plain { IsPlain read.now None parts.now }
     requires head { HasNoHead write.now }
@@ -117,7 +120,7 @@ fn print_each<W: Threads + Wait + Sync, O: Opener>(
     while place < parts.len() {
         let mut group = Vec::new(alloc);
         let all_read = read_group(alloc, opener, parts, place, most, &mut group);
-        print_group(rt, alloc, workers, &mut group, read, write);
+        print_group(rt, alloc, workers, &mut group, read, single, write);
         let count = group.len();
         match put_lines(&mut lines, group, place) {
             Ok(()) => {}
@@ -153,7 +156,10 @@ fn print_parts<W: Threads + Wait + Sync, O: Opener>(
     ensures stays { (other : List ℕ) → O.holds opener.new other ≡ O.holds opener.old other }
 {
     let write = without_head(&job.write)?;
-    match print_each(rt, alloc, opener, &job.parts, &job.read, &write) {
+    let single = for_one(&job.read)?;
+    let printed = print_each(rt, alloc, opener, &job.parts, &job.read, &single, &write);
+    drop(single);
+    match printed {
         Ok(lines) => Ok(Joined::Lines { lines, empty }),
         Err(fault) => Err(fault),
     }

@@ -26,7 +26,7 @@ returns-in-Err-clause-refused g c =
     let holds = g.O.Opener.holds c.args.opener.now in
     let job = c.args.job.now in
     let before = g.O.Opener.faults c.args.opener.now in
-    let now = g.O.Opener.faults c.print_each.new.opener in
+    let now = g.O.Opener.faults c.print_each-printed.new.opener in
     let unsliced = c.requires.plain.unsliced in
     join-fault holds before now job.read job.slice job.parts.items c.in-Err.fault c.requires.sound
     (subst (λ s. IsJoinFault holds before now job.read (end_of s) job.parts.items c.in-Err.fault) (sym unsliced)

@@ -91,8 +91,8 @@ fn data_from_start<'a>(input: &'a [u8], options: &CsvReadOptions) -> Option<&'a 
     )
 }
 
-// Whether leading line ends are kept.
-fn keeps_ends(options: &CsvReadOptions) -> bool
+/// Whether line ends at the front of an input are kept: where a schema of one column at most is given.
+pub fn keeps_ends(options: &CsvReadOptions) -> bool
     ensures { result ≡ keeps_ends options.now }
 {
     match &options.schema {

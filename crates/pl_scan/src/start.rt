@@ -48,8 +48,8 @@ pub fn skip_lines_naive(input: &[u8], eol_char: u8, skip: usize) -> &[u8]
     rest
 }
 
-// What stands behind the line ends and carriage returns at the front.
-fn without_ends(input: &[u8], eol_char: u8) -> &[u8]
+/// What stands behind the line ends and carriage returns at the front.
+pub fn without_ends(input: &[u8], eol_char: u8) -> &[u8]
     ensures { result.now ≡ cut_ends eol_char input.now }
 {
     let mut rest = input;
@@ -62,8 +62,8 @@ fn without_ends(input: &[u8], eol_char: u8) -> &[u8]
     rest
 }
 
-// What stands behind so many items, where there are so many.
-fn behind_items<'a>(
+/// What stands behind `count` items at the front, each with its line end. None where there are fewer.
+pub fn behind_items<'a>(
     input: &'a [u8],
     separator: u8,
     quote_char: Option<u8>,
@@ -84,8 +84,8 @@ fn behind_items<'a>(
     Some(rest)
 }
 
-// What stands behind the comments that come next.
-fn behind_comments<'a>(
+/// What stands behind the comments at the front, each with its line end.
+pub fn behind_comments<'a>(
     input: &'a [u8],
     separator: u8,
     quote_char: Option<u8>,
@@ -118,8 +118,8 @@ fn behind_head(input: &[u8], eol_char: u8, lines: usize, keep_ends: bool) -> &[u
     }
 }
 
-// What stands behind the header, if there is one.
-fn behind_header<'a>(
+/// What stands behind the header with its line end, where `has_header` says that the first item is one.
+pub fn behind_header<'a>(
     input: &'a [u8],
     separator: u8,
     quote_char: Option<u8>,

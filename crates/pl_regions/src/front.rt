@@ -3,6 +3,7 @@ ghost use Rattle.std.specs.Prelude.{◌≡◌, ◌<◌, [], IfOk, map};
 ghost use Rattle.std.specs.List.{concat};
 ghost use Rattle.pl_write.specs.Options.{cell_options};
 ghost use Rattle.pl_verbatim.specs.PrintedTexts.{CanPrint};
+ghost use Rattle.pl_verbatim.specs.Verbatim.{IsVerbatimOf};
 ghost use Rattle.pl_regions.specs.Printing.{IsPrintedFront};
 ghost use Rattle.pl_regions.specs.Regions.{ArePlaced};
 
@@ -12,6 +13,7 @@ use pl_frame::schema::Schema;
 use pl_rows::plan::RangePlan;
 use pl_verbatim::verbatim::Verbatim;
 use pl_write::options::SerializeOptions;
+use pl_write::row_printer::RowPrinter;
 use std::alloc::{AllocError, Global};
 use std::borrow::CowSlice;
 use std::thread::Threads;
@@ -86,6 +88,33 @@ pub(crate) fn front_of<'a>(
         }
     }
     Ok(front)
+}
+
+/// The front of one text, by a printer whose memory is used again: its rows are read and printed, as far as the text goes in items, no row has
+/// a fault and memory suffices.
+pub fn print_text<'a>(
+    alloc: Global,
+    text: &'a [u8],
+    printer: &mut RowPrinter,
+    schema: &Schema,
+    plan: &RangePlan<'_>,
+    options: &SerializeOptions,
+    verbatim: &Verbatim,
+    piece_size: usize,
+) -> Front<'a>
+    requires can { CanPrint plan.now schema.now }
+    requires verbatim { IsVerbatimOf plan.now schema.now (cell_options options.now) verbatim.now }
+    requires size { 0 < piece_size }
+    ensures { IsPrintedFront plan.now schema.now (cell_options options.now) text.now result }
+{
+    let region = Region::printed(
+        alloc, 0, text, printer, schema, plan, options, verbatim, piece_size,
+    );
+    Front {
+        end: region.end,
+        rows: region.rows,
+        lines: region.lines,
+    }
 }
 
 /// The front of texts that stand one behind the other: workers take them as they come, read the rows of each and print them. Refuses only want

@@ -1,5 +1,5 @@
-//! The program `pl_csv`: `run`, or `run_multi` where the first word is `multi`, over the words and the standard streams of the process; where
-//! it is `help`, what the words mean.
+//! The program `pl_csv`: `run`, or `run_multi` where the first word is `multi` and `run_seek` where it is `seek`, over the words and the
+//! standard streams of the process; where it is `help`, what the words mean.
 #![tactic(auto)]
 
 mod help;
@@ -10,6 +10,7 @@ use pl_csv::adapters::{FsOpener, ReadSource, WriteSink};
 use pl_csv::arguments::words;
 use pl_csv::run::run;
 use pl_multi::run::run_multi;
+use pl_seek::run::run_seek;
 use std::io;
 use std::io::Write;
 use std::process::ExitCode;
@@ -29,6 +30,7 @@ fn refuse(err: &mut impl Write, fault: &io::Error) -> u8 {
 enum Call<'a> {
     Help(&'a [String]),
     Multi(&'a [String]),
+    Seek(&'a [String]),
     Run(&'a [String]),
 }
 
@@ -37,6 +39,7 @@ fn call_of(words: &[String]) -> Call<'_> {
     match words {
         [first, others @ ..] if first.as_str() == "help" => Call::Help(others),
         [first, others @ ..] if first.as_str() == "multi" => Call::Multi(others),
+        [first, others @ ..] if first.as_str() == "seek" => Call::Seek(others),
         _ => Call::Run(words),
     }
 }
@@ -48,6 +51,14 @@ fn main(rt: HostRuntime) -> ExitCode {
         Ok(words) => match call_of(&words) {
             Call::Help(others) => help(others, &mut rt.stdout(), &mut rt.stderr()),
             Call::Multi(others) => run_multi(
+                &rt,
+                rt.alloc(),
+                others,
+                &mut FsOpener::new(&rt),
+                &mut out,
+                &mut err,
+            ),
+            Call::Seek(others) => run_seek(
                 &rt,
                 rt.alloc(),
                 others,

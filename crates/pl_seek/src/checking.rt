@@ -29,8 +29,8 @@ fn asks_nothing(read: &CsvReadOptions) -> bool
     }
 }
 
-// Whether no schema is given, or a limit of rows is, or no column is asked for.
-fn is_wrong(read: &CsvReadOptions) -> bool
+/// Whether no schema is given, or a limit of rows is, or no column is asked for.
+pub(crate) fn is_wrong(read: &CsvReadOptions) -> bool
     ensures { result ≡ is_wrong read.now }
 {
     read.schema.is_none() || read.n_rows.is_some() || asks_nothing(read)

@@ -1,7 +1,8 @@
 //! Where the records of an input begin.
-ghost use Rattle.std.specs.Prelude.{◌≡◌, ℕ, ◌<◌, ◌≤◌, ◌+◌, ◌++◌, ◌∷◌, ◌^◌, ◌==◌, [], List, not, false, length, drop, get_or, IfSome, OnOk, IfOk};
+ghost use Rattle.std.specs.Prelude.{◌≡◌, ℕ, ◌<◌, ◌≤◌, ◌+◌, ◌++◌, ◌∷◌, ◌^◌, ◌==◌, [], List, not, false, length, drop, get_or, None, IfSome, OnOk, IfOk};
 ghost use Rattle.std.specs.List.{prefix_len};
 ghost use Rattle.pl_frame.specs.Dialect.{marks, AreDistinct};
+ghost use Rattle.pl_scan.specs.Bits.{set_bits};
 ghost use Rattle.pl_scan.specs.Comment.{is_comment};
 ghost use Rattle.pl_scan.specs.Dialect.{marks_of, comment_of};
 ghost use Rattle.pl_scan.specs.Fields.{extent};
@@ -9,6 +10,7 @@ ghost use Rattle.pl_scan.specs.Items.{item, text_of};
 ghost use Rattle.pl_seek.specs.Grouping.{HasSeen, unless_comment};
 ghost use Rattle.pl_seek.specs.Places.{group_places, record_places};
 
+use crate::record_ends::add_records;
 use memchr::{memchr, memchr2};
 use pl_scan::comment::is_comment_line;
 use pl_scan::dialect::Dialect;
@@ -46,6 +48,7 @@ impl Groups {
         requires some { 0 < self.old.every }
         requires few { self.old.records + 1 < 2 ^ 64 }
         ensures seen { OnOk result ((seen : List ℕ) → HasSeen self.old seen → HasSeen self.new (seen ++ place ∷ [])) }
+        ensures counted { OnOk result (self.new.records ≡ self.old.records + 1) }
         ensures every { OnOk result (self.new.every ≡ self.old.every) }
     {
         if self.wait == 0 {
@@ -66,6 +69,40 @@ impl Groups {
         ensures every { OnOk result (self.new.every ≡ self.old.every) }
     {
         if is_comment { Ok(()) } else { self.add(place) }
+    }
+
+    // Takes the places behind the bits of a word whose lowest bit has this place, one by one.
+    fn add_each(&mut self, bits: u64, at: usize) -> Result<(), AllocError>
+        requires some { 0 < self.old.every }
+        requires few { self.old.records + 64 < 2 ^ 64 }
+        requires fits { at + 64 < 2 ^ 64 }
+        ensures seen { OnOk result ((seen : List ℕ) → HasSeen self.old seen → HasSeen self.new (seen ++ set_bits 64 (at + 1) bits)) }
+        ensures every { OnOk result (self.new.every ≡ self.old.every) }
+    {
+        let mut left = bits;
+        while left != 0 {
+            self.add(at + left.trailing_zeros() as usize + 1)?;
+            left &= left - 1;
+        }
+        Ok(())
+    }
+
+    // Takes the places behind the bits of a word whose lowest bit has this place: of records of which none begins a group only the number.
+    #[inline(always)]
+    pub(crate) fn add_ends(&mut self, bits: u64, at: usize) -> Result<(), AllocError>
+        requires some { 0 < self.old.every }
+        requires few { self.old.records + 64 < 2 ^ 64 }
+        requires fits { at + 64 < 2 ^ 64 }
+        ensures seen { OnOk result ((seen : List ℕ) → HasSeen self.old seen → HasSeen self.new (seen ++ set_bits 64 (at + 1) bits)) }
+        ensures every { OnOk result (self.new.every ≡ self.old.every) }
+    {
+        let count = bits.count_ones() as usize;
+        if count > self.wait {
+            return self.add_each(bits, at);
+        }
+        self.wait -= count;
+        self.records += count;
+        Ok(())
     }
 }
 
@@ -148,6 +185,67 @@ pub(crate) fn behind_item(rest: &[u8], len: usize) -> &[u8]
     }
 }
 
+// Takes the places of the records from this place on, item by item.
+fn add_items(
+    groups: &mut Groups,
+    input: &[u8],
+    start: usize,
+    dialect: &Dialect<'_>,
+) -> Result<(), AllocError>
+    requires none { HasSeen groups.old [] }
+    requires within { start ≤ length input.now }
+    requires apart { AreDistinct (marks_of dialect.now) }
+    ensures seen { OnOk result (HasSeen groups.new (record_places (marks_of dialect.now) (comment_of dialect.now) (length input.now) (drop start input.now))) }
+    ensures every { OnOk result (groups.new.every ≡ groups.old.every) }
+{
+    let mut rest = &input[start..];
+    while !rest.is_empty() {
+        let (is_comment, len) = front_item(rest, dialect);
+        groups.add_unless(is_comment, input.len() - rest.len())?;
+        rest = behind_item(rest, len);
+    }
+    Ok(())
+}
+
+// Where the record ends that begins at a place, with its line end.
+fn behind_record(input: &[u8], begin: usize, dialect: &Dialect<'_>) -> usize
+    requires within { begin < length input.now }
+    requires apart { AreDistinct (marks_of dialect.now) }
+    ensures more { begin < result }
+    ensures fits { result ≤ length input.now }
+    ensures rest { drop result input.now ≡ drop (extent (marks_of dialect.now) (drop begin input.now) + 1) (drop begin input.now) }
+{
+    let rest = &input[begin..];
+    let len = record_len_by_line(rest, dialect);
+    if len < rest.len() {
+        begin + len + 1
+    } else {
+        input.len()
+    }
+}
+
+// Takes the places of the records from this place on, where there are no comments.
+fn add_plain(
+    groups: &mut Groups,
+    input: &[u8],
+    start: usize,
+    dialect: &Dialect<'_>,
+) -> Result<(), AllocError>
+    requires none { HasSeen groups.old [] }
+    requires within { start ≤ length input.now }
+    requires apart { AreDistinct (marks_of dialect.now) }
+    ensures seen { OnOk result (HasSeen groups.new (record_places (marks_of dialect.now) None (length input.now) (drop start input.now))) }
+    ensures every { OnOk result (groups.new.every ≡ groups.old.every) }
+{
+    let mut begin = start;
+    while begin < input.len() {
+        groups.add(begin)?;
+        let last = add_records(groups, input, begin, dialect)?;
+        begin = behind_record(input, last, dialect);
+    }
+    Ok(())
+}
+
 /// The places where the records of an input begin whose data begins at this place: of each group the first, and how many records
 /// there are. Refuses only want of memory.
 pub(crate) fn find_places(
@@ -164,11 +262,9 @@ pub(crate) fn find_places(
     ensures places { IfOk result (λ groups. groups.places.items ≡ group_places every (record_places (marks_of dialect.now) (comment_of dialect.now) (length input.now) (drop start input.now))) }
 {
     let mut groups = Groups::new(alloc, every);
-    let mut rest = &input[start..];
-    while !rest.is_empty() {
-        let (is_comment, len) = front_item(rest, dialect);
-        groups.add_unless(is_comment, input.len() - rest.len())?;
-        rest = behind_item(rest, len);
+    match dialect.comment_prefix {
+        Some(_) => add_items(&mut groups, input, start, dialect)?,
+        None => add_plain(&mut groups, input, start, dialect)?,
     }
     Ok(groups)
 }

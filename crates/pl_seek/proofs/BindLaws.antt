@@ -1,13 +1,11 @@
 -- Whether an index is another one.
-use Rattle.std.proofs.Common.{◌≡◌, ◌≢◌, ℕ, Bool, true, false, cond, not, ◌==◌, ◌||◌, List, [], ◌∷◌, length, Some, None, refl, sym, ◌∙◌, ap, subst, arith}
+use Rattle.std.proofs.Common.{◌≡◌, ℕ, Bool, true, false, not, ◌==◌, ◌||◌, List, [], ◌∷◌, length, None, refl, sym, ◌∙◌, subst, arith}
 use Rattle.std.proofs.lemmas.Bool.Decides.{nat_tests}
-use Rattle.std.specs.Prelude.{min}
 use Rattle.std.specs.List.{list_any, zip}
 use Rattle.pl_frame.proofs.SchemaLaws.{none_passes}
 use Rattle.std.specs.Int.{div_ceil}
-use Rattle.pl_options.specs.FirstCause.{first_some}
 use Rattle.pl_seek.specs.Index.{Index}
-use Rattle.pl_seek.specs.Binding.{HaveSameSettings, first_difference, places_difference}
+use Rattle.pl_seek.specs.Binding.{HaveSameSettings, first_difference}
 
 -- lists of one length in which no place differs
 same-places : (xs ys : List ℕ) → length xs ≡ length ys → list_any (λ (pair : ℕ × ℕ). not (pair.0 == pair.1)) (zip xs ys) ≡ false → xs ≡ ys
@@ -33,12 +31,3 @@ same-index i own every digest settings none records size own_size =
     let places : i.places ≡ own.places = same-places i.places own.places sizes (none_passes (λ (pair : ℕ × ℕ). not (pair.0 == pair.1)) (zip i.places own.places) none) in
     (λ k. record { digest = digest k; settings = settings.0 k; comment_prefix = settings.1 k; every = every k; records = records k; places = places k })
 
--- the first place that differs
-pub difference-place : (i own : Index) (number : ℕ) → first_difference i.places own.places ≡ Some number → places_difference i own ≡ Some number
-difference-place i own number e = ap (λ first. first_some (first ∷ (cond (i.records == own.records) None (Some (min (length i.places) (length own.places)))) ∷ [])) e
-
--- the number of records
-pub difference-records : (i own : Index) → first_difference i.places own.places ≡ None → i.records ≢ own.records → places_difference i own ≡ Some (min (length i.places) (length own.places))
-difference-records i own none other =
-    let test : (i.records == own.records) ≡ false = grind (arith, nat_tests) in
-    (λ k. first_some (none k ∷ (cond (test k) None (Some (min (length i.places) (length own.places)))) ∷ []))

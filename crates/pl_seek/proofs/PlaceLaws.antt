@@ -1,11 +1,11 @@
 -- Where the records of a text begin, item by item.
-use Rattle.std.proofs.Common.{◌≡◌, ℕ, zero, suc, ◌+◌, ◌-◌, ◌*◌, ◌<◌, ◌≤◌, ◌==◌, ◌||◌, ◌++◌, Bool, true, false, cond, not, List, [], ◌∷◌, map, length, take, drop, get_or, Option, None, Some, refl, sym, ap, subst, ◌∙◌, arith, length-drop}
+use Rattle.std.proofs.Common.{◌≡◌, ℕ, zero, suc, ◌+◌, ◌-◌, ◌*◌, ◌<◌, ◌≤◌, ◌==◌, ◌||◌, ◌++◌, Bool, true, false, cond, not, List, [], ◌∷◌, length, take, drop, get_or, Option, None, Some, refl, sym, ap, subst, ◌∙◌, arith, length-drop}
 use Rattle.std.specs.Prelude.{take_while}
-use Rattle.std.specs.List.{filter_map, cons_option, prefix_len, range_with_len}
+use Rattle.std.specs.List.{filter_map, cons_option, prefix_len}
 use Rattle.std.proofs.Math.Nat.{suc-mul}
 use Rattle.std.proofs.lemmas.Bool.Decides.{nat_tests}
 use Rattle.std.proofs.lemmas.List.{length-take, get_or-drop, append_assoc, append-nil, length-append}
-use Rattle.std.proofs.lemmas.List.Sums.{prefix_len-le-length, position_or_len_is}
+use Rattle.std.proofs.lemmas.List.Sums.{position_or_len_is}
 use Rattle.std.proofs.lemmas.List.Folds.{length-prefix_len}
 use Rattle.memchr.specs.Find.{is_byte2}
 use Rattle.pl_frame.specs.Dialect.{Marks, AreDistinct}
@@ -18,20 +18,13 @@ use Rattle.pl_scan.specs.Comment as scan
 use Rattle.pl_seek.specs.Places.{place_of, record_places, group_places}
 use Rattle.pl_seek.specs.Grouping.{HasSeen, HasCome, unless_comment}
 use Rattle.pl_seek.specs.declared.places.Groups.{Groups}
-use Rattle.pl_seek.proofs.GroupLaws.{Rise, rise-from, ceil_is, groups-first, groups-other}
+use Rattle.pl_seek.proofs.GroupLaws.{Rise, rise-from, groups-first, groups-other}
 
 -- ---- items
 
 -- the item at the front, by whether a comment begins there
 abbrev pub item_by : Bool → Marks → List ℕ → ItemText
 item_by t m b = cond t (CommentText (take_while (λ x. not (x == m.line_end)) b)) (RecordText (take (extent m b) b))
-
-pub text-fits : (m : Marks) (comment : Option (List ℕ)) (b : List ℕ) → length (text_of (item m comment b)) ≤ length b
-text-fits m comment b = by (is_comment comment b)
-  where
-    by : (t : Bool) → length (text_of (item_by t m b)) ≤ length b
-    by true = omega (arith, length-prefix_len (λ x. not (x == m.line_end)) b, prefix_len-le-length (λ x. not (x == m.line_end)) b)
-    by false = omega (arith, length-take (extent m b) b)
 
 -- the places of the records at the front of a list that a comment begins, and of one that a record begins
 module _ (m : Marks) (comment : Option (List ℕ)) (size : ℕ) (b : List ℕ) (some : 0 < length b) where
@@ -212,9 +205,6 @@ lacks-some m b q n is len lacks k inside = ap (λ o. is_quote o (get_or b k 0)) 
 
 -- ---- the steps of the loop
 
-pub come-none : (m : Marks) (comment : Option (List ℕ)) (input : List ℕ) (start : ℕ) (groups : Groups) → HasSeen groups [] → start ≤ length input → HasCome m comment input start groups (drop start input)
-come-none m comment input start groups has within = record { seen = []; has = has; all = refl; few = omega (arith, length-drop start input) }
-
 pub come-more : (m : Marks) (comment : Option (List ℕ)) (input : List ℕ) (start : ℕ) (groups now : Groups) (rest behind : List ℕ) (is_comment : Bool) (len place : ℕ) → 0 < length rest
     → is_comment ≡ scan.is_comment comment rest → len ≡ length (text_of (item m comment rest)) → place ≡ length input - length rest → behind ≡ drop (len + 1) rest
     → ((seen : List ℕ) → HasSeen groups seen → HasSeen now (seen ++ unless_comment is_comment place))
@@ -251,15 +241,6 @@ come-all m comment input start groups rest none come =
     subst (HasSeen groups) (sym (append-nil come.seen) ∙ ap (λ r. come.seen ++ r) (sym (places-none m comment (length input))) ∙ sym (ap (λ r. come.seen ++ record_places m comment (length input) r) none) ∙ come.all) come.has
 
 -- ---- the places so far
-
-pub seen-none : (groups : Groups) (every : ℕ) → 0 < every → groups.every ≡ every → groups.records ≡ 0 → groups.wait ≡ 0 → groups.places.items ≡ [] → HasSeen groups []
-seen-none groups every some is records wait places = record {
-  every = omega (arith, is, some);
-  records = records;
-  places = places ∙ sym (ap (λ n. map (λ group. get_or [] (group * groups.every) 0) (range_with_len 0 n)) (ceil_is 0 groups.every 0 0 (omega (arith, is, some)) (omega arith) (omega (arith, is, some))));
-  wait = omega (arith, wait, is, some);
-  counted = ap (λ ps. length ps * groups.every) places ∙ omega (arith, wait);
-}
 
 module _ (groups now : Groups) (place : ℕ) (every : now.every ≡ groups.every) (records : now.records ≡ groups.records + 1) (seen : List ℕ) (has : HasSeen groups seen) where
   pub seen-first : groups.wait ≡ 0 → now.wait ≡ groups.every - 1 → now.places.items ≡ groups.places.items ++ place ∷ [] → HasSeen now (seen ++ place ∷ [])

@@ -10,4 +10,6 @@ mod index;
 #[cfg(test)]
 mod part;
 #[cfg(test)]
+mod run;
+#[cfg(test)]
 mod slice;

@@ -30,4 +30,3 @@ same-index i own every digest settings none records size own_size =
     let sizes : length i.places ≡ length own.places = size ∙ (λ k. div_ceil (records k) (every k)) ∙ sym own_size in
     let places : i.places ≡ own.places = same-places i.places own.places sizes (none_passes (λ (pair : ℕ × ℕ). not (pair.0 == pair.1)) (zip i.places own.places) none) in
     (λ k. record { digest = digest k; settings = settings.0 k; comment_prefix = settings.1 k; every = every k; records = records k; places = places k })
-

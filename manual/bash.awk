@@ -18,6 +18,13 @@ $1 == "multi" {
         slices = appended(slices, " ", " ", $2)
 }
 
+# What stands behind `seek`.
+$1 == "seek" && $2 ~ / / {
+    gsub(/`/, "", $2)
+    sub(/ .*/, "", $2)
+    seeks = appended(seeks, " ", " ", $2)
+}
+
 $1 == "word" {
     words = appended(words, " ", "\n            ", $2)
     if ($4 != "")
@@ -43,6 +50,11 @@ END {
     print "        compopt -o default 2>/dev/null"
     print "        return"
     print "    fi"
+    print "    # Behind `seek` stand paths too, each at its place."
+    print "    if [[ ${COMP_WORDS[1]} == seek ]] && [[ \" build4 slice5 slice6 \" == *\" ${COMP_WORDS[2]}$COMP_CWORD \"* ]]; then"
+    print "        compopt -o default 2>/dev/null"
+    print "        return"
+    print "    fi"
     print "    # An option and its value: as two words, or as one, which bash cuts at = where COMP_WORDBREAKS has it."
     print "    option=$before"
     print "    if [[ $current == --*=* ]]; then"
@@ -63,8 +75,9 @@ END {
     print "        texts=("
     print "            " words
     print "        )"
-    print "        # `multi` and `help` are first words; behind `multi` stands a slice first, and `--` anywhere."
-    print "        ((COMP_CWORD == 1)) && texts+=(multi help)"
+    print "        # `multi`, `seek` and `help` are first words; behind `multi` stands a slice first, and `--` anywhere."
+    print "        ((COMP_CWORD == 1)) && texts+=(multi seek help)"
+    print "        [[ ${COMP_WORDS[1]} == seek ]] && ((COMP_CWORD == 2)) && texts=(" seeks ")"
     print "        [[ ${COMP_WORDS[1]} == multi ]] && ((COMP_CWORD > 1)) && texts+=(--)"
     print "        [[ ${COMP_WORDS[1]} == multi ]] && ((COMP_CWORD == 2)) && texts+=(" slices ")"
     print "        ;;"

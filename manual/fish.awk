@@ -30,6 +30,19 @@ $1 == "multi" {
         print "complete -c pl_csv -n 'contains -- multi (commandline -opc)' -l " substr(name, 3, index(name, "=") - 3) " -x -d " quoted($3)
 }
 
+# What stands behind `seek`, and the paths behind that.
+$1 == "seek" {
+    name = $2
+    gsub(/`/, "", name)
+    if (name == "seek")
+        print "complete -c pl_csv -n __fish_is_first_token -a seek -d " quoted($3)
+    else {
+        sub(/ .*/, "", name)
+        print "complete -c pl_csv -n 'contains -- seek (commandline -opc); and not contains -- " name " (commandline -opc)' -a " name " -d " quoted($3)
+        print "complete -c pl_csv -n 'contains -- seek (commandline -opc); and contains -- " name " (commandline -opc)' -F"
+    }
+}
+
 $1 == "word" {
     print "complete -c pl_csv -l " substr($2, 3) ($3 == "" ? "" : " -x") ($4 == "" ? "" : " -a " quoted($4)) " -d " quoted($5)
 }

@@ -4,6 +4,8 @@ BEGIN {
     FS = "\t"
     usage = "pl_csv [words] < input > output\n" \
         "pl_csv multi [--slice=A-B] [words] -- PATH.. > output\n" \
+        "pl_csv seek build K PATH [words] > index\n" \
+        "pl_csv seek slice A L PATH INDEX [words] > output\n" \
         "pl_csv help [word]\n"
 }
 
@@ -57,6 +59,13 @@ $1 == "multi" {
     if (!many++)
         all = all "\nMany files\n"
     keep(plain($2), "  " plain($2), wrapped(plain($3)) left_out($4))
+}
+$1 == "seek" {
+    if (!seeks++)
+        all = all "\nAn index\n"
+    name = plain($2)
+    sub(/ .*/, "", name)
+    keep(name, "  " plain($2), wrapped(plain($3)))
 }
 $1 == "value" {
     if (!values++)

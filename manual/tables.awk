@@ -3,6 +3,7 @@
 #   group   HEADING                                  the words behind it stand under this heading
 #   word    NAME VALUE FIXED MEANING DEFAULT         VALUE is empty for a flag; FIXED: the texts that a value can be
 #   multi   NAME MEANING DEFAULT                     a word of many files
+#   seek    NAME MEANING                             a word of an index, with those behind it
 #   value   NAME MEANING                             what a value is
 #   type    WORDS MEANING
 #   status  NUMBER FAULT-LINE CASE OUTPUT
@@ -13,6 +14,7 @@
 BEGIN {
     kinds["Word|Value|Meaning|Where it is left out"] = "word"
     kinds["Word of many files|Meaning|Where it is left out"] = "multi"
+    kinds["Word of an index|Meaning"] = "seek"
     kinds["Value|What it is"] = "value"
     kinds["TYPE|Type"] = "type"
     kinds["Status|Fault line|When|Standard output"] = "status"

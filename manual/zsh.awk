@@ -11,6 +11,16 @@ BEGIN {
     print "    return"
     print "fi"
     print ""
+    print "# Behind `seek` stands what is done, and paths stand there too, each at its place."
+    print "if (( CURRENT == 3 )) && [[ $words[2] == seek ]]; then"
+    print "    compadd build slice"
+    print "    return"
+    print "fi"
+    print "if [[ $words[2] == seek && \" build5 slice6 slice7 \" == *\" $words[3]$CURRENT \"* ]]; then"
+    print "    _files"
+    print "    return"
+    print "fi"
+    print ""
     print "_arguments \\"
 }
 
@@ -33,7 +43,7 @@ $1 == "multi" {
     name = $2
     gsub(/`/, "", name)
     if (name == "multi")
-        lines[++count] = "    '1: :(multi help)'"
+        lines[++count] = "    '1: :(multi seek help)'"
     else if (name ~ /=/)
         lines[++count] = "    '" substr(name, 1, index(name, "=")) "[" escaped($3) "]:A-B: '"
 }

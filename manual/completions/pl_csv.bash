@@ -14,6 +14,11 @@ _pl_csv() {
         compopt -o default 2>/dev/null
         return
     fi
+    # Behind `seek` stand paths too, each at its place.
+    if [[ ${COMP_WORDS[1]} == seek ]] && [[ " build4 slice5 slice6 " == *" ${COMP_WORDS[2]}$COMP_CWORD "* ]]; then
+        compopt -o default 2>/dev/null
+        return
+    fi
     # An option and its value: as two words, or as one, which bash cuts at = where COMP_WORDBREAKS has it.
     option=$before
     if [[ $current == --*=* ]]; then
@@ -44,8 +49,9 @@ _pl_csv() {
             --keep-missing --truncate --ignore-errors --out-sep --out-quote --out-null --out-eol
             --style --out-no-header --out-bom --batch --make
         )
-        # `multi` and `help` are first words; behind `multi` stands a slice first, and `--` anywhere.
-        ((COMP_CWORD == 1)) && texts+=(multi help)
+        # `multi`, `seek` and `help` are first words; behind `multi` stands a slice first, and `--` anywhere.
+        ((COMP_CWORD == 1)) && texts+=(multi seek help)
+        [[ ${COMP_WORDS[1]} == seek ]] && ((COMP_CWORD == 2)) && texts=(build slice)
         [[ ${COMP_WORDS[1]} == multi ]] && ((COMP_CWORD > 1)) && texts+=(--)
         [[ ${COMP_WORDS[1]} == multi ]] && ((COMP_CWORD == 2)) && texts+=(--slice=)
         ;;

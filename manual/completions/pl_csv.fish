@@ -42,3 +42,8 @@ complete -c pl_csv -l make -x -d 'an input of this number of rows, up to 1000000
 complete -c pl_csv -n __fish_is_first_token -a multi -d 'files are read and joined; it is the first word'
 complete -c pl_csv -n 'contains -- multi (commandline -opc)' -l slice -x -d 'of the rows of all files, numbered from 0, those from A on and before B, both NUM; it is the first word behind multi'
 complete -c pl_csv -n 'contains -- multi (commandline -opc); and contains -- -- (commandline -opc)' -F
+complete -c pl_csv -n __fish_is_first_token -a seek -d 'an index of a file is built or used; it is the first word'
+complete -c pl_csv -n 'contains -- seek (commandline -opc); and not contains -- build (commandline -opc)' -a build -d 'behind seek: the index of the file at PATH is written, with the place of every record whose number is a multiple of K; K is a NUM above 0'
+complete -c pl_csv -n 'contains -- seek (commandline -opc); and contains -- build (commandline -opc)' -F
+complete -c pl_csv -n 'contains -- seek (commandline -opc); and not contains -- slice (commandline -opc)' -a slice -d 'behind seek: of the file at PATH the records from the one with the number A on, at most L, are written; INDEX is the path of its index. A and L are NUM, and the first record has the number 0'
+complete -c pl_csv -n 'contains -- seek (commandline -opc); and contains -- slice (commandline -opc)' -F

@@ -63,8 +63,8 @@ END {
     print "        texts=("
     print "            " words
     print "        )"
-    print "        # `multi` and `help` are first words; behind `multi` stands a slice first, and `--` anywhere."
-    print "        ((COMP_CWORD == 1)) && texts+=(multi help)"
+    print "        # `multi`, `help` and `version` are first words; behind `multi` stands a slice first, and `--` anywhere."
+    print "        ((COMP_CWORD == 1)) && texts+=(multi help version)"
     print "        [[ ${COMP_WORDS[1]} == multi ]] && ((COMP_CWORD > 1)) && texts+=(--)"
     print "        [[ ${COMP_WORDS[1]} == multi ]] && ((COMP_CWORD == 2)) && texts+=(" slices ")"
     print "        ;;"

@@ -4,7 +4,8 @@ BEGIN {
     FS = "\t"
     usage = "pl_csv [words] < input > output\n" \
         "pl_csv multi [--slice=A-B] [words] -- PATH.. > output\n" \
-        "pl_csv help [word]\n"
+        "pl_csv help [word]\n" \
+        "pl_csv version\n"
 }
 
 # Markdown as plain text: a link is the page, and code stands as it is.

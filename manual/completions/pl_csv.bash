@@ -44,8 +44,8 @@ _pl_csv() {
             --keep-missing --truncate --ignore-errors --out-sep --out-quote --out-null --out-eol
             --style --out-no-header --out-bom --batch --make
         )
-        # `multi` and `help` are first words; behind `multi` stands a slice first, and `--` anywhere.
-        ((COMP_CWORD == 1)) && texts+=(multi help)
+        # `multi`, `help` and `version` are first words; behind `multi` stands a slice first, and `--` anywhere.
+        ((COMP_CWORD == 1)) && texts+=(multi help version)
         [[ ${COMP_WORDS[1]} == multi ]] && ((COMP_CWORD > 1)) && texts+=(--)
         [[ ${COMP_WORDS[1]} == multi ]] && ((COMP_CWORD == 2)) && texts+=(--slice=)
         ;;

@@ -6,6 +6,7 @@ BEGIN {
     print ""
     print "complete -c pl_csv -f"
     print "complete -c pl_csv -n __fish_is_first_token -a help -d " quoted("what the words mean, or the word behind it")
+    print "complete -c pl_csv -n __fish_is_first_token -a version -d " quoted("which program this is")
 }
 
 # A text between single quotes of fish.

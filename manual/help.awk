@@ -6,7 +6,8 @@ BEGIN {
         "pl_csv multi [--slice=A-B] [words] -- PATH.. > output\n" \
         "pl_csv seek build K PATH [words] > index\n" \
         "pl_csv seek slice A L PATH INDEX [words] > output\n" \
-        "pl_csv help [word]\n"
+        "pl_csv help [word]\n" \
+        "pl_csv version\n"
 }
 
 # Markdown as plain text: a link is the page, and code stands as it is.

@@ -2,6 +2,7 @@
 
 complete -c pl_csv -f
 complete -c pl_csv -n __fish_is_first_token -a help -d 'what the words mean, or the word behind it'
+complete -c pl_csv -n __fish_is_first_token -a version -d 'which program this is'
 complete -c pl_csv -l schema -x -d 'the columns, with their types'
 complete -c pl_csv -l overwrite -x -d 'names and types in place of inferred ones, by name or else by place'
 complete -c pl_csv -l infer -x -a 'all' -d 'from how many items types are inferred, or from all'

@@ -28,6 +28,11 @@ pub(crate) fn help(words: &[String], out: &mut impl Write, err: &mut impl Write)
         let _ = err.write_all(b"words\n");
         return 2;
     };
+    print(text, out, err)
+}
+
+/// Prints a text, and answers the status: 0, and 4 where a write to `out` failed, which a line on `err` tells.
+pub(crate) fn print(text: &str, out: &mut impl Write, err: &mut impl Write) -> u8 {
     if out.write_all(text.as_bytes()).is_err() {
         let _ = err.write_all(b"sink\n");
         return 4;

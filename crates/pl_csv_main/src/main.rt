@@ -1,11 +1,15 @@
 //! The program `pl_csv`: `run`, or `run_multi` where the first word is `multi` and `run_seek` where it is `seek`, over the words and the
-//! standard streams of the process; where it is `help`, what the words mean.
+//! standard streams of the process; where it is `help`, what the words mean, and where it is `version`, which program this is.
 #![tactic(auto)]
 
 mod help;
 mod help_words;
+mod version;
+mod waiting;
 
-use crate::help::help;
+use crate::help::{help, print};
+use crate::version::VERSION;
+use crate::waiting::tell_waiting;
 use pl_csv::adapters::{FsOpener, ReadSource, WriteSink};
 use pl_csv::arguments::words;
 use pl_csv::run::run;
@@ -29,6 +33,7 @@ fn refuse(err: &mut impl Write, fault: &io::Error) -> u8 {
 // What the words ask for, with the words that say the rest.
 enum Call<'a> {
     Help(&'a [String]),
+    Version,
     Multi(&'a [String]),
     Seek(&'a [String]),
     Run(&'a [String]),
@@ -38,6 +43,7 @@ enum Call<'a> {
 fn call_of(words: &[String]) -> Call<'_> {
     match words {
         [first, others @ ..] if first.as_str() == "help" => Call::Help(others),
+        [only] if only.as_str() == "version" => Call::Version,
         [first, others @ ..] if first.as_str() == "multi" => Call::Multi(others),
         [first, others @ ..] if first.as_str() == "seek" => Call::Seek(others),
         _ => Call::Run(words),
@@ -50,6 +56,7 @@ fn main(rt: HostRuntime) -> ExitCode {
     let status = match words(&rt) {
         Ok(words) => match call_of(&words) {
             Call::Help(others) => help(others, &mut rt.stdout(), &mut rt.stderr()),
+            Call::Version => print(VERSION, &mut rt.stdout(), &mut rt.stderr()),
             Call::Multi(others) => run_multi(
                 &rt,
                 rt.alloc(),
@@ -66,14 +73,19 @@ fn main(rt: HostRuntime) -> ExitCode {
                 &mut out,
                 &mut err,
             ),
-            Call::Run(words) => run(
-                &rt,
-                rt.alloc(),
-                words,
-                &mut ReadSource::new(rt.stdin()),
-                &mut out,
-                &mut err,
-            ),
+            Call::Run(words) => {
+                if words.is_empty() {
+                    tell_waiting(&rt.stdin(), &mut rt.stderr());
+                }
+                run(
+                    &rt,
+                    rt.alloc(),
+                    words,
+                    &mut ReadSource::new(rt.stdin()),
+                    &mut out,
+                    &mut err,
+                )
+            }
         },
         Err(fault) => refuse(&mut rt.stderr(), &fault),
     };

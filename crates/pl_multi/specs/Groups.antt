@@ -1,5 +1,5 @@
 -- Parts that are read one after another and printed side by side; only the proofs of the code need them.
-use Rattle.std.specs.Prelude.{◌≡◌, ◌⊎◌, ℕ, ◌+◌, ◌<◌, List, [], ◌∷◌, length, get_or, Option, None, Some, Result, Ok, Err}
+use Rattle.std.specs.Prelude.{◌≡◌, ◌⊎◌, ℕ, ◌+◌, ◌<◌, List, [], ◌∷◌, All, length, get_or, slice_index_or, Option, None, Some, Result, Ok, Err}
 use Rattle.pl_frame.specs.Causes.{Rose}
 use Rattle.pl_frame.specs.Outside.{Writing}
 use Rattle.pl_frame.specs.declared.error.PolarsError.{PolarsError}
@@ -11,6 +11,8 @@ use Rattle.pl_write.specs.declared.options.CsvWriterOptions.{CsvWriterOptions}
 use Rattle.pl_multi.specs.Joining.{part_fault}
 use Rattle.pl_multi.specs.Printing.{AreLinesOf}
 use Rattle.pl_multi.specs.Scan.{IsHeld}
+use Rattle.pl_multi.specs.declared.beside.TakenPart.{TakenPart}
+use Rattle.pl_multi.specs.declared.groups.PartLines.{PartLines}
 use Rattle.pl_multi.specs.declared.part.Part.{Part}
 use Rattle.pl_multi.specs.declared.scan.MultiFault.{MultiFault}
 use Rattle.pl_multi.specs.declared.scan.MultiFault.TheVariants as fault
@@ -45,6 +47,15 @@ for_one read = record read { n_threads = Some 1 }
 abbrev pub IsPrintedOf : CsvReadOptions → CsvWriterOptions → List ℕ → Result Writing PolarsError → Type 0
 IsPrintedOf read write bytes (Ok sink) = AreLinesOf read write bytes sink.received
 IsPrintedOf read write bytes (Err refusal) = IsFault (late_cause read (given_schema read) bytes) refusal
+
+-- what came of each part of a group is that of its bytes
+abbrev pub ArePrintedOf : CsvReadOptions → CsvWriterOptions → List PartLines → Type 0
+ArePrintedOf read write group = All (λ one. IsPrintedOf read write one.bytes.items one.printed) group
+
+-- what came of a part of a group, which a worker took
+pub record IsTakenOf (read : CsvReadOptions) (write : CsvWriterOptions) (group : List PartLines) (taken : TakenPart) : Type 0 where
+  pub inside : taken.place < length group
+  pub printed : (d : PartLines) → IsPrintedOf read write (slice_index_or group taken.place d).bytes.items taken.printed
 
 -- what came of the parts from a place on
 abbrev pub ArePrintedFrom : (List ℕ → Option (List ℕ)) → CsvReadOptions → CsvWriterOptions → List Part → ℕ → List (Result Writing PolarsError) → Type 0

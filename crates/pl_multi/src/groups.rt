@@ -1,13 +1,12 @@
 //! Parts that are read one after another, and printed side by side.
-ghost use Rattle.std.specs.Prelude.{◌≡◌, ◌≤◌, ◌<◌, ◌+◌, ◌^◌, ◌++◌, ℕ, List, None, map, length, slice_index_or, IfOk, IfErr, OnOk, IsSome};
-ghost use Rattle.std.specs.Thread.{IsSync};
+ghost use Rattle.std.specs.Prelude.{◌≡◌, ◌≤◌, ◌<◌, ◌+◌, ◌^◌, ◌++◌, ℕ, List, None, Err, All, map, length, IfOk, IfErr, OnOk, IsSome};
+ghost use Rattle.pl_frame.specs.declared.error.PolarsError.TheVariants as error;
 ghost use Rattle.pl_options.specs.FirstCause.{IsFault};
 ghost use Rattle.pl_read.specs.SettleGiven.{given_schema};
 ghost use Rattle.pl_read.specs.Steps.{MayRead, late_cause};
 ghost use Rattle.pl_multi.specs.Groups.{AreRead, IsUnread, IsPrintedOf, sinks_of, first_refusal, IsFirstRefusal, for_one};
 ghost use Rattle.pl_multi.specs.Printing.{HasNoHead, AreLinesOf};
 ghost use Rattle.pl_multi.specs.Scan.{IsHeld};
-ghost use Rattle.pl_multi.specs.declared.groups.PartLines.{PartLines};
 
 use crate::joining::part_fault;
 use crate::part::Part;
@@ -19,23 +18,50 @@ use pl_frame::opener::Opener;
 use pl_frame::sink::MemSink;
 use pl_options::put::put;
 use pl_options::read_options::CsvReadOptions;
+use pl_rows::push::push;
 use pl_write::options::CsvWriterOptions;
 use std::alloc::{AllocError, Global};
 use std::sync::Wait;
-use std::thread;
 use std::thread::Threads;
 
-// So many parts are a group, or fewer.
-const PARTS: usize = 64;
+// So many parts are a group, at most.
+const PARTS: usize = 1 << 10;
 
-// So many bytes are a group: the part in which they are reached is its last.
+// So many bytes are a group, at most: the part in which they are reached is its last.
 const BYTES: usize = 1 << 24;
 
+// So many bytes are a group that workers print, at least, so that printing it is long beside their start.
+const FEW: usize = 1 << 20;
+
 // A part of so many bytes is printed by as many workers as the options say, and one of fewer by one alone: others of its group are then
-// printed beside it.
+// printed beside it, and its memory is used again.
 const LARGE: usize = 1 << 22;
 
-/// The bytes of a part, until its rows are printed, and then their lines. Before, want of memory stands for these.
+/// How many parts are a group, and of how many bytes, at least; it has fewer where there are no more, or where these are large.
+#[derive(Clone, Copy)]
+pub(crate) struct GroupSize {
+    parts: usize,
+    bytes: usize,
+}
+
+impl GroupSize {
+    /// One part alone.
+    pub(crate) fn one() -> GroupSize {
+        GroupSize { parts: 1, bytes: 0 }
+    }
+
+    /// So many parts, or more where they are small.
+    pub(crate) fn of(parts: usize) -> GroupSize {
+        GroupSize { parts, bytes: FEW }
+    }
+
+    // Whether so many parts, of so many bytes, are a group.
+    fn is_met(self, parts: usize, bytes: usize) -> bool {
+        parts >= PARTS || bytes >= BYTES || (parts >= self.parts && bytes >= self.bytes)
+    }
+}
+
+/// The bytes of a part, and the lines of its rows. Until these are printed, want of memory stands for them.
 #[derive(Drop)]
 pub(crate) struct PartLines {
     bytes: Vec<u8>,
@@ -98,48 +124,55 @@ fn print_part<W: Threads + Wait + Sync>(
 }
 
 impl PartLines {
-    // Prints its rows, and lets go of its bytes.
-    fn print<W: Threads + Wait + Sync>(
-        &mut self,
+    /// The lines of its rows, as they come of its bytes.
+    pub(crate) fn printed<W: Threads + Wait + Sync>(
+        &self,
         rt: &W,
         alloc: Global,
         read: &CsvReadOptions,
         single: &CsvReadOptions,
         write: &CsvWriterOptions,
-    )
+    ) -> PolarsResult<MemSink>
         requires single { single.now ≡ for_one read.now }
         requires given { IsSome read.now.schema }
         requires allowed { MayRead read.now }
         requires plain { read.now.row_index ≡ None }
         requires head { HasNoHead write.now }
-        ensures { IsPrintedOf read.now write.now self.old.bytes.items self.new.printed }
+        ensures { IsPrintedOf read.now write.now self.now.bytes.items result }
     {
-        let printed = print_part(rt, alloc, &self.bytes, read, single, write);
-        put(&mut self.printed, printed);
-        put(&mut self.bytes, Vec::new(alloc));
+        print_part(rt, alloc, &self.bytes, read, single, write)
     }
 
-    // What came of it.
-    fn into_printed(self) -> PolarsResult<MemSink>
-        ensures { result ≡ self.printed }
+    /// Puts the lines of its rows.
+    pub(crate) fn put(&mut self, printed: PolarsResult<MemSink>)
+        ensures bytes { self.new.bytes ≡ self.old.bytes }
+        ensures printed { self.new.printed ≡ printed }
     {
-        self.printed
+        put(&mut self.printed, printed);
+    }
+
+    // What came of it, and its bytes.
+    fn into_parts(self) -> (PolarsResult<MemSink>, Vec<u8>)
+        ensures { result.0 ≡ self.printed }
+    {
+        (self.printed, self.bytes)
     }
 }
 
-// The bytes of the part at a place, of which no row is printed.
+// The bytes of the part at a place, of which no row is printed, in the memory that is given where that suffices.
 fn read_part<O: Opener>(
-    alloc: Global,
     opener: &mut O,
     part: &Part,
     place: usize,
+    room: Vec<u8>,
 ) -> Result<PartLines, MultiFault>
+    ensures unprinted { IfOk result (λ one. one.printed ≡ Err error.OutOfMemory) }
     ensures held { IfOk result (λ one. IsHeld (O.holds opener.old) (part.now, one.bytes.items)) }
     ensures refused { IfErr result (IsUnread (O.faults opener.old) (O.faults opener.new) place) }
     ensures later { O.faults opener.old ≤ O.faults opener.new }
     ensures stays { (other : List ℕ) → O.holds opener.new other ≡ O.holds opener.old other }
 {
-    match read_path(alloc, opener, part.path.as_str()) {
+    match read_path(opener, part.path.as_str(), room) {
         Ok(bytes) => Ok(PartLines {
             bytes,
             printed: Err(PolarsError::OutOfMemory),
@@ -149,37 +182,52 @@ fn read_part<O: Opener>(
     }
 }
 
-/// Reads the parts from a place on into a group, as many as one has, or fewer where so many are asked. Refuses the part behind them where it is
-/// not read, and want of memory.
+// Memory to read a part into.
+fn take_room(alloc: Global, rooms: &mut Vec<Vec<u8>>) -> Vec<u8> {
+    match rooms.pop() {
+        Some(room) => room,
+        None => Vec::new(alloc),
+    }
+}
+
+// Keeps memory to read another part into, where it is not large.
+fn give_room(rooms: &mut Vec<Vec<u8>>, room: Vec<u8>) {
+    if room.len() < LARGE {
+        let _ = rooms.push(room);
+    }
+}
+
+/// Reads the parts from a place on into a group of such a size. Refuses the part behind them where it is not read, and want of memory.
 pub(crate) fn read_group<O: Opener>(
     alloc: Global,
     opener: &mut O,
     parts: &[Part],
     first: usize,
-    most: usize,
+    least: GroupSize,
+    rooms: &mut Vec<Vec<u8>>,
     group: &mut Vec<PartLines>,
 ) -> Result<(), MultiFault>
     requires none { length group.old.items ≡ 0 }
-    requires first { first < length parts.now }
-    requires most { 0 < most }
+    requires first { first ≤ length parts.now }
     ensures read { AreRead (O.holds opener.old) parts.now first (map (λ one. one.bytes.items) group.new.items) }
-    ensures some { OnOk result (0 < length group.new.items) }
+    ensures unprinted { All (λ one. one.printed ≡ Err error.OutOfMemory) group.new.items }
+    ensures some { OnOk result (first < length parts.now → 0 < length group.new.items) }
     ensures within { first + length group.new.items ≤ length parts.now }
     ensures refused { IfErr result (IsUnread (O.faults opener.old) (O.faults opener.new) (first + length group.new.items)) }
     ensures behind { IfErr result (λ _. first + length group.new.items < length parts.now) }
     ensures later { O.faults opener.old ≤ O.faults opener.new }
     ensures stays { (other : List ℕ) → O.holds opener.new other ≡ O.holds opener.old other }
 {
-    let most = most.min(PARTS);
     let mut size: usize = 0;
     let mut place = first;
-    while place < parts.len() && place - first < most && size < BYTES {
-        let one = match read_part(alloc, opener, &parts[place], place) {
+    while place < parts.len() && (place == first || !least.is_met(place - first, size)) {
+        let room = take_room(alloc, rooms);
+        let one = match read_part(opener, &parts[place], place, room) {
             Ok(one) => one,
             Err(fault) => return Err(fault),
         };
         size = size.saturating_add(one.bytes.len());
-        if group.push(one).is_err() {
+        if push(group, one).is_err() {
             return Err(MultiFault::OutOfMemory);
         }
         place += 1;
@@ -187,41 +235,11 @@ pub(crate) fn read_group<O: Opener>(
     Ok(())
 }
 
-/// Prints the rows of each part of a group, the parts side by side.
-pub(crate) fn print_group<W: Threads + Wait + Sync>(
-    rt: &W,
-    alloc: Global,
-    workers: usize,
-    group: &mut [PartLines],
-    read: &CsvReadOptions,
-    single: &CsvReadOptions,
-    write: &CsvWriterOptions,
-)
-    requires workers { 0 < workers }
-    requires single { single.now ≡ for_one read.now }
-    requires given { IsSome read.now.schema }
-    requires allowed { MayRead read.now }
-    requires plain { read.now.row_index ≡ None }
-    requires head { HasNoHead write.now }
-    ensures { (i : ℕ) (d : PartLines) → i < length group.old
-        → IsPrintedOf read.now write.now (slice_index_or group.old i d).bytes.items (slice_index_or group.new i d).printed }
-{
-    let print = |_: usize, one: &mut PartLines|
-        requires sync { IsSync W.row }
-        requires single { single.now ≡ for_one read.now }
-        requires given { IsSome read.now.schema }
-        requires allowed { MayRead read.now }
-        requires plain { read.now.row_index ≡ None }
-        requires head { HasNoHead write.now }
-        ensures { IsPrintedOf read.entry.now write.entry.now one.old.bytes.items one.new.printed }
-    { one.print(rt, alloc, read, single, write) };
-    thread::for_each_mut(rt, group, workers, &print);
-}
-
-/// Puts the lines of the parts of a group, the first of which is at this place, behind those of the parts before. Refuses the first cause
+/// Puts the lines of the parts of a group, the first of which is at this place, behind those of the parts before, and keeps their memory. Refuses the first cause
 /// against a part, and want of memory.
 pub(crate) fn put_lines(
     lines: &mut Vec<MemSink>,
+    rooms: &mut Vec<Vec<u8>>,
     group: Vec<PartLines>,
     first: usize,
 ) -> Result<(), MultiFault>
@@ -234,14 +252,16 @@ pub(crate) fn put_lines(
     group.reverse();
     let mut place = first;
     while let Some(one) = group.pop() {
-        let sink = match one.into_printed() {
+        let (printed, room) = one.into_parts();
+        give_room(rooms, room);
+        let sink = match printed {
             Ok(sink) => sink,
             Err(fault) => {
                 drop(group);
                 return Err(part_fault(place, fault));
             }
         };
-        if lines.push(sink).is_err() {
+        if push(lines, sink).is_err() {
             drop(group);
             return Err(MultiFault::OutOfMemory);
         }

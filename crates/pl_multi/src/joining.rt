@@ -85,7 +85,7 @@ fn join_part<W: Threads + Wait + Sync, O: Opener>(
     ensures later { O.faults opener.old ≤ O.faults opener.new }
     ensures stays { (other : List ℕ) → O.holds opener.new other ≡ O.holds opener.old other }
 {
-    let bytes = match read_path(alloc, opener, part.path.as_str()) {
+    let bytes = match read_path(opener, part.path.as_str(), Vec::new(alloc)) {
         Ok(bytes) => bytes,
         Err(Unread::Failed) => return Err(MultiFault::Io { part: place }),
         Err(Unread::OutOfMemory) => return Err(MultiFault::OutOfMemory),

@@ -1,6 +1,7 @@
 //! Many files read as one: under one schema, one behind the other, numbered over all, and cut to a slice.
 #![tactic(auto)]
 
+mod beside;
 mod checking;
 mod groups;
 pub mod hive;

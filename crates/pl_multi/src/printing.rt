@@ -15,7 +15,8 @@ ghost use Rattle.pl_multi.specs.Printing.{IsPlain, have_codes, HasNoHead, ArePri
 ghost use Rattle.pl_multi.specs.Scan.{IsScanFault, no_rows};
 ghost use Rattle.pl_multi.specs.Words.{asked};
 
-use crate::groups::{for_one, print_group, put_lines, read_group};
+use crate::beside::{print_alone, print_beside};
+use crate::groups::{GroupSize, for_one, put_lines, read_group};
 use crate::multi_words::MultiJob;
 use crate::part::Part;
 use crate::scan::{MultiFault, check_scan, scan_multi};
@@ -86,14 +87,126 @@ fn without_head(write: &CsvWriterOptions) -> Result<CsvWriterOptions, AllocError
     Ok(lines)
 }
 
-// How many parts are read before they are printed, at most: by one worker each for itself.
-fn group_size(workers: usize) -> usize
-    ensures { 0 < result }
+// The lines of the rows of all parts, part by part, given the options for one worker alone too. Each is printed before the next one is read. Refuses
+// as `join_parts` does.
+fn print_in_turn<W: Threads + Wait + Sync, O: Opener>(
+    rt: &W,
+    alloc: Global,
+    opener: &mut O,
+    parts: &[Part],
+    read: &CsvReadOptions,
+    single: &CsvReadOptions,
+    write: &CsvWriterOptions,
+) -> Result<Vec<MemSink>, MultiFault>
+    requires single { single.now ≡ for_one read.now }
+    requires sound { IsSound read.now None parts.now }
+    requires plain { IsPlain read.now None parts.now }
+    requires head { HasNoHead write.now }
+    requires empty { IsFrame (no_rows read.now parts.now) }
+    ensures lines { IfOk result (λ lines. ArePrinted (O.holds opener.old) read.now write.now parts.now (length parts.now) (map (λ sink. sink.received) lines.items)) }
+    ensures refused { IfErr result (IsJoinFault (O.holds opener.old) (O.faults opener.old) (O.faults opener.new) read.now None parts.now) }
+    ensures later { O.faults opener.old ≤ O.faults opener.new }
+    ensures stays { (other : List ℕ) → O.holds opener.new other ≡ O.holds opener.old other }
 {
-    if workers > 1 { usize::MAX } else { 1 }
+    let mut lines = Vec::new(alloc);
+    let mut rooms = Vec::new(alloc);
+    let mut place = 0;
+    while place < parts.len() {
+        let mut group = Vec::new(alloc);
+        let size = GroupSize::one();
+        let all_read = read_group(alloc, opener, parts, place, size, &mut rooms, &mut group);
+        print_alone(rt, alloc, &mut group, read, single, write);
+        let count = group.len();
+        match put_lines(&mut lines, &mut rooms, group, place) {
+            Ok(()) => {}
+            Err(fault) => {
+                drop(all_read);
+                return Err(fault);
+            }
+        }
+        match all_read {
+            Ok(()) => place += count,
+            Err(fault) => return Err(fault),
+        }
+    }
+    Ok(lines)
 }
 
-// The lines of the rows of all parts, part by part, given the options for one worker alone too. Refuses as `join_parts` does.
+// The same, by so many workers: a group of parts is printed while the next one is read. The first one is shorter, so that they start soon.
+fn print_ahead<W: Threads + Wait + Sync, O: Opener>(
+    rt: &W,
+    alloc: Global,
+    workers: usize,
+    opener: &mut O,
+    parts: &[Part],
+    read: &CsvReadOptions,
+    single: &CsvReadOptions,
+    write: &CsvWriterOptions,
+) -> Result<Vec<MemSink>, MultiFault>
+    requires single { single.now ≡ for_one read.now }
+    requires sound { IsSound read.now None parts.now }
+    requires plain { IsPlain read.now None parts.now }
+    requires head { HasNoHead write.now }
+    requires empty { IsFrame (no_rows read.now parts.now) }
+    ensures lines { IfOk result (λ lines. ArePrinted (O.holds opener.old) read.now write.now parts.now (length parts.now) (map (λ sink. sink.received) lines.items)) }
+    ensures refused { IfErr result (IsJoinFault (O.holds opener.old) (O.faults opener.old) (O.faults opener.new) read.now None parts.now) }
+    ensures later { O.faults opener.old ≤ O.faults opener.new }
+    ensures stays { (other : List ℕ) → O.holds opener.new other ≡ O.holds opener.old other }
+{
+    let mut lines = Vec::new(alloc);
+    let mut rooms = Vec::new(alloc);
+    let mut group = Vec::new(alloc);
+    let mut place = 0;
+    let mut all_read = read_group(
+        alloc,
+        opener,
+        parts,
+        0,
+        GroupSize::of(workers),
+        &mut rooms,
+        &mut group,
+    );
+    while place < parts.len() {
+        let count = group.len();
+        let mut next = Vec::new(alloc);
+        let ahead = print_beside(
+            rt,
+            alloc,
+            workers,
+            opener,
+            parts,
+            place + count,
+            GroupSize::of(workers.saturating_mul(2)),
+            &mut rooms,
+            &mut group,
+            &mut next,
+            read,
+            single,
+            write,
+        );
+        match put_lines(&mut lines, &mut rooms, group, place) {
+            Ok(()) => {}
+            Err(fault) => {
+                drop(all_read);
+                drop(ahead);
+                return Err(fault);
+            }
+        }
+        match all_read {
+            Ok(()) => place += count,
+            Err(fault) => {
+                drop(ahead);
+                return Err(fault);
+            }
+        }
+        group = next;
+        all_read = ahead;
+    }
+    drop(all_read);
+    Ok(lines)
+}
+
+// The same, by as many workers as the options say.
 fn print_each<W: Threads + Wait + Sync, O: Opener>(
     rt: &W,
     alloc: Global,
@@ -114,27 +227,10 @@ fn print_each<W: Threads + Wait + Sync, O: Opener>(
     ensures stays { (other : List ℕ) → O.holds opener.new other ≡ O.holds opener.old other }
 {
     let workers = worker_count(read.n_threads);
-    let most = group_size(workers);
-    let mut lines = Vec::new(alloc);
-    let mut place = 0;
-    while place < parts.len() {
-        let mut group = Vec::new(alloc);
-        let all_read = read_group(alloc, opener, parts, place, most, &mut group);
-        print_group(rt, alloc, workers, &mut group, read, single, write);
-        let count = group.len();
-        match put_lines(&mut lines, group, place) {
-            Ok(()) => {}
-            Err(fault) => {
-                drop(all_read);
-                return Err(fault);
-            }
-        }
-        match all_read {
-            Ok(()) => place += count,
-            Err(fault) => return Err(fault),
-        }
+    if workers == 1 {
+        return print_in_turn(rt, alloc, opener, parts, read, single, write);
     }
-    Ok(lines)
+    print_ahead(rt, alloc, workers, opener, parts, read, single, write)
 }
 
 // What was read of all parts, whose columns these are, printed part by part. Refuses the first cause against them, and want of memory.

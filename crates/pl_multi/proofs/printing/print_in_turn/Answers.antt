@@ -6,7 +6,7 @@ use Rattle.pl_multi.specs.Printing.{ArePrinted}
 use Rattle.pl_multi.specs.declared.groups.PartLines.{PartLines}
 use Rattle.pl_multi.proofs.GroupLaws.{bytes_of, printed_of, printed-from, group-printed, group-fault, unread-behind}
 use Rattle.pl_multi.proofs.PrintingLaws.{printed-none}
-use Rattle.pl_multi.proofs.printing.print_each.Goals as goal
+use Rattle.pl_multi.proofs.printing.print_in_turn.Goals as goal
 
 pub loop-place-init : goal.loop-place-init
 loop-place-init g c =
@@ -31,10 +31,10 @@ returns-in-Err-clause-refused g c =
     let write = c.args.write.now in
     let parts = c.args.parts.now in
     let place = c.loop-place.place in
-    let new = c.print_group.new.group in
-    let sizes : length new ≡ length c.deref_mut.result.now = omega (arith, c.print_group.auto.group) in
-    let are = subst (λ (group : List PartLines). AreRead later_holds parts place (bytes_of group)) (sym c.deref_mut.ensures.value) c.read_group-all_read.ensures.read in
-    let came = printed-from later_holds read write parts place c.deref_mut.result.now new sizes c.print_group.ensures are in
+    let new = c.print_alone.new.group in
+    let sizes : length new ≡ length c.deref_mut.result.now = omega (arith, c.print_alone.auto.group) in
+    let are = subst (AreRead later_holds parts place) (sym (c.print_alone.ensures.same ∙ ap bytes_of c.deref_mut.ensures.value)) c.read_group-all_read.ensures.read in
+    let came = printed-from later_holds read write parts place new c.print_alone.ensures.printed are in
     let same = with_items_is c.read_group-all_read.new.group new (omega (arith, sizes, c.deref_mut.ensures.len)) in
     group-fault holds later_holds l.stays read write parts c.requires.sound c.requires.plain place c.loop-place.lines.items (printed_of new) l.printed came
     (g.O.Opener.faults c.args.opener.now) (g.O.Opener.faults c.loop-place.opener) (g.O.Opener.faults c.read_group-all_read.new.opener) c.in-Err.fault l.later
@@ -50,10 +50,10 @@ loop-place-preserved g c =
     let parts = c.args.parts.now in
     let place = c.loop-place.place in
     let lines = c.loop-place.lines.items in
-    let new = c.print_group.new.group in
-    let sizes : length new ≡ length c.deref_mut.result.now = omega (arith, c.print_group.auto.group) in
-    let are = subst (λ (group : List PartLines). AreRead later_holds parts place (bytes_of group)) (sym c.deref_mut.ensures.value) c.read_group-all_read.ensures.read in
-    let came = printed-from later_holds read write parts place c.deref_mut.result.now new sizes c.print_group.ensures are in
+    let new = c.print_alone.new.group in
+    let sizes : length new ≡ length c.deref_mut.result.now = omega (arith, c.print_alone.auto.group) in
+    let are = subst (AreRead later_holds parts place) (sym (c.print_alone.ensures.same ∙ ap bytes_of c.deref_mut.ensures.value)) c.read_group-all_read.ensures.read in
+    let came = printed-from later_holds read write parts place new c.print_alone.ensures.printed are in
     let same = with_items_is c.read_group-all_read.new.group new (omega (arith, sizes, c.deref_mut.ensures.len)) in
     let count : length (printed_of new) ≡ c.len-count.result = omega (arith, length-map new (λ (one : PartLines). one.printed), sizes, c.deref_mut.ensures.len, c.len-count.ensures) in
     let given : c.put_lines.new.lines.items ≡ lines ++ sinks_of (printed_of new) = c.in-Ok.ensures.lines ∙ ap (λ (group : List PartLines). lines ++ sinks_of (printed_of group)) same in
@@ -76,10 +76,10 @@ returns-in-Err-all_read-clause-refused g c =
     let parts = c.args.parts.now in
     let place = c.loop-place.place in
     let lines = c.loop-place.lines.items in
-    let new = c.print_group.new.group in
-    let sizes : length new ≡ length c.deref_mut.result.now = omega (arith, c.print_group.auto.group) in
-    let are = subst (λ (group : List PartLines). AreRead later_holds parts place (bytes_of group)) (sym c.deref_mut.ensures.value) c.read_group-all_read.ensures.read in
-    let came = printed-from later_holds read write parts place c.deref_mut.result.now new sizes c.print_group.ensures are in
+    let new = c.print_alone.new.group in
+    let sizes : length new ≡ length c.deref_mut.result.now = omega (arith, c.print_alone.auto.group) in
+    let are = subst (AreRead later_holds parts place) (sym (c.print_alone.ensures.same ∙ ap bytes_of c.deref_mut.ensures.value)) c.read_group-all_read.ensures.read in
+    let came = printed-from later_holds read write parts place new c.print_alone.ensures.printed are in
     let same = with_items_is c.read_group-all_read.new.group new (omega (arith, sizes, c.deref_mut.ensures.len)) in
     let more = group-printed holds later_holds l.stays read write parts c.requires.sound c.requires.plain place lines (printed_of new) l.printed came (subst (λ (group : List PartLines). first_refusal place (printed_of group) ≡ None) same c.in-Ok.ensures.sound) in
     let count : length c.read_group-all_read.new.group.items ≡ length (printed_of new) = omega (arith, length-map new (λ (one : PartLines). one.printed), sizes, ap length c.deref_mut.ensures.value) in

@@ -237,12 +237,15 @@ module _ (o : CsvReadOptions) where
     rows-go : (l : List ℕ) → Goes m comment (λ b. option_and_then (behind_header o) (pass_items m comment o.skip_rows b)) l
     rows-go l = goes-on m comment (pass_items m comment o.skip_rows) (behind_header o) l (items-go m comment apart.prefix o.skip_rows l) tail-go tail-stuck
 
-    rows-stuck : (l : List ℕ) → IsBroken m comment l → IsStuck m comment (option_and_then (behind_header o) (pass_items m comment o.skip_rows l))
-    rows-stuck l none = by (pass_items m comment o.skip_rows l) (items-stuck m comment apart.prefix o.skip_rows l none)
+    pub stuck-items : (n : ℕ) (l : List ℕ) → IsBroken m comment l → IsStuck m comment (option_and_then (behind_header o) (pass_items m comment n l))
+    stuck-items n l none = by (pass_items m comment n l) (items-stuck m comment apart.prefix n l none)
       where
         by : (given : Option (List ℕ)) → IsStuck m comment given → IsStuck m comment (option_and_then (behind_header o) given)
         by None none = tt
         by (Some b) none = tail-stuck b none
+
+    rows-stuck : (l : List ℕ) → IsBroken m comment l → IsStuck m comment (option_and_then (behind_header o) (pass_items m comment o.skip_rows l))
+    rows-stuck l none = stuck-items o.skip_rows l none
 
     -- the data of bytes whose head is told stay in front of whatever follows, or nothing whole is left
     pub data-goes : (b : List ℕ) → tells_head o b ≡ true → Goes m comment (data_of o) b

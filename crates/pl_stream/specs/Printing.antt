@@ -1,6 +1,8 @@
 -- Rows of a stream that are read and printed; only the proofs of the code need this.
 use Rattle.std.specs.Prelude.{◌≡◌, ℕ, ◌+◌, ◌<◌, true, List, [], ◌∷◌, ◌++◌, length, take, Option, Some, None}
 use Rattle.pl_frame.specs.declared.error.PolarsError.{PolarsError}
+use Rattle.pl_frame.specs.declared.data_type.DataType.TheVariants as dtype
+use Rattle.pl_frame.specs.Frame.{Letters, ColumnValue, names_of}
 use Rattle.pl_frame.specs.Schema.{Entry}
 use Rattle.pl_options.specs.declared.read_options.CsvReadOptions.{CsvReadOptions}
 use Rattle.pl_options.specs.FirstCause.{IsFirstCause, first_some}
@@ -16,7 +18,7 @@ use Rattle.pl_rows.specs.Plan.{rules_of as plan_rules}
 use Rattle.pl_scan.specs.Dialect as scan
 use Rattle.pl_seek.specs.Parts.{fault_in_rows}
 use Rattle.pl_table.specs.Rows.{Row, rows}
-use Rattle.pl_text.specs.FrameText.{WriteOptions}
+use Rattle.pl_text.specs.FrameText.{WriteOptions, head_text}
 use Rattle.pl_verbatim.specs.PrintedTexts.{IsFrontPrinted}
 use Rattle.pl_write.specs.Batches.{all_lines}
 use Rattle.pl_write.specs.Options.{frame_options}
@@ -25,6 +27,7 @@ use Rattle.pl_stream.specs.declared.fault.StreamFault.{StreamFault}
 use Rattle.pl_stream.specs.declared.fault.StreamFault.TheVariants as fault
 use Rattle.pl_stream.specs.declared.whole.Whole.{Whole}
 use Rattle.pl_stream.specs.Options.{first_categorical}
+use Rattle.pl_stream.specs.Settled.{frame_of_first}
 use Rattle.pl_stream.specs.Whole.{IsWholeFront, IsWholeEnd}
 
 -- what rows of a stream are read by
@@ -59,6 +62,14 @@ IsRowsFault first fault.OutOfMemory = Unit {0}
 IsRowsFault first _ = ⊥
 
 -- ---- their text
+
+-- a name as a column of one text
+abbrev pub name_column : List ℕ → ColumnValue
+name_column name = record { name = name; dtype = dtype.String; values = Some (Letters name) ∷ [] }
+
+-- what stands before the rows
+abbrev pub stream_head : CsvReadOptions → CsvWriterOptions → List ℕ
+stream_head o write = head_text (frame_options write) (names_of (frame_of_first o []))
 
 -- the lines of rows behind so many others
 abbrev pub lines_behind : CsvReadOptions → CsvWriterOptions → ℕ → List Row → List ℕ

@@ -7,6 +7,7 @@ mod cuts;
 mod ending;
 pub mod fault;
 mod head;
+mod heading;
 pub mod laws;
 pub mod place;
 mod printing;

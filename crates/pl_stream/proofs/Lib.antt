@@ -11,3 +11,4 @@ pub mod PrintLaws
 pub mod StandLaws
 pub mod HeadingLaws
 pub mod BoundLaws
+pub mod StepLaws

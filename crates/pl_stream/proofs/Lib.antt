@@ -12,3 +12,4 @@ pub mod StandLaws
 pub mod HeadingLaws
 pub mod BoundLaws
 pub mod StepLaws
+pub mod SettlingLaws

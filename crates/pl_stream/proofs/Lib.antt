@@ -1,2 +1,15 @@
-mod NewLaws
-mod OptionLaws
+pub mod OptionLaws
+pub mod NewLaws
+pub mod WholeLaws
+pub mod HeadLaws
+pub mod WholeItemLaws
+pub mod StayLaws
+pub mod SettledLaws
+pub mod TextLaws
+pub mod ReadingLaws
+pub mod PrintLaws
+pub mod StandLaws
+pub mod HeadingLaws
+pub mod BoundLaws
+pub mod StepLaws
+pub mod SettlingLaws

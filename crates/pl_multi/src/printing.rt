@@ -132,7 +132,16 @@ fn print_in_turn<W: Threads + Wait + Sync, O: Opener>(
     Ok(lines)
 }
 
-// The same, by so many workers: a group of parts is printed while the next one is read. The first one is shorter, so that they start soon.
+// Where the next group begins: behind this one, or behind all parts where one of this one was not read.
+fn next_place(all_read: &Result<(), MultiFault>, behind: usize, all: usize) -> usize
+    ensures behind { OnOk all_read.now (result ≡ behind) }
+    ensures within { behind ≤ all → result ≤ all }
+{
+    if all_read.is_ok() { behind } else { all }
+}
+
+// The same, by so many workers: a group of parts is printed while the next one is read. The first one is shorter, so that they start soon. Behind a part
+// that was not read nothing is opened.
 fn print_ahead<W: Threads + Wait + Sync, O: Opener>(
     rt: &W,
     alloc: Global,
@@ -168,6 +177,7 @@ fn print_ahead<W: Threads + Wait + Sync, O: Opener>(
     );
     while place < parts.len() {
         let count = group.len();
+        let behind = next_place(&all_read, place + count, parts.len());
         let mut next = Vec::new(alloc);
         let ahead = print_beside(
             rt,
@@ -175,7 +185,7 @@ fn print_ahead<W: Threads + Wait + Sync, O: Opener>(
             workers,
             opener,
             parts,
-            place + count,
+            behind,
             GroupSize::of(workers.saturating_mul(2)),
             &mut rooms,
             &mut group,

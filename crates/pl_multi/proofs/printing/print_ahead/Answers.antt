@@ -1,9 +1,11 @@
 use Rattle.std.proofs.Common.{◌≡◌, [], ◌++◌, ◌+◌, ◌<◌, None, List, map, length, refl, ◌∙◌, sym, ap, subst, arith, rules}
+use Rattle.std.specs.Prelude.{Result, OnOk, IfErr}
 use Rattle.std.proofs.lemmas.List.{with_items_is, length-map}
 use Rattle.pl_frame.specs.Outside.{Writing}
 use Rattle.pl_multi.specs.Groups.{AreRead, IsUnread, IsFirstRefusal, sinks_of, first_refusal}
 use Rattle.pl_multi.specs.Printing.{ArePrinted}
 use Rattle.pl_multi.specs.declared.groups.PartLines.{PartLines}
+use Rattle.pl_multi.specs.declared.scan.MultiFault.{MultiFault}
 use Rattle.pl_multi.proofs.GroupLaws.{bytes_of, printed_of, printed-from, read-same, group-printed, group-fault, unread-behind, unread-since, err-at}
 use Rattle.pl_multi.proofs.PrintingLaws.{printed-none}
 use Rattle.pl_multi.proofs.printing.print_ahead.Goals as goal
@@ -93,17 +95,20 @@ loop-place-preserved g c =
     let before = g.O.Opener.faults c.loop-place.opener in
     let now = g.O.Opener.faults c.print_beside-ahead.new.opener in
     let behind = place + c.len-count.result in
+    let at : c.next_place-behind.result ≡ behind = subst (λ (r : Result (Unit {0}) MultiFault). OnOk r (c.next_place-behind.result ≡ behind)) c.in-Ok-all_read.is c.next_place-behind.ensures.behind in
+    let came_next = bytes_of c.print_beside-ahead.new.next_group.items in
     let given : c.put_lines.new.lines.items ≡ lines ++ sinks_of (printed_of new) = c.in-Ok.ensures.lines ∙ ap (λ (group : List PartLines). lines ++ sinks_of (printed_of group)) same in
     let more = group-printed holds holds (λ other. refl) read write parts c.requires.sound c.requires.plain place lines (printed_of new) l.printed came (subst (λ (group : List PartLines). first_refusal place (printed_of group) ≡ None) same c.in-Ok.ensures.sound) in
     record {
       printed = subst (λ (sinks : List Writing). ArePrinted holds read write parts behind (map (λ (sink : Writing). sink.received) sinks)) (sym given)
           (subst (λ n. ArePrinted holds read write parts (place + n) (map (λ (sink : Writing). sink.received) (lines ++ sinks_of (printed_of new)))) count more);
-      read = read-same holds (g.O.Opener.holds c.loop-place.opener) l.stays parts behind (bytes_of c.print_beside-ahead.new.next_group.items) ahead.read;
+      read = read-same holds (g.O.Opener.holds c.loop-place.opener) l.stays parts behind came_next (subst (λ n. AreRead (g.O.Opener.holds c.loop-place.opener) parts n came_next) at ahead.read);
       unprinted = ahead.unprinted;
-      some = ahead.some;
-      within = ahead.within;
-      refused = unread-since c.print_beside-ahead.result first before now now (behind + length c.print_beside-ahead.new.next_group.items) l.later (omega arith) ahead.refused;
-      last = ahead.last;
+      some = subst (λ n. OnOk c.print_beside-ahead.result (n < length parts → 0 < length c.print_beside-ahead.new.next_group.items)) at ahead.some;
+      within = omega (arith, at, ahead.within);
+      refused = unread-since c.print_beside-ahead.result first before now now (behind + length c.print_beside-ahead.new.next_group.items) l.later (omega arith)
+          (subst (λ n. IfErr c.print_beside-ahead.result (IsUnread before now (n + length c.print_beside-ahead.new.next_group.items))) at ahead.refused);
+      last = subst (λ n. IfErr c.print_beside-ahead.result (λ _. n + length c.print_beside-ahead.new.next_group.items < length parts)) at ahead.last;
       later = omega (arith, l.later, ahead.later);
       stays = λ other. ahead.stays other ∙ l.stays other;
     }

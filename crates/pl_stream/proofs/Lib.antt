@@ -1,2 +1,4 @@
 mod NewLaws
 mod OptionLaws
+mod WholeLaws
+mod HeadLaws

@@ -3,6 +3,12 @@
 #![tactic(auto)]
 
 mod checking;
+mod cuts;
+mod ending;
 pub mod fault;
+pub mod feeding;
+mod head;
 pub mod place;
+mod printing;
 pub mod state;
+mod whole;

@@ -10,6 +10,7 @@ use pl_frame::error::{ComputeFault, NoDataFault};
 use pl_options::read_options::CsvReadOptions;
 use pl_read::settle_given::Settled;
 use pl_write::options::CsvWriterOptions;
+use pl_write::row_printer::RowPrinter;
 use std::alloc::Global;
 use std::marker::Model;
 
@@ -24,15 +25,16 @@ pub(crate) enum KeptFault {
 /// records were settled, the fault that a call answered, and whether the input ended.
 #[derive(Drop)]
 pub struct StreamState {
-    alloc: Global,
-    read: CsvReadOptions,
-    write: CsvWriterOptions,
-    settled: Settled,
-    kept: Vec<u8>,
-    place: Place,
-    rows: usize,
-    fault: Option<KeptFault>,
-    is_finished: bool,
+    pub(crate) alloc: Global,
+    pub(crate) read: CsvReadOptions,
+    pub(crate) write: CsvWriterOptions,
+    pub(crate) settled: Settled,
+    pub(crate) kept: Vec<u8>,
+    pub(crate) place: Place,
+    pub(crate) rows: usize,
+    pub(crate) fault: Option<KeptFault>,
+    pub(crate) is_finished: bool,
+    pub(crate) printer: RowPrinter,
 }
 
 impl Model for StreamState {
@@ -88,6 +90,12 @@ impl StreamState {
             drop(settled);
             return Err(StreamFault::OutOfMemory);
         };
+        let Ok(printer) = RowPrinter::new(alloc) else {
+            drop(write);
+            drop(read);
+            drop(settled);
+            return Err(StreamFault::OutOfMemory);
+        };
         Ok(StreamState {
             alloc,
             read,
@@ -98,6 +106,7 @@ impl StreamState {
             rows: 0,
             fault: None,
             is_finished: false,
+            printer,
         })
     }
 

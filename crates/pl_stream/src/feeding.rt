@@ -1,0 +1,180 @@
+//! Bytes that come to a state, and their end.
+ghost use Rattle.std.specs.Prelude.{◌≡◌, ◌<◌, ◌^◌, ◌++◌, ℕ, List, None, false, true, length, OnOk, IfErr, OnErr};
+ghost use Rattle.pl_stream.specs.Feeding.{feed_cause, finish_cause, IsFed, IsFinished, IsStreamFault};
+ghost use Rattle.pl_stream.specs.Stream.{StandsFor};
+
+use crate::ending::data_at;
+use crate::fault::StreamFault;
+use crate::head::advance;
+use crate::place::Place;
+use crate::printing::{left_limit, print_records, push_head, push_lines};
+use crate::state::{KeptFault, StreamState};
+use pl_frame::compression::is_compressed;
+use pl_frame::error::{ComputeFault, NoDataFault, PolarsError};
+
+// What a call makes of a state: how many bytes are let go, where the others are read on, and how many records were settled.
+#[derive(Clone, Copy)]
+struct Step {
+    at: usize,
+    place: Place,
+    rows: usize,
+}
+
+// The refusal of a compressed input.
+fn compressed() -> StreamFault {
+    StreamFault::Polars(PolarsError::ComputeError(ComputeFault::Compressed))
+}
+
+impl StreamState {
+    /// Takes the next bytes of the input, and appends what the settled text has by them.
+    pub fn feed(&mut self, piece: &[u8], text: &mut Vec<u8>) -> Result<(), StreamFault>
+        requires open { self.old.is_finished ≡ false }
+        ensures fed { (bytes : List ℕ) → StandsFor self.old bytes → length (bytes ++ piece.now) < 2 ^ 64 → OnOk result (IsFed self.old self.new bytes piece.now text.old.items text.new.items) }
+        ensures sound { OnOk result (self.old.fault ≡ None) }
+        ensures refused { (bytes : List ℕ) → StandsFor self.old bytes → length (bytes ++ piece.now) < 2 ^ 64 → IfErr result (IsStreamFault self.old self.new (feed_cause self.old.read (bytes ++ piece.now))) }
+        ensures silent { OnErr result (text.new.items ≡ text.old.items) }
+        ensures open { self.new.is_finished ≡ false }
+    {
+        if let Some(fault) = self.fault {
+            return Err(fault_of_kept(fault));
+        }
+        let held = self.kept.len();
+        if self.kept.extend_from_slice(piece).is_err() {
+            return Err(StreamFault::OutOfMemory);
+        }
+        let before = text.len();
+        match self.settle(text) {
+            Ok(step) => {
+                self.let_go(step.at);
+                self.place = step.place;
+                self.rows = step.rows;
+                Ok(())
+            }
+            Err(fault) => {
+                text.truncate(before);
+                self.kept.truncate(held);
+                self.keep(&fault);
+                Err(fault)
+            }
+        }
+    }
+
+    /// Takes the end of the input, and appends what its text has behind the settled text.
+    pub fn finish(&mut self, text: &mut Vec<u8>) -> Result<(), StreamFault>
+        requires open { self.old.is_finished ≡ false }
+        ensures finished { (bytes : List ℕ) → StandsFor self.old bytes → OnOk result (IsFinished self.old self.new bytes text.old.items text.new.items) }
+        ensures sound { OnOk result (self.old.fault ≡ None) }
+        ensures refused { (bytes : List ℕ) → StandsFor self.old bytes → IfErr result (IsStreamFault self.old self.new (finish_cause self.old.read bytes)) }
+        ensures silent { OnErr result (text.new.items ≡ text.old.items) }
+    {
+        if let Some(fault) = self.fault {
+            return Err(fault_of_kept(fault));
+        }
+        let before = text.len();
+        match self.print_end(text) {
+            Ok(()) => {
+                self.is_finished = true;
+                Ok(())
+            }
+            Err(fault) => {
+                text.truncate(before);
+                self.keep(&fault);
+                Err(fault)
+            }
+        }
+    }
+
+    // Lets the first bytes go that are kept.
+    fn let_go(&mut self, count: usize) {
+        let left = self.kept.len() - count;
+        self.kept.copy_within(count.., 0);
+        self.kept.truncate(left);
+    }
+
+    // Keeps a fault of the input.
+    fn keep(&mut self, fault: &StreamFault) {
+        match fault {
+            StreamFault::Polars(PolarsError::ComputeError(fault)) => {
+                self.fault = Some(KeptFault::Compute(*fault));
+            }
+            StreamFault::Polars(PolarsError::NoData(fault)) => {
+                self.fault = Some(KeptFault::NoData(*fault));
+            }
+            _ => (),
+        }
+    }
+
+    // Appends the text of the records that are settled now.
+    fn settle(&mut self, text: &mut Vec<u8>) -> Result<Step, StreamFault> {
+        if self.place == Place::Start && self.kept.len() >= 4 && is_compressed(&self.kept) {
+            return Err(compressed());
+        }
+        let reached = advance(&self.kept, &self.read, self.place);
+        let mut step = Step {
+            at: reached.at,
+            place: reached.place,
+            rows: self.rows,
+        };
+        if step.place == Place::Records {
+            let before = text.len();
+            if self.rows == 0 {
+                push_head(self.alloc, &self.read, &self.settled, &self.write, text)?;
+            }
+            let whole = print_records(
+                self.alloc,
+                &self.kept[step.at..],
+                &mut self.printer,
+                &self.read,
+                &self.settled,
+                &self.write,
+                self.rows,
+                text,
+            )?;
+            step.at += whole.end;
+            step.rows += whole.rows;
+            if step.rows == 0 {
+                text.truncate(before);
+            }
+            if left_limit(self.read.n_rows, step.rows) == Some(0) {
+                step.place = Place::Full;
+            }
+        }
+        if step.place == Place::Full {
+            step.at = self.kept.len();
+        }
+        Ok(step)
+    }
+
+    // Appends the text of the records that are not settled.
+    fn print_end(&mut self, text: &mut Vec<u8>) -> Result<(), StreamFault> {
+        if self.place == Place::Start && is_compressed(&self.kept) {
+            return Err(compressed());
+        }
+        let Some(records) = data_at(&self.kept, &self.read, self.place) else {
+            return Err(StreamFault::Polars(PolarsError::NoData(NoDataFault::Skip)));
+        };
+        if self.rows == 0 {
+            push_head(self.alloc, &self.read, &self.settled, &self.write, text)?;
+        }
+        let limit = left_limit(self.read.n_rows, self.rows);
+        push_lines(
+            self.alloc,
+            records,
+            &mut self.printer,
+            &self.read,
+            &self.settled,
+            &self.write,
+            self.rows,
+            limit,
+            text,
+        )
+    }
+}
+
+// The fault that is kept, once more.
+fn fault_of_kept(fault: KeptFault) -> StreamFault {
+    match fault {
+        KeptFault::Compute(fault) => StreamFault::Polars(PolarsError::ComputeError(fault)),
+        KeptFault::NoData(fault) => StreamFault::Polars(PolarsError::NoData(fault)),
+    }
+}

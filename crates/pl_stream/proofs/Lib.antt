@@ -1,4 +1,10 @@
-mod NewLaws
-mod OptionLaws
-mod WholeLaws
-mod HeadLaws
+pub mod OptionLaws
+pub mod NewLaws
+pub mod WholeLaws
+pub mod HeadLaws
+pub mod WholeItemLaws
+pub mod StayLaws
+pub mod SettledLaws
+pub mod TextLaws
+pub mod ReadingLaws
+pub mod PrintLaws

@@ -18,7 +18,7 @@ pub drop-one : (n x : ℕ) (xs : List ℕ) → drop (1 + n) (x ∷ xs) ≡ drop 
 drop-one n x xs = let one : 1 + n ≡ suc n = omega arith in ap (λ k. drop k (x ∷ xs)) one
 
 -- a line end stands at a place
-abbrev IsCut : ℕ → ℕ → List ℕ → Type 0
+abbrev pub IsCut : ℕ → ℕ → List ℕ → Type 0
 IsCut e k b = (t : List ℕ) × (drop k b ≡ e ∷ t)
 
 cut-line : (e : ℕ) (b : List ℕ) → prefix_len (λ x. not (x == e)) b < length b → IsCut e (prefix_len (λ x. not (x == e)) b) b
@@ -38,7 +38,7 @@ cut-line e (x ∷ xs) h = by (x == e) refl h (cut-line e xs)
 abbrev item_by : Bool → Marks → List ℕ → ItemText
 item_by t m b = cond t (CommentText (take_while (λ x. not (x == m.line_end)) b)) (RecordText (take (extent m b) b))
 
-cut-item : (m : Marks) (comment : Option (List ℕ)) (b : List ℕ) → length (text_of (item m comment b)) < length b → IsCut m.line_end (length (text_of (item m comment b))) b
+pub cut-item : (m : Marks) (comment : Option (List ℕ)) (b : List ℕ) → length (text_of (item m comment b)) < length b → IsCut m.line_end (length (text_of (item m comment b))) b
 cut-item m comment b within = by (is_comment comment b) within
   where
     by : (t : Bool) → length (text_of (item_by t m b)) < length b → IsCut m.line_end (length (text_of (item_by t m b))) b
@@ -58,7 +58,7 @@ pub record IsSplit (e : ℕ) (b front behind : List ℕ) : Type 0 where
   pub ended : IsEnded e front
   pub some : 0 < length front
 
-split-item : (m : Marks) (comment : Option (List ℕ)) (b : List ℕ) → length (text_of (item m comment b)) < length b → (front behind : List ℕ) × IsSplit m.line_end b front behind
+pub split-item : (m : Marks) (comment : Option (List ℕ)) (b : List ℕ) → length (text_of (item m comment b)) < length b → (front behind : List ℕ) × IsSplit m.line_end b front behind
 split-item m comment b within =
     let k : ℕ = length (text_of (item m comment b)) in
     let cut = cut-item m comment b within in (

@@ -72,6 +72,9 @@ whole_text o write b = text_of_frame (frame_options write) (frame_of o (given_sc
 
 -- bytes were accepted: the state stands for them too, and what the settled text has by them was appended
 pub record IsFed (old new : Stream) (b piece text now : List ℕ) : Type 0 where
+  pub read_is : new.read ≡ old.read
+  pub write_is : new.write ≡ old.write
+  pub none : new.fault ≡ None
   pub stands : StandsFor new (b ++ piece)
   pub sound : feed_cause old.read (b ++ piece) ≡ None
   pub appended : now ≡ text ++ behind_settled old.read old.write b (settled_text old.read old.write (b ++ piece))

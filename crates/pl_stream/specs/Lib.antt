@@ -3,4 +3,7 @@ pub mod Settled
 pub mod Stream
 pub mod Kept
 pub mod Head
+pub mod Whole
+pub mod Printing
 pub mod Feeding
+pub mod Laws

@@ -17,8 +17,8 @@ use pl_read::settle_given::{Settled, settle_given};
 use pl_write::options::CsvWriterOptions;
 use std::alloc::Global;
 
-// The refusal of a stream for a cause against its options, or want of memory.
-fn fault_of(fault: PolarsError) -> StreamFault
+/// The refusal of a stream for a cause, or want of memory.
+pub(crate) fn fault_of(fault: PolarsError) -> StreamFault
     ensures { result ≡ fault_of fault }
 {
     match fault {

@@ -156,7 +156,10 @@ impl StreamState {
         if self.rows == 0 {
             push_head(self.alloc, &self.read, &self.settled, &self.write, text)?;
         }
-        let limit = left_limit(self.read.n_rows, self.rows);
+        let count = match left_limit(self.read.n_rows, self.rows) {
+            Some(limit) => limit,
+            None => records.len(),
+        };
         push_lines(
             self.alloc,
             records,
@@ -165,7 +168,7 @@ impl StreamState {
             &self.settled,
             &self.write,
             self.rows,
-            limit,
+            count,
             text,
         )
     }

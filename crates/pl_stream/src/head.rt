@@ -13,9 +13,10 @@ use crate::place::Place;
 use memchr::memchr;
 use pl_options::parse_options::CsvParseOptions;
 use pl_options::read_options::CsvReadOptions;
+use pl_read::preparing::keeps_ends;
 use pl_scan::comment::is_comment_line;
 use pl_scan::items::record_len;
-use pl_scan::start::skip_bom;
+use pl_scan::start::{skip_bom, without_ends};
 
 /// Where bytes are read on, and from which of them on.
 #[derive(Clone, Copy, Debug, PartialEq, Eq)]
@@ -55,30 +56,6 @@ pub(crate) fn whole_item(bytes: &[u8], options: &CsvParseOptions) -> Option<usiz
     } else {
         None
     }
-}
-
-/// Whether leading line ends are kept.
-pub(crate) fn keeps_ends(options: &CsvReadOptions) -> bool
-    ensures { result ≡ keeps_ends options.now }
-{
-    match &options.schema {
-        Some(schema) => schema.len() <= 1,
-        None => false,
-    }
-}
-
-/// What stands behind the line ends and carriage returns at the front.
-pub(crate) fn without_ends(bytes: &[u8], eol_char: u8) -> &[u8]
-    ensures { result.now ≡ cut_ends eol_char bytes.now }
-{
-    let mut rest = bytes;
-    while let [first, others @ ..] = rest {
-        if *first != eol_char && *first != b'\r' {
-            return rest;
-        }
-        rest = others;
-    }
-    rest
 }
 
 // How many line ends and carriage returns stand at the front.

@@ -1,91 +1,53 @@
 //! The lines of records of a stream.
+ghost use Rattle.std.specs.Prelude.{◌≡◌, ◌≤◌, ◌<◌, ◌+◌, ◌^◌, ◌++◌, ℕ, List, length, map, take, None, Some, IfOk, OnOk, IfErr, IfSome, IsOkUnless};
+ghost use Rattle.std.specs.Cow.{cow_slice_items};
+ghost use Rattle.std.specs.List.{concat};
+ghost use Rattle.pl_frame.specs.Frame.{IsFrame, names_of};
+ghost use Rattle.pl_frame.specs.Schema.{names_in};
+ghost use Rattle.pl_frame.specs.declared.error.PolarsError.TheVariants as error;
+ghost use Rattle.pl_text.specs.FrameText.{head_text};
+ghost use Rattle.pl_read.specs.Refusals.{numbers_past};
+ghost use Rattle.pl_rows.specs.Pieces.{left_limit};
+ghost use Rattle.pl_verbatim.specs.PrintedTexts.{CanPrint};
+ghost use Rattle.pl_verbatim.specs.Verbatim.{IsVerbatimOf};
+ghost use Rattle.pl_write.specs.Options.{cell_options, frame_options};
+ghost use Rattle.pl_stream.specs.declared.fault.StreamFault.TheVariants as fault;
+ghost use Rattle.pl_stream.specs.Printing.{CanStream, IsRowsFault, IsPrintedOn, AreRowsPrinted, IsPrintFault, first_rows, rows_cause, lines_behind, stream_head};
+ghost use Rattle.pl_stream.specs.Whole.{IsWholeEnd};
 
 use crate::cuts::{guess_end, last_end};
 use crate::fault::StreamFault;
+use crate::reading::{frame_behind, plan_in};
 use crate::whole::{Whole, whole_records};
 use pl_frame::column::Column;
 use pl_frame::data_type::DataType;
-use pl_frame::error::{ComputeFault, FaultKind, PolarsError, PolarsResult};
-use pl_frame::frame::DataFrame;
+use pl_frame::error::PolarsResult;
 use pl_frame::name::PlSmallStr;
 use pl_frame::schema::Schema;
 use pl_frame::sink::MemSink;
 use pl_options::read_options::CsvReadOptions;
-use pl_read::indexing::with_index_behind;
 use pl_read::settle_given::Settled;
 use pl_read::workers::piece_size_for;
 use pl_regions::front::print_text;
-use pl_rows::columns::read_columns;
-use pl_rows::plan::{Projection, RangePlan, RowOptions};
-use pl_rows::range::RangeEnd;
+use pl_rows::plan::RangePlan;
 use pl_verbatim::verbatim::Verbatim;
 use pl_write::csv_writer::{CsvWriter, SerWriter};
 use pl_write::options::{CsvWriterOptions, SerializeOptions};
 use pl_write::row_printer::RowPrinter;
 use std::alloc::{AllocError, Global};
+use std::borrow::CowSlice;
 
-/// How the columns that are read are read.
-pub(crate) fn plan_in<'a>(read: &'a CsvReadOptions, settled: &'a Settled) -> RangePlan<'a> {
-    let parse_options = &read.parse_options;
-    RangePlan {
-        dialect: parse_options.dialect(),
-        projection: Projection {
-            places: &settled.projection,
-            width: settled.schema.len(),
-        },
-        options: RowOptions {
-            null_values: settled.null_values.as_ref(),
-            encoding: parse_options.encoding,
-            missing_is_null: parse_options.missing_is_null,
-            ignore_errors: read.ignore_errors,
-            truncate_ragged_lines: parse_options.truncate_ragged_lines,
-        },
-        limit: None,
-        last: true,
-    }
-}
-
-// A limit of rows, less so many.
-pub(crate) fn left_limit(limit: Option<usize>, rows: usize) -> Option<usize> {
+/// A limit of rows, less so many.
+pub(crate) fn left_limit(limit: Option<usize>, rows: usize) -> Option<usize>
+    ensures { result ≡ left_limit limit rows }
+{
     match limit {
         Some(limit) => Some(limit.saturating_sub(rows)),
         None => None,
     }
 }
 
-// The fault of a record behind so many others.
-fn fault_of(row: usize, column: usize, kind: FaultKind) -> StreamFault {
-    StreamFault::Polars(PolarsError::ComputeError(ComputeFault::Record { row, column, kind }))
-}
-
-/// The frame of records behind so many others, with their numbers.
-fn frame_behind(
-    alloc: Global,
-    records: &[u8],
-    read: &CsvReadOptions,
-    settled: &Settled,
-    before: usize,
-    limit: Option<usize>,
-) -> Result<DataFrame, StreamFault> {
-    let mut plan = plan_in(read, settled);
-    plan.limit = limit;
-    let Ok(given) = read_columns(alloc, &settled.schema, records, &plan) else {
-        return Err(StreamFault::OutOfMemory);
-    };
-    match given.end {
-        RangeEnd::Fault { row, column, kind } => {
-            return Err(fault_of(before + row, column, kind));
-        }
-        RangeEnd::Closed | RangeEnd::Open => (),
-    }
-    match with_index_behind(alloc, read.row_index.as_ref(), before, given.columns) {
-        Ok(frame) => Ok(frame),
-        Err(PolarsError::OutOfMemory) => Err(StreamFault::OutOfMemory),
-        Err(fault) => Err(StreamFault::Polars(fault)),
-    }
-}
-
-/// Appends the lines of records behind so many others, up to a limit.
+/// Appends the lines of the first records of others, so many at most, behind so many. Refuses the first cause against them, and want of memory.
 pub(crate) fn push_lines(
     alloc: Global,
     records: &[u8],
@@ -94,10 +56,19 @@ pub(crate) fn push_lines(
     settled: &Settled,
     write: &CsvWriterOptions,
     before: usize,
-    limit: Option<usize>,
+    count: usize,
     text: &mut Vec<u8>,
-) -> Result<(), StreamFault> {
-    let frame = frame_behind(alloc, records, read, settled, before, limit)?;
+) -> Result<(), StreamFault>
+    requires can { CanStream read.now settled.now }
+    requires fits { before + length (first_rows read.now count records.now) < 2 ^ 64 }
+    ensures lines { OnOk result (text.new.items ≡ text.old.items ++ lines_behind read.now write.now before (first_rows read.now count records.now)) }
+    ensures sound { OnOk result (rows_cause read.now before (first_rows read.now count records.now) ≡ None) }
+    ensures refused { IfErr result (IsRowsFault (rows_cause read.now before (first_rows read.now count records.now))) }
+{
+    let frame = match frame_behind(alloc, records, read, settled, before, count) {
+        Ok(frame) => frame,
+        Err(fault) => return Err(fault),
+    };
     if printer
         .print(alloc, frame.columns(), &write.serialize_options)
         .is_err()
@@ -110,8 +81,11 @@ pub(crate) fn push_lines(
     Ok(())
 }
 
-// The names of columns, in order, as those of a schema.
-fn names_of(alloc: Global, columns: &[Column]) -> PolarsResult<Schema> {
+// A schema with the names of columns, in order.
+fn names_of(alloc: Global, columns: &[Column]) -> PolarsResult<Schema>
+    requires { IsFrame columns.now }
+    ensures { IfOk result (λ names. names_in names ≡ names_of columns.now) }
+{
     let mut names = Schema::new(alloc);
     for column in columns {
         let name = PlSmallStr::from_str(alloc, column.name())?;
@@ -126,21 +100,29 @@ fn write_head(
     schema: &Schema,
     write: &CsvWriterOptions,
     sink: &mut MemSink,
-) -> PolarsResult<()> {
+) -> PolarsResult<()>
+    ensures { OnOk result (sink.new.received ≡ sink.old.received ++ head_text (frame_options write.now) (names_in schema.now)) }
+{
     let writer = CsvWriter::new(alloc, sink)?.with_options(write)?;
     let mut batched = writer.batched(schema)?;
     batched.finish()
 }
 
-/// Appends what stands before the rows.
+/// Appends what stands before the rows. Refuses only want of memory.
 pub(crate) fn push_head(
     alloc: Global,
     read: &CsvReadOptions,
     settled: &Settled,
     write: &CsvWriterOptions,
     text: &mut Vec<u8>,
-) -> Result<(), StreamFault> {
-    let none = frame_behind(alloc, &[], read, settled, 0, None)?;
+) -> Result<(), StreamFault>
+    requires { CanStream read.now settled.now }
+    ensures head { OnOk result (text.new.items ≡ text.old.items ++ stream_head read.now write.now) }
+    ensures refused { IsOkUnless result fault.OutOfMemory }
+{
+    let Ok(none) = frame_behind(alloc, &[], read, settled, 0, 0) else {
+        return Err(StreamFault::OutOfMemory);
+    };
     let Ok(names) = names_of(alloc, none.columns()) else {
         return Err(StreamFault::OutOfMemory);
     };
@@ -154,7 +136,17 @@ pub(crate) fn push_head(
     Ok(())
 }
 
-// Appends the lines of the front of a text up to a place, behind another front.
+// Appends texts, one behind the other. Refuses only want of memory.
+fn append_all(lines: &[CowSlice<'_, u8, Global>], text: &mut Vec<u8>) -> Result<(), AllocError>
+    ensures { OnOk result (text.new.items ≡ text.old.items ++ concat (map cow_slice_items lines.now)) }
+{
+    for part in lines {
+        text.extend_from_slice(part)?;
+    }
+    Ok(())
+}
+
+// Appends the lines of the front of records up to a place, behind another front. Refuses only want of memory.
 fn print_on(
     alloc: Global,
     records: &[u8],
@@ -167,7 +159,17 @@ fn print_on(
     front: Whole,
     to: usize,
     text: &mut Vec<u8>,
-) -> Result<Whole, AllocError> {
+) -> Result<Whole, AllocError>
+    requires can { CanPrint plan.now schema.now }
+    requires verbatim { IsVerbatimOf plan.now schema.now (cell_options options.now) verbatim.now }
+    requires size { 0 < piece_size }
+    requires after { front.end ≤ to }
+    requires within { to ≤ length records.now }
+    requires few { front.rows ≤ front.end }
+    ensures printed { (before : List ℕ) → IsPrintedOn plan.now schema.now (cell_options options.now) records.now before text.old.items front
+        → IfOk result (λ whole. IsPrintedOn plan.now schema.now (cell_options options.now) records.now before text.new.items whole) }
+    ensures few { IfOk result (λ whole. whole.rows ≤ whole.end) }
+{
     let more = print_text(
         alloc,
         &records[front.end..to],
@@ -178,9 +180,7 @@ fn print_on(
         verbatim,
         piece_size,
     );
-    for lines in &more.lines {
-        text.extend_from_slice(lines)?;
-    }
+    append_all(&more.lines, text)?;
     Ok(Whole {
         end: front.end + more.end,
         rows: front.rows + more.rows,
@@ -194,14 +194,20 @@ fn print_front(
     printer: &mut RowPrinter,
     read: &CsvReadOptions,
     settled: &Settled,
-    options: &SerializeOptions,
+    write: &CsvWriterOptions,
     text: &mut Vec<u8>,
-) -> Result<Whole, AllocError> {
+) -> Result<Whole, AllocError>
+    requires can { CanStream read.now settled.now }
+    requires pieces { 0 < read.now.chunk_size }
+    ensures printed { (before : ℕ) → numbers_past read.now.row_index before ≡ None → IfOk result (AreRowsPrinted read.now write.now before records.now text.old.items text.new.items) }
+    ensures unlimited { IfOk result (λ whole. IfSome read.now.n_rows (λ _. whole.rows ≡ 0)) }
+{
     let none = Whole { end: 0, rows: 0 };
     if read.row_index.is_some() || read.n_rows.is_some() {
         return Ok(none);
     }
-    let plan = plan_in(read, settled);
+    let options = &write.serialize_options;
+    let plan = plan_in(read, settled, None);
     let size = piece_size_for(read.chunk_size, plan.projection.places.len());
     let schema = &settled.schema;
     let verbatim = Verbatim::of(alloc, schema, &plan, options)?;
@@ -218,7 +224,49 @@ fn print_front(
     )
 }
 
-/// Appends the lines of the whole records at the front of those that are kept, behind so many others, up to the limit.
+// Appends the lines of the whole records at the front of others, behind so many, up to a limit. Refuses the first cause against all of them, and
+// want of memory.
+fn print_rest(
+    alloc: Global,
+    records: &[u8],
+    printer: &mut RowPrinter,
+    read: &CsvReadOptions,
+    settled: &Settled,
+    write: &CsvWriterOptions,
+    before: usize,
+    limit: Option<usize>,
+    text: &mut Vec<u8>,
+) -> Result<Whole, StreamFault>
+    requires can { CanStream read.now settled.now }
+    requires fits { before + length records.now < 2 ^ 64 }
+    requires numbered { numbers_past read.now.row_index before ≡ None }
+    ensures printed { IfOk result (AreRowsPrinted read.now write.now before records.now text.old.items text.new.items) }
+    ensures end { IfOk result (IsWholeEnd read.now.parse_options records.now limit) }
+    ensures few { IfOk result (λ whole. IfSome limit (λ most. whole.rows ≤ most)) }
+    ensures refused { IfErr result (IsPrintFault read.now before limit records.now) }
+{
+    let whole = whole_records(records, &read.parse_options, limit);
+    if whole.rows == 0 {
+        return Ok(whole);
+    }
+    match push_lines(
+        alloc,
+        &records[..whole.end],
+        printer,
+        read,
+        settled,
+        write,
+        before,
+        whole.rows,
+        text,
+    ) {
+        Ok(()) => Ok(whole),
+        Err(fault) => Err(fault),
+    }
+}
+
+/// Appends the lines of the whole records at the front of others, behind so many, up to the limit. Refuses the first cause against all of them,
+/// and want of memory.
 pub(crate) fn print_records(
     alloc: Global,
     records: &[u8],
@@ -228,36 +276,29 @@ pub(crate) fn print_records(
     write: &CsvWriterOptions,
     before: usize,
     text: &mut Vec<u8>,
-) -> Result<Whole, StreamFault> {
-    let Ok(front) = print_front(
-        alloc,
-        records,
-        printer,
-        read,
-        settled,
-        &write.serialize_options,
-        text,
-    ) else {
+) -> Result<Whole, StreamFault>
+    requires can { CanStream read.now settled.now }
+    requires pieces { 0 < read.now.chunk_size }
+    requires fits { before + length records.now < 2 ^ 64 }
+    requires numbered { numbers_past read.now.row_index before ≡ None }
+    ensures printed { IfOk result (AreRowsPrinted read.now write.now before records.now text.old.items text.new.items) }
+    ensures end { IfOk result (IsWholeEnd read.now.parse_options records.now (left_limit read.now.n_rows before)) }
+    ensures few { IfOk result (λ whole. IfSome (left_limit read.now.n_rows before) (λ most. whole.rows ≤ most)) }
+    ensures refused { IfErr result (IsPrintFault read.now before (left_limit read.now.n_rows before) records.now) }
+{
+    let Ok(front) = print_front(alloc, records, printer, read, settled, write, text) else {
         return Err(StreamFault::OutOfMemory);
     };
     let rest = &records[front.end..];
+    let behind = before + front.rows;
     let limit = left_limit(read.n_rows, before);
-    let whole = whole_records(rest, &read.parse_options, limit);
-    if whole.rows > 0 {
-        push_lines(
-            alloc,
-            &rest[..whole.end],
-            printer,
-            read,
-            settled,
-            write,
-            before + front.rows,
-            None,
-            text,
-        )?;
+    match print_rest(
+        alloc, rest, printer, read, settled, write, behind, limit, text,
+    ) {
+        Ok(whole) => Ok(Whole {
+            end: front.end + whole.end,
+            rows: front.rows + whole.rows,
+        }),
+        Err(fault) => Err(fault),
     }
-    Ok(Whole {
-        end: front.end + whole.end,
-        rows: front.rows + whole.rows,
-    })
 }

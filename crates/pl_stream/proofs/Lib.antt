@@ -8,3 +8,4 @@ pub mod SettledLaws
 pub mod TextLaws
 pub mod ReadingLaws
 pub mod PrintLaws
+pub mod StandLaws

@@ -26,7 +26,7 @@ use Rattle.pl_read.proofs.CauseLaws.{first_some-one, first_some-behind, first_so
 use Rattle.pl_rows.specs.Cells.{RowRules}
 use Rattle.pl_rows.specs.Columns.{entries_in, columns_in, frame_of_rows}
 use Rattle.pl_rows.specs.Pieces.{EndsItem, left_limit}
-use Rattle.pl_rows.specs.Plan.{Columns, rules_of as plan_rules}
+use Rattle.pl_rows.specs.Plan.{Columns, AreRising, rules_of as plan_rules}
 use Rattle.pl_scan.specs.Closing.{ends_open}
 use Rattle.pl_rows.specs.Rows.{first_fault, first_faulty}
 use Rattle.pl_rows.specs.WholePieces.{IsSoundText, text_frame}
@@ -37,16 +37,24 @@ use Rattle.pl_rows.proofs.SoundTextLaws.{columns-stacked, same-rows}
 use Rattle.pl_scan.specs.Dialect as scan
 use Rattle.pl_table.specs.Rows.{Row, rows}
 use Rattle.pl_text.specs.FrameText.{WriteOptions}
-use Rattle.pl_verbatim.specs.PrintedTexts.{IsFrontPrinted, IsTextPrinted}
+use Rattle.pl_verbatim.specs.PrintedTexts.{CanPrint, IsFrontPrinted, IsTextPrinted}
 use Rattle.pl_verbatim.proofs.PrintingLaws.{front-slice, IsFrontPrinted-more, IsFrontPrinted-none, level}
 use Rattle.pl_write.specs.Batches.{all_lines}
 use Rattle.pl_write.specs.Options.{cell_options, frame_options}
 use Rattle.pl_write.specs.declared.options.CsvWriterOptions.{CsvWriterOptions}
 use Rattle.pl_write.proofs.StackLaws.{lines-stacked}
+use Rattle.pl_cells.specs.NullValues.{HaveTexts}
+use Rattle.pl_infer.specs.Schemas.{first_unreadable_column}
+use Rattle.pl_read.specs.declared.settle_given.Settled.{Settled}
+use Rattle.pl_read.proofs.ProjectionLaws.{projected-rises, projected-below}
+use Rattle.pl_read.proofs.DataLaws.{readable-places}
 use Rattle.pl_seek.specs.Parts.{fault_in_rows}
-use Rattle.pl_stream.specs.Printing.{IsStreamPlan, IsPrintedOn, AreRowsPrinted, IsPrintFault, IsRowsFault, front_rows, first_rows, rows_cause, lines_behind}
+use Rattle.pl_seek.proofs.PartLaws.{dialect-given, readable-given}
+use Rattle.pl_stream.specs.Printing.{CanStream, IsStreamPlan, IsPrintedOn, AreRowsPrinted, IsPrintFault, IsRowsFault, front_rows, first_rows, rows_cause, lines_behind}
 use Rattle.pl_stream.specs.Settled.{frame_of_first}
 use Rattle.pl_stream.specs.Whole.{AreWholeItems, HasNoWholeItem, IsWholeFront, IsWholeEnd}
+use Rattle.pl_stream.specs.declared.fault.StreamFault.{StreamFault}
+use Rattle.pl_stream.specs.declared.fault.StreamFault.TheVariants as fault
 use Rattle.pl_stream.specs.declared.whole.Whole.{Whole}
 use Rattle.pl_stream.proofs.WholeItemLaws.{front-nil, whole-append, rows-whole}
 use Rattle.pl_stream.proofs.TextLaws.{frames-behind, same-behind, level-behind}
@@ -128,6 +136,27 @@ printed-fits o write before records old now whole printed =
     ap (λ n. numbers_past o.row_index (before + n)) printed.front.count_is
     ∙ sym (first_some-one (numbers_past o.row_index (before + length given))) ∙ first_some-rest (fault_in_rows o before given) (numbers_past o.row_index (before + length given) ∷ []) printed.sound
 
+-- whole items behind others
+pub fronts-join : (o : CsvReadOptions) (records : List ℕ) (first next whole : Whole) → IsDialect (marks_of o.parse_options) (comment_of o.parse_options) → IsWholeFront o.parse_options records first → IsWholeFront o.parse_options (drop first.end records) next
+    → whole.end ≡ first.end + next.end → whole.rows ≡ first.rows + next.rows
+    → IsWholeFront o.parse_options records whole × (front_rows o records whole ≡ front_rows o records first ++ front_rows o (drop first.end records) next)
+fronts-join o records first next whole apart one two end_is rows_is =
+    let m = marks_of o.parse_options in
+    let comment = comment_of o.parse_options in
+    let a : List ℕ = take first.end records in
+    let b : List ℕ = take next.end (drop first.end records) in
+    let room : whole.end ≤ length records = omega (arith, end_is, one.within, two.within, length-drop first.end records) in
+    let size : whole.end - first.end ≡ next.end = omega (arith, end_is) in
+    let both : a ++ b ≡ take whole.end records = ap (λ n. a ++ take n (drop first.end records)) (sym size) ∙ front-slice records first.end whole.end (omega (arith, end_is)) room in
+    let all : front_rows o records whole ≡ rows m comment a ++ rows m comment b = ap (rows m comment) (sym both) ∙ rows-whole o.parse_options a b apart one.items in (
+      record {
+        within = room;
+        items = subst (AreWholeItems o.parse_options) both (whole-append o.parse_options a b apart one.items two.items);
+        count_is = rows_is ∙ omega (arith, one.count_is, two.count_is, length-append (rows m comment a) (rows m comment b)) ∙ ap length (sym all);
+      },
+      all,
+    )
+
 -- rows of more whole items behind those
 pub printed-more : (o : CsvReadOptions) (write : CsvWriterOptions) (before : ℕ) (records old mid now : List ℕ) (first next whole : Whole) → IsDialect (marks_of o.parse_options) (comment_of o.parse_options)
     → AreRowsPrinted o write before records old mid first → AreRowsPrinted o write (before + first.rows) (drop first.end records) mid now next
@@ -137,17 +166,11 @@ printed-more o write before records old mid now first next whole apart one two e
     let comment = comment_of o.parse_options in
     let a : List ℕ = take first.end records in
     let b : List ℕ = take next.end (drop first.end records) in
-    let room : whole.end ≤ length records = omega (arith, end_is, one.front.within, two.front.within, length-drop first.end records) in
-    let size : whole.end - first.end ≡ next.end = omega (arith, end_is) in
-    let both : a ++ b ≡ take whole.end records = ap (λ n. a ++ take n (drop first.end records)) (sym size) ∙ front-slice records first.end whole.end (omega (arith, end_is)) room in
-    let all : front_rows o records whole ≡ rows m comment a ++ rows m comment b = ap (rows m comment) (sym both) ∙ rows-whole o.parse_options a b apart one.front.items in
+    let joined = fronts-join o records first next whole apart one.front two.front end_is rows_is in
+    let all : front_rows o records whole ≡ rows m comment a ++ rows m comment b = joined.1 in
     let count : before + first.rows ≡ before + length (rows m comment a) = ap (λ n. before + n) one.front.count_is in
     record {
-      front = record {
-        within = room;
-        items = subst (AreWholeItems o.parse_options) both (whole-append o.parse_options a b apart one.front.items two.front.items);
-        count_is = rows_is ∙ omega (arith, one.front.count_is, two.front.count_is, length-append (rows m comment a) (rows m comment b)) ∙ ap length (sym all);
-      };
+      front = joined.0;
       sound = ap (rows_cause o before) all ∙ cause-behind o before (rows m comment a) (rows m comment b) one.sound ∙ ap (λ n. rows_cause o n (rows m comment b)) (sym count) ∙ two.sound;
       lines = two.lines ∙ ap (λ l. l ++ lines_behind o write (before + first.rows) (rows m comment b)) one.lines
           ∙ append_assoc old (lines_behind o write before (rows m comment a)) (lines_behind o write (before + first.rows) (rows m comment b))
@@ -248,3 +271,54 @@ printed-on plan schema w records before mid now front next end count lines apart
           (IsFrontPrinted-more plan schema w records front.end next.end front.rows count one.lines lines apart one.front (omega (arith, end_is)) (omega (arith, room, within))
           (subst (λ l. IsTextPrinted plan schema w l count lines) same more.front));
     }
+
+-- so many rows have as many bytes at least
+pub front-count : (plan : RangePlan) (schema : List Entry) (w : WriteOptions) (text : List ℕ) (end count : ℕ) (lines : List ℕ) → IsDialect (scan.marks_of plan.dialect) (scan.comment_of plan.dialect) → IsFrontPrinted plan schema w text end count lines → count ≤ end
+front-count plan schema w text end count lines apart front =
+    let t : List ℕ = take end text in
+    omega (arith, front.front.count_is, few_rows (scan.marks_of plan.dialect) (scan.comment_of plan.dialect) apart.distinct (length t) t (omega arith), length-take-le end text front.within)
+
+-- ---- what a plan of a stream can
+
+pub can-print : (plan : RangePlan) (o : CsvReadOptions) (settled : Settled) → CanStream o settled → IsStreamPlan plan o None → HaveTexts plan.options.null_values (length (given_schema o)) → CanPrint plan settled.schema
+can-print plan o settled can p texts =
+    let schema = settled.schema in
+    let is : schema ≡ given_schema o = can.is.schema_is in
+    record {
+      dialect = subst (λ m. IsDialect m (scan.comment_of plan.dialect)) (sym p.marks_are) (subst (IsDialect (marks_of o.parse_options)) (sym p.comment_is) (dialect-given o can.sound));
+      width = p.width_is ∙ ap length (sym is);
+      rising = subst (λ s. AreRising 0 (length s) plan.projection.places.now) (sym is) (subst (AreRising 0 (length (given_schema o))) (sym p.places_are) (projected-rises o (given_schema o)));
+      readable = readable-places schema plan.projection.places.now (ap first_unreadable_column is ∙ readable-given o can.sound) (projected-below o schema plan.projection.places.now (p.places_are ∙ ap (projected o) (sym is)));
+      texts = subst (λ s. HaveTexts plan.options.null_values (length s)) (sym is) texts;
+      unlimited = p.limit_is;
+    }
+
+-- ---- refusals behind a front
+
+print-fault_by : (o : CsvReadOptions) (write : CsvWriterOptions) (before : ℕ) (records old mid : List ℕ) (first : Whole) → IsDialect (marks_of o.parse_options) (comment_of o.parse_options) → AreRowsPrinted o write before records old mid first
+    → IfSome o.n_rows (λ _. first.rows ≡ 0) → (given : StreamFault)
+    → (whole : Whole) × IsWholeFront o.parse_options (drop first.end records) whole × IsWholeEnd o.parse_options (drop first.end records) (left_limit o.n_rows before) whole
+    × IsRowsFault (rows_cause o (before + first.rows) (front_rows o (drop first.end records) whole)) given
+    → (whole : Whole) × IsWholeFront o.parse_options records whole × IsWholeEnd o.parse_options records (left_limit o.n_rows before) whole × IsRowsFault (rows_cause o before (front_rows o records whole)) given
+print-fault_by o write before records old mid first apart one none given (next, front, end, is) =
+    let m = marks_of o.parse_options in
+    let comment = comment_of o.parse_options in
+    let a : List ℕ = take first.end records in
+    let b : List ℕ = take next.end (drop first.end records) in
+    let whole : Whole = record { end = first.end + next.end; rows = first.rows + next.rows } in
+    let joined = fronts-join o records first next whole apart one.front front refl refl in
+    let count : before + first.rows ≡ before + length (rows m comment a) = ap (λ n. before + n) one.front.count_is in
+    let cause : rows_cause o (before + first.rows) (rows m comment b) ≡ rows_cause o before (front_rows o records whole) =
+    ap (λ n. rows_cause o n (rows m comment b)) count ∙ sym (cause-behind o before (rows m comment a) (rows m comment b) one.sound) ∙ ap (rows_cause o before) (sym joined.1) in
+    (whole, joined.0, end-more o before records first next whole none end refl refl, subst (λ c. IsRowsFault c given) cause is)
+
+pub print-fault-more : (o : CsvReadOptions) (write : CsvWriterOptions) (before : ℕ) (records old mid : List ℕ) (first : Whole) → IsDialect (marks_of o.parse_options) (comment_of o.parse_options) → AreRowsPrinted o write before records old mid first
+    → IfSome o.n_rows (λ _. first.rows ≡ 0) → (given : StreamFault) → IsPrintFault o (before + first.rows) (left_limit o.n_rows before) (drop first.end records) given → IsPrintFault o before (left_limit o.n_rows before) records given
+print-fault-more o write before records old mid first apart one none fault.OutOfMemory is = tt
+print-fault-more o write before records old mid first apart one none fault.NoSchema is = print-fault_by o write before records old mid first apart one none fault.NoSchema is
+print-fault-more o write before records old mid first apart one none (fault.Category column) is = print-fault_by o write before records old mid first apart one none (fault.Category column) is
+print-fault-more o write before records old mid first apart one none fault.NoColumn is = print-fault_by o write before records old mid first apart one none fault.NoColumn is
+print-fault-more o write before records old mid first apart one none (fault.Polars cause) is = print-fault_by o write before records old mid first apart one none (fault.Polars cause) is
+print-fault-more o write before records old mid first apart one none fault.Source is = print-fault_by o write before records old mid first apart one none fault.Source is
+print-fault-more o write before records old mid first apart one none fault.Sink is = print-fault_by o write before records old mid first apart one none fault.Sink is
+print-fault-more o write before records old mid first apart one none fault.TooLong is = print-fault_by o write before records old mid first apart one none fault.TooLong is

@@ -68,7 +68,7 @@ codes-none rules given schema (place ∷ places) none = by (is_categorical (entr
 
 high : (rules : RowRules) (schema : List Entry) (places : List ℕ) (given : List Row) → 0 < length places → height_of (frame_of_rows rules (entries_in schema places) given) ≡ length given
 high rules schema [] given some = absurd (omega arith)
-high rules schema (place ∷ places) given some = length-map _ given
+high rules schema (place ∷ places) given some = length-map given _
 
 -- a refusal, or want of memory
 pub rows-fault : (first : Option PolarsError) (refusal : PolarsError) → IsFault first refusal → IsRowsFault first (fault_of refusal)

@@ -1,9 +1,9 @@
 pub mod Options
 pub mod Settled
+pub mod Whole
 pub mod Stream
 pub mod Kept
 pub mod Head
-pub mod Whole
 pub mod Printing
 pub mod Feeding
 pub mod Laws

@@ -11,15 +11,14 @@ use Rattle.pl_read.specs.Refusals.{numbers_past}
 use Rattle.pl_read.specs.Rows.{columns_read}
 use Rattle.pl_read.specs.SettleGiven.{given_schema}
 use Rattle.pl_rows.specs.Rows.{first_fault}
-use Rattle.pl_scan.specs.Closing.{ends_open}
 use Rattle.pl_scan.specs.Items.{text_of, items_behind}
-use Rattle.pl_scan.specs.Laws.{IsEnded}
 use Rattle.pl_scan.specs.Start.{skip_line, skip_lines, cut_ends, cut_head, pass_items, pass_comments, pass_header}
 use Rattle.pl_table.specs.Rows.{Row, rows}
 use Rattle.pl_write.specs.declared.options.CsvWriterOptions.{CsvWriterOptions}
 use Rattle.pl_stream.specs.declared.place.Place.{Place}
 use Rattle.pl_stream.specs.declared.place.Place.TheVariants as place
 use Rattle.pl_stream.specs.Settled.{has_lines, tells_head, settled_rows}
+use Rattle.pl_stream.specs.Whole.{AreWholeItems}
 
 -- a state: the options, the bytes that are kept, how far these are read, how many records were settled, the fault that a call answered, and
 -- whether the input ended
@@ -64,32 +63,61 @@ data_at o (place.Behind n) b = pass_items (marks_of o.parse_options) (comment_of
 data_at o place.Records b = Some b
 data_at o place.Full b = Some b
 
--- ---- what came before
+-- what steps 1 and 2 of the way leave: behind skipped lines, or else a byte order mark, and then, unless these are kept, leading line ends
+abbrev pub head_left : CsvReadOptions → List ℕ → List ℕ
+head_left o b = cut_head o.skip_lines (keeps_ends o) o.parse_options.eol_char b
 
--- what came before a place within the head: whatever follows, its data are those of what follows there
-abbrev pub IsInHead : CsvReadOptions → List ℕ → Place → Type 0
-IsInHead o before place = (more : List ℕ) → data_of o (before ++ more) ≡ data_at o place more
+-- without leading line ends, unless these are kept
+abbrev pub unless_kept : CsvReadOptions → List ℕ → List ℕ
+unless_kept o b = if keeps_ends o then b else cut_ends o.parse_options.eol_char b
 
--- what came before is the head and so many whole records, whatever follows
-pub record IsAtRecords (o : CsvReadOptions) (before : List ℕ) (count : ℕ) : Type 0 where
+-- the same of what stands at a place: behind them, whole items may be let go
+abbrev pub head_at : CsvReadOptions → Place → List ℕ → List ℕ
+head_at o place.Start b = head_left o b
+head_at o (place.Lines n) b = unless_kept o (skip_lines o.parse_options.eol_char n b)
+head_at o place.Ends b = unless_kept o b
+head_at o _ b = b
+
+-- the lines that are still to be skipped at a place can be
+abbrev pub lines_at : CsvReadOptions → Place → List ℕ → Bool
+lines_at o place.Start b = has_lines o.parse_options.eol_char o.skip_lines b
+lines_at o (place.Lines n) b = has_lines o.parse_options.eol_char n b
+lines_at o _ b = true
+
+-- ---- what came
+
+-- what came brought the read to a place within the head, where what is kept is read on: whatever follows, the data are those of what is kept and
+-- what follows there, and so are the lines that can be skipped; what was let go behind skipped lines and leading line ends were whole items
+pub record IsInHead (o : CsvReadOptions) (b : List ℕ) (place : Place) (kept : List ℕ) : Type 0 where
+  pub data_is : (more : List ℕ) → data_of o (b ++ more) ≡ data_at o place (kept ++ more)
+  pub lines_are : (more : List ℕ) → has_lines o.parse_options.eol_char o.skip_lines (b ++ more) ≡ lines_at o place (kept ++ more)
+  pub items : List ℕ
+  pub whole : AreWholeItems o.parse_options items
+  pub head_is : (more : List ℕ) → head_left o (b ++ more) ≡ items ++ head_at o place (kept ++ more)
+
+-- what came is the head, so many whole records, and what is kept, whatever follows
+pub record IsAtRecords (o : CsvReadOptions) (b kept : List ℕ) (count : ℕ) : Type 0 where
   pub records : List ℕ
-  pub data_is : (more : List ℕ) → data_of o (before ++ more) ≡ Some (records ++ more)
-  pub ended : IsEnded o.parse_options.eol_char records
-  pub closed : ends_open (marks_of o.parse_options) (comment_of o.parse_options) records ≡ false
+  pub data_is : (more : List ℕ) → data_of o (b ++ more) ≡ Some (records ++ (kept ++ more))
+  pub are_whole : AreWholeItems o.parse_options records
   pub count_is : count ≡ length (rows (marks_of o.parse_options) (comment_of o.parse_options) records)
+  pub items : List ℕ
+  pub whole : AreWholeItems o.parse_options items
+  pub head_is : (more : List ℕ) → head_left o (b ++ more) ≡ items ++ (kept ++ more)
 
--- what came before has all records that are asked for, so many, whatever follows
-pub record IsPastLimit (o : CsvReadOptions) (before : List ℕ) (count : ℕ) : Type 0 where
+-- what came has all records that are asked for, so many, whatever follows
+pub record IsPastLimit (o : CsvReadOptions) (b : List ℕ) (count : ℕ) : Type 0 where
   pub limit_is : o.n_rows ≡ Some count
   pub first : List Row
   pub count_is : length first ≡ count
-  pub stay : (more : List ℕ) → (records : List ℕ) × (data_of o (before ++ more) ≡ Some records) × (take count (rows (marks_of o.parse_options) (comment_of o.parse_options) records) ≡ first)
+  pub stay : (more : List ℕ) → (records : List ℕ) × (data_of o (b ++ more) ≡ Some records) × (take count (rows (marks_of o.parse_options) (comment_of o.parse_options) records) ≡ first)
 
--- what came before the bytes that are kept brought the read to a place, and had so many records
-abbrev pub IsBefore : CsvReadOptions → List ℕ → Place → ℕ → Type 0
-IsBefore o before place.Records count = IsAtRecords o before count
-IsBefore o before place.Full count = IsPastLimit o before count
-IsBefore o before place count = IsInHead o before place × (count ≡ 0)
+-- what came brought the read to a place, where what is kept is read on, behind so many records
+abbrev pub IsOnWay : CsvReadOptions → List ℕ → Place → List ℕ → ℕ → Type 0
+IsOnWay o b place.Start kept count = (b ≡ kept) × (count ≡ 0)
+IsOnWay o b place.Records kept count = IsAtRecords o b kept count
+IsOnWay o b place.Full kept count = IsPastLimit o b count × (kept ≡ [])
+IsOnWay o b place kept count = IsInHead o b place kept × (count ≡ 0)
 
 -- enough came for a place: four bytes, and behind the lines that are skipped, all of these
 abbrev pub HasCome : CsvReadOptions → Place → List ℕ → Type 0
@@ -117,14 +145,14 @@ most_kept o b =
 
 -- ---- the relation
 
--- a state stands for the bytes that came: it keeps an end of them, what came before brought it to its place and has all settled records, which it
--- counted; none of these has a fault or too great a number
+-- a state stands for the bytes that came: it keeps an end of them, they brought it to its place, and it counted their settled records; none of
+-- these has a fault or too great a number
 pub record StandsFor (stream : Stream) (b : List ℕ) : Type 0 where
   pub small : length b < 2 ^ 64
   pub before : List ℕ
   pub is : b ≡ before ++ stream.kept
   pub come : HasCome stream.read stream.place b
-  pub read : IsBefore stream.read before stream.place stream.rows
+  pub read : IsOnWay stream.read b stream.place stream.kept stream.rows
   pub few : length stream.kept ≤ most_kept stream.read b
   pub plain : 4 ≤ length b → is_compressed b ≡ false
   pub count : stream.rows ≡ length (settled_rows stream.read b)

@@ -1,12 +1,12 @@
 //! The way to the records of a stream, gone on with as bytes come.
-ghost use Rattle.std.specs.Prelude.{◌≡◌, ◌≤◌, ◌<◌, ◌+◌, ◌-◌, ◌==◌, not, false, length, IfSome, IfNone};
+ghost use Rattle.std.specs.Prelude.{◌≡◌, ◌≤◌, ◌<◌, ◌+◌, ◌-◌, ◌==◌, not, false, ◌||◌, drop, length, IfSome, IfNone};
 ghost use Rattle.std.specs.List.{prefix_len};
 ghost use Rattle.pl_frame.specs.Dialect.{IsDialect};
 ghost use Rattle.pl_options.specs.Text.{marks_of, comment_of};
 ghost use Rattle.pl_read.specs.Options.{keeps_ends};
 ghost use Rattle.pl_scan.specs.Items.{item, text_of};
 ghost use Rattle.pl_scan.specs.Start.{cut_ends};
-ghost use Rattle.pl_stream.specs.Head.{IsReached};
+ghost use Rattle.pl_stream.specs.Head.{IsReached, IsNearer, HasNoStep};
 ghost use Rattle.pl_stream.specs.declared.place.Place.TheVariants as spot;
 
 use crate::place::Place;
@@ -66,14 +66,14 @@ fn count_ends(bytes: &[u8], eol_char: u8) -> usize
     bytes.len() - without_ends(bytes, eol_char).len()
 }
 
-// The place of the first line end.
-fn line_end(bytes: &[u8], eol_char: u8) -> Option<usize>
-    ensures at { IfSome result (λ at. prefix_len (λ x. not (x == eol_char)) bytes.now ≡ at) }
-    ensures within { IfSome result (λ at. at < length bytes.now) }
+// The number of bytes of the line at the front, without its line end.
+fn line_len(bytes: &[u8], eol_char: u8) -> usize
+    ensures len { prefix_len (λ x. not (x == eol_char)) bytes.now ≡ result }
+    ensures within { result ≤ length bytes.now }
 {
     match memchr(eol_char, bytes) {
-        Some(at) => Some(at),
-        None => None,
+        Some(at) => at,
+        None => bytes.len(),
     }
 }
 
@@ -84,6 +84,7 @@ fn count_returns(bytes: &[u8], options: &CsvReadOptions) -> usize
     ensures within { result ≤ length bytes.now }
     ensures dropped { 0 < result → keeps_ends options.now ≡ false }
     ensures other { 0 < result → (13 == options.now.parse_options.eol_char) ≡ false }
+    ensures none { result ≡ 0 → keeps_ends options.now ≡ false → (13 == options.now.parse_options.eol_char) ≡ false → prefix_len (λ x. x == 13 || x == 13) bytes.now ≡ 0 }
 {
     if keeps_ends(options) || options.parse_options.eol_char == b'\r' {
         return 0;
@@ -95,30 +96,33 @@ fn count_returns(bytes: &[u8], options: &CsvReadOptions) -> usize
 #[tactic(auto, using(crate::proofs::HeadLaws::reach_line, crate::proofs::HeadLaws::reach_returns))]
 fn pass_line(bytes: &[u8], options: &CsvReadOptions, left: usize) -> Option<Reached>
     requires { 0 < left }
-    ensures { IfSome result (IsReached options.now (spot.Lines left) bytes.now) }
+    ensures reached { IfSome result (IsReached options.now (spot.Lines left) bytes.now) }
+    ensures nearer { IfSome result (IsNearer (spot.Lines left)) }
+    ensures none { IfNone result (HasNoStep options.now (spot.Lines left) bytes.now) }
 {
-    match line_end(bytes, options.parse_options.eol_char) {
-        Some(at) if at + 1 < bytes.len() => Some(Reached {
+    let len = line_len(bytes, options.parse_options.eol_char);
+    if len + 1 < bytes.len() {
+        return Some(Reached {
             place: Place::Lines(left - 1),
-            at: at + 1,
-        }),
-        _ => {
-            let at = count_returns(bytes, options);
-            if at == 0 {
-                return None;
-            }
-            Some(Reached {
-                place: Place::Lines(left),
-                at,
-            })
-        }
+            at: len + 1,
+        });
     }
+    let at = count_returns(bytes, options);
+    if at == 0 {
+        return None;
+    }
+    Some(Reached {
+        place: Place::Lines(left),
+        at,
+    })
 }
 
 // One step at the first byte.
 #[tactic(auto, using(crate::proofs::HeadLaws::reach_lines, crate::proofs::HeadLaws::reach_mark))]
 fn pass_start(bytes: &[u8], options: &CsvReadOptions) -> Option<Reached>
-    ensures { IfSome result (IsReached options.now spot.Start bytes.now) }
+    ensures reached { IfSome result (IsReached options.now spot.Start bytes.now) }
+    ensures nearer { IfSome result (IsNearer spot.Start) }
+    ensures none { IfNone result (HasNoStep options.now spot.Start bytes.now) }
 {
     if bytes.len() < 4 {
         return None;
@@ -138,7 +142,9 @@ fn pass_start(bytes: &[u8], options: &CsvReadOptions) -> Option<Reached>
 // One step at leading line ends.
 #[tactic(auto, using(crate::proofs::HeadLaws::reach_ends, crate::proofs::HeadLaws::reach_all, crate::proofs::HeadLaws::reach_kept))]
 fn pass_ends(bytes: &[u8], options: &CsvReadOptions) -> Option<Reached>
-    ensures { IfSome result (IsReached options.now spot.Ends bytes.now) }
+    ensures reached { IfSome result (IsReached options.now spot.Ends bytes.now) }
+    ensures nearer { IfSome result (IsNearer spot.Ends) }
+    ensures none { IfNone result (HasNoStep options.now spot.Ends bytes.now) }
 {
     let rows = Place::Rows(options.skip_rows);
     if keeps_ends(options) {
@@ -161,7 +167,9 @@ fn pass_ends(bytes: &[u8], options: &CsvReadOptions) -> Option<Reached>
 #[tactic(auto, using(crate::proofs::HeadLaws::reach_comment, crate::proofs::HeadLaws::reach_header))]
 fn pass_header(bytes: &[u8], options: &CsvReadOptions) -> Option<Reached>
     requires { IsDialect (marks_of options.now.parse_options) (comment_of options.now.parse_options) }
-    ensures { IfSome result (IsReached options.now spot.Header bytes.now) }
+    ensures reached { IfSome result (IsReached options.now spot.Header bytes.now) }
+    ensures nearer { IfSome result (IsNearer spot.Header) }
+    ensures none { IfNone result (HasNoStep options.now spot.Header bytes.now) }
 {
     let parse_options = &options.parse_options;
     let len = whole_item(bytes, parse_options)?;
@@ -178,10 +186,12 @@ fn pass_header(bytes: &[u8], options: &CsvReadOptions) -> Option<Reached>
 }
 
 // One step from a place, where the bytes tell it.
-#[tactic(auto, using(crate::proofs::HeadLaws::reach_rows, crate::proofs::HeadLaws::reach_behind))]
+#[tactic(auto, using(crate::proofs::HeadLaws::reach_turns))]
 fn step(bytes: &[u8], options: &CsvReadOptions, place: Place) -> Option<Reached>
     requires { IsDialect (marks_of options.now.parse_options) (comment_of options.now.parse_options) }
-    ensures { IfSome result (IsReached options.now place bytes.now) }
+    ensures reached { IfSome result (IsReached options.now place bytes.now) }
+    ensures nearer { IfSome result (IsNearer place) }
+    ensures none { IfNone result (HasNoStep options.now place bytes.now) }
 {
     match place {
         Place::Start => pass_start(bytes, options),
@@ -213,16 +223,14 @@ fn step(bytes: &[u8], options: &CsvReadOptions, place: Place) -> Option<Reached>
 }
 
 /// How far bytes bring the way to the records, from a place on.
-#[tactic(auto, using(crate::proofs::HeadLaws::reach_on, crate::proofs::HeadLaws::reach_none))]
+#[tactic(auto, using(crate::proofs::HeadLaws::reach_none))]
 pub(crate) fn advance(bytes: &[u8], options: &CsvReadOptions, place: Place) -> Reached
     requires { IsDialect (marks_of options.now.parse_options) (comment_of options.now.parse_options) }
-    ensures { IsReached options.now place bytes.now result }
+    ensures reached { IsReached options.now place bytes.now result }
+    ensures stops { HasNoStep options.now result.place (drop result.at bytes.now) }
 {
     let mut reached = Reached { place, at: 0 };
-    for _ in 0..usize::MAX {
-        let Some(next) = step(&bytes[reached.at..], options, reached.place) else {
-            return reached;
-        };
+    while let Some(next) = step(&bytes[reached.at..], options, reached.place) {
         reached = Reached {
             place: next.place,
             at: reached.at + next.at,

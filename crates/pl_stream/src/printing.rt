@@ -1,5 +1,6 @@
 //! The lines of records of a stream.
 ghost use Rattle.std.specs.Prelude.{◌≡◌, ◌≤◌, ◌<◌, ◌+◌, ◌^◌, ◌++◌, ℕ, List, length, map, take, None, Some, IfOk, OnOk, IfErr, IfSome, IsOkUnless};
+ghost use Rattle.std.specs.Bool.{OnTrue};
 ghost use Rattle.std.specs.Cow.{cow_slice_items};
 ghost use Rattle.std.specs.List.{concat};
 ghost use Rattle.pl_frame.specs.Frame.{IsFrame, names_of};
@@ -169,6 +170,7 @@ fn print_on(
     ensures printed { (before : List ℕ) → IsPrintedOn plan.now schema.now (cell_options options.now) records.now before text.old.items front
         → IfOk result (λ whole. IsPrintedOn plan.now schema.now (cell_options options.now) records.now before text.new.items whole) }
     ensures few { IfOk result (λ whole. whole.rows ≤ whole.end) }
+    ensures within { IfOk result (λ whole. whole.end ≤ to) }
 {
     let more = print_text(
         alloc,
@@ -187,7 +189,14 @@ fn print_on(
     })
 }
 
-// Appends the lines of the front of records, as far as these are printed as they are read.
+// Whether rows may be printed as they are read.
+fn is_row_by_row(read: &CsvReadOptions) -> bool
+    ensures { OnTrue result ((read.now.row_index ≡ None) × (read.now.n_rows ≡ None)) }
+{
+    read.row_index.is_none() && read.n_rows.is_none()
+}
+
+// Appends the lines of the front of records, as far as these are printed as they are read. Refuses only want of memory.
 fn print_front(
     alloc: Global,
     records: &[u8],
@@ -203,7 +212,7 @@ fn print_front(
     ensures unlimited { IfOk result (λ whole. IfSome read.now.n_rows (λ _. whole.rows ≡ 0)) }
 {
     let none = Whole { end: 0, rows: 0 };
-    if read.row_index.is_some() || read.n_rows.is_some() {
+    if !is_row_by_row(read) {
         return Ok(none);
     }
     let options = &write.serialize_options;

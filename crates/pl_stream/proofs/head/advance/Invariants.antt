@@ -1,5 +1,9 @@
-use Rattle.pl_stream.specs.Head.{IsReached}
+use Rattle.std.proofs.Common.{◌+◌, ◌-◌, ◌*◌, length}
+use Rattle.pl_stream.specs.Head.{IsReached, rank}
 use Rattle.pl_stream.proofs.head.advance.Given as goal
 
-abbrev pub invariant-loop : goal.invariant-loop
-invariant-loop l = IsReached l.options l.fn.place l.bytes l.reached
+abbrev pub invariant-loop-next : goal.invariant-loop-next
+invariant-loop-next l = IsReached l.options l.fn.place l.bytes l.reached
+
+abbrev pub decreases-loop-next : goal.decreases-loop-next
+decreases-loop-next l = 8 * (length l.bytes - l.reached.at) + rank l.reached.place

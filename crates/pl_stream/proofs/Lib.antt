@@ -9,3 +9,5 @@ pub mod TextLaws
 pub mod ReadingLaws
 pub mod PrintLaws
 pub mod StandLaws
+pub mod HeadingLaws
+pub mod BoundLaws

@@ -221,7 +221,7 @@ module _ (plan : RangePlan) (o : CsvReadOptions) (schema : List Entry) (p : IsSt
       let given = rows (marks_of o.parse_options) (comment_of o.parse_options) t in
       let none = sound-none (plan_rules plan) (columns_in schema plan.projection.places.now) before (rows (scan.marks_of plan.dialect) (scan.comment_of plan.dialect) t) sound.sound in
       let same : first_faulty (plan_rules plan) (columns_in schema plan.projection.places.now) before (rows (scan.marks_of plan.dialect) (scan.comment_of plan.dialect) t)
-          ≡ first_faulty (rules_of o (given_schema o)) (columns_read o (given_schema o)) before given = λ i. first_faulty (p.rules_are i) (columns_in (schema_is i) (p.places_are i)) before (same_rows i) in
+      ≡ first_faulty (rules_of o (given_schema o)) (columns_read o (given_schema o)) before given = λ i. first_faulty (p.rules_are i) (columns_in (schema_is i) (p.places_are i)) before (same_rows i) in
       let clean : fault_in_rows o before given ≡ None = ap (option_map (λ found. error.ComputeError (compute_fault.Record found.0 found.1.0 found.1.1))) (sym same ∙ none) in
       first_some-behind (fault_in_rows o before given) (numbers_past o.row_index (before + length given) ∷ []) clean ∙ first_some-one (numbers_past o.row_index (before + length given))
       ∙ ap (λ index. numbers_past index (before + length given)) unnumbered

@@ -35,7 +35,7 @@ begins-limited : {X : Type 0} (limit : Option ℕ) (xs ys : List X) → Begins (
 begins-limited None xs ys = (ys, refl)
 begins-limited (Some n) xs ys = begins-take n xs ys
 
-limited-nil : {X : Type 0} (limit : Option ℕ) → limited {X = X} limit [] ≡ []
+pub limited-nil : {X : Type 0} (limit : Option ℕ) → limited {X = X} limit [] ≡ []
 limited-nil None = refl
 limited-nil (Some zero) = refl
 limited-nil (Some (suc n)) = refl

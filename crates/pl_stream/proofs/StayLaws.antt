@@ -112,9 +112,13 @@ module _ (m : Marks) (comment : Option (List ℕ)) (free : IsCommentPrefix m.lin
       by false is inside deeper =
           inl (x ∷ xs, ap (λ l. Some l) (pass_comments-end m comment (x ∷ xs) is), λ more. ap (λ l. Some l) (pass_comments-end m comment ((x ∷ xs) ++ more) (comment-stays m comment (x ∷ xs) more free inside ∙ is)))
       by true is inside (inl (left, left_is, stays)) =
-          inl (left, ap (λ l. Some l) (pass_comments-turn m comment (x ∷ xs) (omega arith) is) ∙ left_is, λ more.
-              ap (λ l. Some l) (pass_comments-turn m comment ((x ∷ xs) ++ more) (omega arith) (comment-stays m comment (x ∷ xs) more free inside ∙ is)
-              ∙ ap (pass_comments m comment) (behind-stays m comment (x ∷ xs) more free inside)) ∙ stays more)
+          inl (
+            left,
+            ap (λ l. Some l) (pass_comments-turn m comment (x ∷ xs) (omega arith) is) ∙ left_is,
+            λ more.
+                ap (λ l. Some l) (pass_comments-turn m comment ((x ∷ xs) ++ more) (omega arith) (comment-stays m comment (x ∷ xs) more free inside ∙ is)
+                ∙ ap (pass_comments m comment) (behind-stays m comment (x ∷ xs) more free inside)) ∙ stays more,
+          )
       by true is inside (inr none) = inr (subst (IsBroken m comment) (sym (pass_comments-turn m comment (x ∷ xs) (omega arith) is)) none)
 
   pub comments-go : (b : List ℕ) → Goes m comment (λ l. Some (pass_comments m comment l)) b
@@ -194,9 +198,13 @@ module _ (o : CsvReadOptions) where
         → Goes m comment (λ l. Some (cond keep (whole l) (cut_ends e (whole l)))) b
     ends-go true text b whole is stays = inl (text, ap (λ l. Some l) is, λ more. ap (λ l. Some l) (stays more))
     ends-go false text b whole is stays = elim (cases_lt (prefix_len is_end text) (length text)) [
-      | inl inside ↦ inl (cut_ends e text, ap (λ l. Some (cut_ends e l)) is, λ more.
+      | inl inside ↦ inl (
+        cut_ends e text,
+        ap (λ l. Some (cut_ends e l)) is,
+        λ more.
             ap (λ l. Some (cut_ends e l)) (stays more)
-            ∙ ap (λ l. Some l) (ap (λ k. drop k (text ++ more)) (prefix_len-front is_end text more inside) ∙ drop-append-le (prefix_len is_end text) text more (omega (arith, inside))))
+            ∙ ap (λ l. Some l) (ap (λ k. drop k (text ++ more)) (prefix_len-front is_end text more inside) ∙ drop-append-le (prefix_len is_end text) text more (omega (arith, inside))),
+      )
       | inr past ↦ inr (subst (IsBroken m comment) (sym (ap (cut_ends e) is ∙ drop_all (prefix_len is_end text) text (omega (arith, past)))) (broken-nil m comment free))
     ]
 
@@ -220,7 +228,7 @@ module _ (o : CsvReadOptions) where
     tail-go l =
         goes-on m comment (λ b. Some (pass_header o.has_header m comment (pass_comments m comment b))) (pass_items m comment o.skip_rows_after_header) l
         (goes-on m comment (λ b. Some (pass_comments m comment b)) (λ b. Some (pass_header o.has_header m comment b)) l
-            (comments-go m comment apart.prefix l) (header-go m comment apart.prefix o.has_header) (header-stuck m comment apart.prefix o.has_header))
+        (comments-go m comment apart.prefix l) (header-go m comment apart.prefix o.has_header) (header-stuck m comment apart.prefix o.has_header))
         (items-go m comment apart.prefix o.skip_rows_after_header) (items-stuck m comment apart.prefix o.skip_rows_after_header)
 
     pub tail-stuck : (l : List ℕ) → IsBroken m comment l → IsStuck m comment (behind_header o l)
@@ -229,18 +237,21 @@ module _ (o : CsvReadOptions) where
     rows-go : (l : List ℕ) → Goes m comment (λ b. option_and_then (behind_header o) (pass_items m comment o.skip_rows b)) l
     rows-go l = goes-on m comment (pass_items m comment o.skip_rows) (behind_header o) l (items-go m comment apart.prefix o.skip_rows l) tail-go tail-stuck
 
-    rows-stuck : (l : List ℕ) → IsBroken m comment l → IsStuck m comment (option_and_then (behind_header o) (pass_items m comment o.skip_rows l))
-    rows-stuck l none = by (pass_items m comment o.skip_rows l) (items-stuck m comment apart.prefix o.skip_rows l none)
+    pub stuck-items : (n : ℕ) (l : List ℕ) → IsBroken m comment l → IsStuck m comment (option_and_then (behind_header o) (pass_items m comment n l))
+    stuck-items n l none = by (pass_items m comment n l) (items-stuck m comment apart.prefix n l none)
       where
         by : (given : Option (List ℕ)) → IsStuck m comment given → IsStuck m comment (option_and_then (behind_header o) given)
         by None none = tt
         by (Some b) none = tail-stuck b none
 
+    rows-stuck : (l : List ℕ) → IsBroken m comment l → IsStuck m comment (option_and_then (behind_header o) (pass_items m comment o.skip_rows l))
+    rows-stuck l none = stuck-items o.skip_rows l none
+
     -- the data of bytes whose head is told stay in front of whatever follows, or nothing whole is left
     pub data-goes : (b : List ℕ) → tells_head o b ≡ true → Goes m comment (data_of o) b
     data-goes b told =
         by (goes-on m comment (λ l. Some (cut_head o.skip_lines (keeps_ends o) e l)) (λ l. option_and_then (behind_header o) (pass_items m comment o.skip_rows l)) b
-            (head-goes m comment apart.prefix b told) rows-go rows-stuck)
+        (head-goes m comment apart.prefix b told) rows-go rows-stuck)
       where
         by : Goes m comment (λ l. option_and_then (behind_header o) (pass_items m comment o.skip_rows (cut_head o.skip_lines (keeps_ends o) e l))) b → Goes m comment (data_of o) b
         by (inl (left, is, stays)) = inl (left, data-is b ∙ is, λ more. data-is (b ++ more) ∙ stays more)

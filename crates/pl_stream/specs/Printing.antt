@@ -1,7 +1,8 @@
 -- Rows of a stream that are read and printed; only the proofs of the code need this.
 use Rattle.std.specs.Prelude.{◌≡◌, ℕ, ◌+◌, ◌<◌, true, List, [], ◌∷◌, ◌++◌, length, take, Option, Some, None}
 use Rattle.pl_frame.specs.declared.error.PolarsError.{PolarsError}
-use Rattle.pl_frame.specs.Frame.{names_of}
+use Rattle.pl_frame.specs.declared.data_type.DataType.TheVariants as dtype
+use Rattle.pl_frame.specs.Frame.{Letters, ColumnValue, names_of}
 use Rattle.pl_frame.specs.Schema.{Entry}
 use Rattle.pl_options.specs.declared.read_options.CsvReadOptions.{CsvReadOptions}
 use Rattle.pl_options.specs.FirstCause.{IsFirstCause, first_some}
@@ -61,6 +62,10 @@ IsRowsFault first fault.OutOfMemory = Unit {0}
 IsRowsFault first _ = ⊥
 
 -- ---- their text
+
+-- a name as a column of one text
+abbrev pub name_column : List ℕ → ColumnValue
+name_column name = record { name = name; dtype = dtype.String; values = Some (Letters name) ∷ [] }
 
 -- what stands before the rows
 abbrev pub stream_head : CsvReadOptions → CsvWriterOptions → List ℕ

@@ -6,8 +6,9 @@ ghost use Rattle.pl_stream.specs.Stream.{StandsFor};
 use crate::ending::data_at;
 use crate::fault::StreamFault;
 use crate::head::advance;
+use crate::heading::push_head;
 use crate::place::Place;
-use crate::printing::{left_limit, print_records, push_head, push_lines};
+use crate::printing::{left_limit, print_records, push_lines};
 use crate::state::{KeptFault, StreamState};
 use pl_frame::compression::is_compressed;
 use pl_frame::error::{ComputeFault, NoDataFault, PolarsError};
@@ -118,7 +119,14 @@ impl StreamState {
         if step.place == Place::Records {
             let before = text.len();
             if self.rows == 0 {
-                push_head(self.alloc, &self.read, &self.settled, &self.write, text)?;
+                push_head(
+                    self.alloc,
+                    &mut self.printer,
+                    &self.read,
+                    &self.settled,
+                    &self.write,
+                    text,
+                )?;
             }
             let whole = print_records(
                 self.alloc,
@@ -154,7 +162,14 @@ impl StreamState {
             return Err(StreamFault::Polars(PolarsError::NoData(NoDataFault::Skip)));
         };
         if self.rows == 0 {
-            push_head(self.alloc, &self.read, &self.settled, &self.write, text)?;
+            push_head(
+                self.alloc,
+                &mut self.printer,
+                &self.read,
+                &self.settled,
+                &self.write,
+                text,
+            )?;
         }
         let count = match left_limit(self.read.n_rows, self.rows) {
             Some(limit) => limit,

@@ -8,6 +8,7 @@ mod ending;
 pub mod fault;
 pub mod feeding;
 mod head;
+mod heading;
 pub mod laws;
 pub mod place;
 mod printing;

@@ -1,38 +1,27 @@
 //! The lines of records of a stream.
-ghost use Rattle.std.specs.Prelude.{◌≡◌, ◌≤◌, ◌<◌, ◌+◌, ◌^◌, ◌++◌, ℕ, List, length, map, take, None, Some, IfOk, OnOk, IfErr, IfSome, IsOkUnless};
+ghost use Rattle.std.specs.Prelude.{◌≡◌, ◌≤◌, ◌<◌, ◌+◌, ◌^◌, ◌++◌, ℕ, List, length, map, take, None, Some, IfOk, OnOk, IfErr, IfSome};
 ghost use Rattle.std.specs.Bool.{OnTrue};
 ghost use Rattle.std.specs.Cow.{cow_slice_items};
 ghost use Rattle.std.specs.List.{concat};
-ghost use Rattle.pl_frame.specs.Frame.{IsFrame, names_of};
-ghost use Rattle.pl_frame.specs.Schema.{names_in};
-ghost use Rattle.pl_frame.specs.declared.error.PolarsError.TheVariants as error;
-ghost use Rattle.pl_text.specs.FrameText.{head_text};
 ghost use Rattle.pl_read.specs.Refusals.{numbers_past};
 ghost use Rattle.pl_rows.specs.Pieces.{left_limit};
 ghost use Rattle.pl_verbatim.specs.PrintedTexts.{CanPrint};
 ghost use Rattle.pl_verbatim.specs.Verbatim.{IsVerbatimOf};
-ghost use Rattle.pl_write.specs.Options.{cell_options, frame_options};
-ghost use Rattle.pl_stream.specs.declared.fault.StreamFault.TheVariants as fault;
-ghost use Rattle.pl_stream.specs.Printing.{CanStream, IsRowsFault, IsPrintedOn, AreRowsPrinted, IsPrintFault, first_rows, rows_cause, lines_behind, stream_head};
+ghost use Rattle.pl_write.specs.Options.{cell_options};
+ghost use Rattle.pl_stream.specs.Printing.{CanStream, IsRowsFault, IsPrintedOn, AreRowsPrinted, IsPrintFault, first_rows, rows_cause, lines_behind};
 ghost use Rattle.pl_stream.specs.Whole.{IsWholeEnd};
 
 use crate::cuts::{guess_end, last_end};
 use crate::fault::StreamFault;
 use crate::reading::{frame_behind, plan_in};
 use crate::whole::{Whole, whole_records};
-use pl_frame::column::Column;
-use pl_frame::data_type::DataType;
-use pl_frame::error::PolarsResult;
-use pl_frame::name::PlSmallStr;
 use pl_frame::schema::Schema;
-use pl_frame::sink::MemSink;
 use pl_options::read_options::CsvReadOptions;
 use pl_read::settle_given::Settled;
 use pl_read::workers::piece_size_for;
 use pl_regions::front::print_text;
 use pl_rows::plan::RangePlan;
 use pl_verbatim::verbatim::Verbatim;
-use pl_write::csv_writer::{CsvWriter, SerWriter};
 use pl_write::options::{CsvWriterOptions, SerializeOptions};
 use pl_write::row_printer::RowPrinter;
 use std::alloc::{AllocError, Global};
@@ -77,61 +66,6 @@ pub(crate) fn push_lines(
         return Err(StreamFault::OutOfMemory);
     }
     if text.extend_from_slice(printer.as_slice()).is_err() {
-        return Err(StreamFault::OutOfMemory);
-    }
-    Ok(())
-}
-
-// A schema with the names of columns, in order.
-fn names_of(alloc: Global, columns: &[Column]) -> PolarsResult<Schema>
-    requires { IsFrame columns.now }
-    ensures { IfOk result (λ names. names_in names ≡ names_of columns.now) }
-{
-    let mut names = Schema::new(alloc);
-    for column in columns {
-        let name = PlSmallStr::from_str(alloc, column.name())?;
-        names.with_column(name, DataType::Boolean)?;
-    }
-    Ok(names)
-}
-
-// Writes what stands before the rows of columns with the names of a schema.
-fn write_head(
-    alloc: Global,
-    schema: &Schema,
-    write: &CsvWriterOptions,
-    sink: &mut MemSink,
-) -> PolarsResult<()>
-    ensures { OnOk result (sink.new.received ≡ sink.old.received ++ head_text (frame_options write.now) (names_in schema.now)) }
-{
-    let writer = CsvWriter::new(alloc, sink)?.with_options(write)?;
-    let mut batched = writer.batched(schema)?;
-    batched.finish()
-}
-
-/// Appends what stands before the rows. Refuses only want of memory.
-pub(crate) fn push_head(
-    alloc: Global,
-    read: &CsvReadOptions,
-    settled: &Settled,
-    write: &CsvWriterOptions,
-    text: &mut Vec<u8>,
-) -> Result<(), StreamFault>
-    requires { CanStream read.now settled.now }
-    ensures head { OnOk result (text.new.items ≡ text.old.items ++ stream_head read.now write.now) }
-    ensures refused { IsOkUnless result fault.OutOfMemory }
-{
-    let Ok(none) = frame_behind(alloc, &[], read, settled, 0, 0) else {
-        return Err(StreamFault::OutOfMemory);
-    };
-    let Ok(names) = names_of(alloc, none.columns()) else {
-        return Err(StreamFault::OutOfMemory);
-    };
-    let mut sink = MemSink::new(alloc);
-    if write_head(alloc, &names, write, &mut sink).is_err() {
-        return Err(StreamFault::OutOfMemory);
-    }
-    if text.extend_from_slice(sink.received()).is_err() {
         return Err(StreamFault::OutOfMemory);
     }
     Ok(())

@@ -47,11 +47,7 @@ fn with_item(whole: Whole, len: usize, is_comment: bool) -> Whole
 }
 
 /// All items at the front of a text whose line ends came, or as many as have so many records.
-pub(crate) fn whole_records(
-    bytes: &[u8],
-    options: &CsvParseOptions,
-    limit: Option<usize>,
-) -> Whole
+pub(crate) fn whole_records(bytes: &[u8], options: &CsvParseOptions, limit: Option<usize>) -> Whole
     requires { IsDialect (marks_of options.now) (comment_of options.now) }
     ensures front { IsWholeFront options.now bytes.now result }
     ensures end { IsWholeEnd options.now bytes.now limit result }

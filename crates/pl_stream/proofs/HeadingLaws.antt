@@ -1,0 +1,62 @@
+-- What stands before the rows of a stream.
+use Rattle.std.proofs.Common.{◌≡◌, ℕ, ◌+◌, ◌<◌, Bool, true, false, List, [], ◌∷◌, ◌++◌, map, length, take, get_or, Option, None, Some, refl, sym, ◌∙◌, ap, arith, append-nil, append_assoc}
+use Rattle.std.proofs.lemmas.List.{map-append, take_more}
+use Rattle.pl_frame.specs.Frame.{ColumnValue, HaveHeight, height_of, names_of}
+use Rattle.pl_options.specs.declared.read_options.CsvReadOptions.{CsvReadOptions}
+use Rattle.pl_options.specs.declared.row_index.RowIndex.{RowIndex}
+use Rattle.pl_read.specs.Batches.{index_behind, frame_behind}
+use Rattle.pl_read.specs.Options.{rules_of}
+use Rattle.pl_read.specs.Projection.{projected}
+use Rattle.pl_read.specs.Rows.{with_index}
+use Rattle.pl_read.specs.SettleGiven.{given_schema}
+use Rattle.pl_rows.specs.Columns.{entries_in, frame_of_rows}
+use Rattle.pl_text.specs.FrameText.{WriteOptions, line, written_text, header_line, row_line, row_lines, written_cell}
+use Rattle.pl_frame.specs.Frame.{cell_at}
+use Rattle.pl_stream.specs.Printing.{name_column}
+use Rattle.pl_stream.specs.Settled.{frame_of_first}
+
+-- one name more
+pub names-more : (columns : List ColumnValue) (k : ℕ) (column : ColumnValue) (old new : List ColumnValue) (one : ColumnValue) (name : List ℕ) → k < length columns → column ≡ get_or columns k column → name ≡ column.name
+    → old ≡ map name_column (names_of (take k columns)) → one ≡ name_column name → new ≡ old ++ one ∷ [] → new ≡ map name_column (names_of (take (k + 1) columns))
+names-more columns k column old new one name inside is name_is so_far one_is now =
+    let front = take k columns in
+    let next : map name_column (names_of (take (k + 1) columns)) ≡ map name_column (names_of front) ++ name_column column.name ∷ [] =
+    ap (λ l. map name_column (names_of l)) (take_more columns k column inside ∙ ap (λ x. front ++ x ∷ []) (sym is))
+    ∙ ap (map name_column) (map-append (λ (c : ColumnValue). c.name) front (column ∷ []))
+    ∙ map-append name_column (names_of front) (column.name ∷ []) in
+    now ∙ ap (λ l. l ++ one ∷ []) so_far ∙ ap (λ x. map name_column (names_of front) ++ x ∷ []) (one_is ∙ ap name_column name_is) ∙ sym next
+
+pub level-names : (names : List (List ℕ)) → HaveHeight 1 (map name_column names)
+level-names [] = tt
+level-names (name ∷ names) = (refl, level-names names)
+
+pub level-line : (names : List (List ℕ)) → HaveHeight (height_of (map name_column names)) (map name_column names)
+level-line [] = tt
+level-line (name ∷ names) = (refl, level-names names)
+
+texts-are : (o : WriteOptions) (names : List (List ℕ)) → map (λ (column : ColumnValue). written_cell o column.dtype (cell_at column 0)) (map name_column names) ≡ map (written_text o) names
+texts-are o [] = refl
+texts-are o (name ∷ names) = ap (λ l. written_text o name ∷ l) (texts-are o names)
+
+-- the line of names is that of a row of texts
+pub names-line : (o : WriteOptions) (names : List (List ℕ)) → 0 < length names → row_lines o (map name_column names) 0 (height_of (map name_column names)) ≡ header_line o names
+names-line o [] some = absurd (omega arith)
+names-line o (name ∷ names) some = append-nil (row_line o (map name_column (name ∷ names)) 0) ∙ ap (line o) (texts-are o (name ∷ names))
+
+-- ---- the names of a stream
+
+pub names-first : (o : CsvReadOptions) → names_of (frame_behind o (given_schema o) 0 []) ≡ names_of (frame_of_first o [])
+names-first o = by o.row_index
+  where
+    by : (index : Option RowIndex) → names_of (with_index (index_behind 0 index) 0 (frame_of_rows (rules_of o (given_schema o)) (entries_in (given_schema o) (projected o (given_schema o))) []))
+        ≡ names_of (with_index index 0 (frame_of_rows (rules_of o (given_schema o)) (entries_in (given_schema o) (projected o (given_schema o))) []))
+    by None = refl
+    by (Some index) = refl
+
+pub some-first : (o : CsvReadOptions) → 0 < length (projected o (given_schema o)) → 0 < length (frame_behind o (given_schema o) 0 [])
+some-first o some = by o.row_index (projected o (given_schema o)) some
+  where
+    by : (index : Option RowIndex) (places : List ℕ) → 0 < length places → 0 < length (with_index (index_behind 0 index) 0 (frame_of_rows (rules_of o (given_schema o)) (entries_in (given_schema o) places) []))
+    by None [] some = absurd (omega arith)
+    by None (place ∷ places) some = omega arith
+    by (Some index) places some = omega arith

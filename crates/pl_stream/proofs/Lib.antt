@@ -11,3 +11,5 @@ pub mod PrintLaws
 pub mod StandLaws
 pub mod HeadingLaws
 pub mod BoundLaws
+pub mod StepLaws
+pub mod SettlingLaws

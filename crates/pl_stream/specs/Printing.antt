@@ -1,5 +1,5 @@
 -- Rows of a stream that are read and printed; only the proofs of the code need this.
-use Rattle.std.specs.Prelude.{◌≡◌, ℕ, ◌+◌, ◌<◌, true, List, [], ◌∷◌, ◌++◌, length, take, Option, Some, None}
+use Rattle.std.specs.Prelude.{◌≡◌, ℕ, zero, suc, ◌+◌, ◌<◌, true, List, [], ◌∷◌, ◌++◌, length, take, Option, Some, None}
 use Rattle.pl_frame.specs.declared.error.PolarsError.{PolarsError}
 use Rattle.pl_frame.specs.declared.data_type.DataType.TheVariants as dtype
 use Rattle.pl_frame.specs.Frame.{Letters, ColumnValue, names_of}
@@ -90,6 +90,22 @@ pub record AreRowsPrinted (o : CsvReadOptions) (write : CsvWriterOptions) (befor
   pub front : IsWholeFront o.parse_options records whole
   pub sound : rows_cause o before (front_rows o records whole) ≡ None
   pub lines : now ≡ old ++ lines_behind o write before (front_rows o records whole)
+
+-- what stands before the rows, unless rows stand before them
+abbrev pub head_once : CsvReadOptions → CsvWriterOptions → ℕ → List ℕ
+head_once o write zero = stream_head o write
+head_once o write (suc before) = []
+
+-- what the settled text gains by rows behind so many others
+abbrev pub gained_text : CsvReadOptions → CsvWriterOptions → ℕ → List Row → List ℕ
+gained_text o write before [] = []
+gained_text o write before (row ∷ others) = head_once o write before ++ lines_behind o write before (row ∷ others)
+
+-- what the settled text gains by the rows of whole items at the front of a text, behind so many others, was appended; no cause stands against them
+pub record AreSettled (o : CsvReadOptions) (write : CsvWriterOptions) (before : ℕ) (records : List ℕ) (old now : List ℕ) (whole : Whole) : Type 0 where
+  pub front : IsWholeFront o.parse_options records whole
+  pub sound : rows_cause o before (front_rows o records whole) ≡ None
+  pub gained : now ≡ old ++ gained_text o write before (front_rows o records whole)
 
 -- why the rows of all whole items at the front of a text, up to a limit, were not printed
 abbrev pub IsPrintFault : CsvReadOptions → ℕ → Option ℕ → List ℕ → StreamFault → Type 0

@@ -8,7 +8,8 @@ use crate::fault::StreamFault;
 use crate::head::advance;
 use crate::heading::push_head;
 use crate::place::Place;
-use crate::printing::{left_limit, print_records, push_lines};
+use crate::printing::{left_limit, push_lines};
+use crate::settling::push_settled;
 use crate::state::{KeptFault, StreamState};
 use pl_frame::compression::is_compressed;
 use pl_frame::error::{ComputeFault, NoDataFault, PolarsError};
@@ -117,18 +118,7 @@ impl StreamState {
             rows: self.rows,
         };
         if step.place == Place::Records {
-            let before = text.len();
-            if self.rows == 0 {
-                push_head(
-                    self.alloc,
-                    &mut self.printer,
-                    &self.read,
-                    &self.settled,
-                    &self.write,
-                    text,
-                )?;
-            }
-            let whole = print_records(
+            let whole = push_settled(
                 self.alloc,
                 &self.kept[step.at..],
                 &mut self.printer,
@@ -140,9 +130,6 @@ impl StreamState {
             )?;
             step.at += whole.end;
             step.rows += whole.rows;
-            if step.rows == 0 {
-                text.truncate(before);
-            }
             if left_limit(self.read.n_rows, step.rows) == Some(0) {
                 step.place = Place::Full;
             }

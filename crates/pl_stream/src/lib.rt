@@ -13,5 +13,6 @@ pub mod laws;
 pub mod place;
 mod printing;
 mod reading;
+mod settling;
 pub mod state;
 mod whole;

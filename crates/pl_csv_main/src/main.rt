@@ -10,6 +10,7 @@ use pl_csv::adapters::{FsOpener, ReadSource, WriteSink};
 use pl_csv::arguments::words;
 use pl_csv::run::run;
 use pl_multi::run::run_multi;
+use pl_stream::run::run_stream;
 use std::io;
 use std::io::Write;
 use std::process::ExitCode;
@@ -29,6 +30,7 @@ fn refuse(err: &mut impl Write, fault: &io::Error) -> u8 {
 enum Call<'a> {
     Help(&'a [String]),
     Multi(&'a [String]),
+    Stream(&'a [String]),
     Run(&'a [String]),
 }
 
@@ -37,6 +39,7 @@ fn call_of(words: &[String]) -> Call<'_> {
     match words {
         [first, others @ ..] if first.as_str() == "help" => Call::Help(others),
         [first, others @ ..] if first.as_str() == "multi" => Call::Multi(others),
+        [first, others @ ..] if first.as_str() == "stream" => Call::Stream(others),
         _ => Call::Run(words),
     }
 }
@@ -52,6 +55,13 @@ fn main(rt: HostRuntime) -> ExitCode {
                 rt.alloc(),
                 others,
                 &mut FsOpener::new(&rt),
+                &mut out,
+                &mut err,
+            ),
+            Call::Stream(others) => run_stream(
+                rt.alloc(),
+                others,
+                &mut ReadSource::new(rt.stdin()),
                 &mut out,
                 &mut err,
             ),

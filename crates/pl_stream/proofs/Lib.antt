@@ -13,3 +13,5 @@ pub mod HeadingLaws
 pub mod BoundLaws
 pub mod StepLaws
 pub mod SettlingLaws
+mod StreamingLaws
+mod RunLaws

@@ -5,5 +5,9 @@ pub mod Stream
 pub mod Kept
 pub mod Head
 pub mod Printing
+pub mod Ending
 pub mod Feeding
 pub mod Laws
+pub mod Streaming
+pub mod Telling
+pub mod Run

@@ -15,3 +15,4 @@ pub mod StepLaws
 pub mod SettlingLaws
 mod StreamingLaws
 mod RunLaws
+pub mod EndLaws

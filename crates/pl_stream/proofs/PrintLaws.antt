@@ -61,7 +61,7 @@ use Rattle.pl_stream.proofs.TextLaws.{frames-behind, same-behind, level-behind}
 
 -- ---- no rows
 
-none-lines : (w : WriteOptions) (rules : RowRules) (columns : List (ℕ × Entry)) → all_lines w (frame_of_rows rules columns []) ≡ []
+pub none-lines : (w : WriteOptions) (rules : RowRules) (columns : List (ℕ × Entry)) → all_lines w (frame_of_rows rules columns []) ≡ []
 none-lines w rules [] = refl
 none-lines w rules (column ∷ columns) = refl
 

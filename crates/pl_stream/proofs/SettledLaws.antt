@@ -15,12 +15,11 @@ use Rattle.pl_rows.proofs.RangeLaws.{rows-nil}
 use Rattle.pl_scan.specs.Fields.{fields}
 use Rattle.pl_scan.specs.Items.{ItemText, CommentText, RecordText, text_of, item, items_behind}
 use Rattle.pl_scan.proofs.ItemLaws.{items_behind-step, items_behind-nil}
-use Rattle.pl_seek.proofs.PlaceLaws.{text-fits}
 use Rattle.pl_table.specs.Rows.{Row, row_of, rows}
 use Rattle.pl_stream.specs.Laws.{SettledRowsStay}
 use Rattle.pl_stream.specs.Settled.{tells_head, is_whole, rows_so_far, settled_rows}
 use Rattle.pl_stream.proofs.StayLaws.{Goes, IsBroken, IsStuck, data-goes, tells-more}
-use Rattle.pl_stream.proofs.WholeLaws.{item-stays}
+use Rattle.pl_stream.proofs.WholeLaws.{item-stays, text-fits}
 
 -- the first elements of a list
 abbrev pub Begins : {X : Type 0} → List X → List X → Type 0

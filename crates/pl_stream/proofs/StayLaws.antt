@@ -17,10 +17,9 @@ use Rattle.pl_scan.specs.Start.{skip_line, skip_lines, cut_ends, cut_head, cut_m
 use Rattle.pl_scan.proofs.AppendLaws.{prefix_len-front}
 use Rattle.pl_scan.proofs.FieldLaws.{both_left, both_right}
 use Rattle.pl_scan.proofs.StartLaws.{skip_line-some, pass_comments-turn, pass_comments-end}
-use Rattle.pl_seek.proofs.PlaceLaws.{text-fits}
 use Rattle.pl_stream.specs.Settled.{has_lines, tells_head}
 use Rattle.pl_stream.specs.Stream.{behind_header}
-use Rattle.pl_stream.proofs.WholeLaws.{comment-stays, behind-stays}
+use Rattle.pl_stream.proofs.WholeLaws.{comment-stays, behind-stays, text-fits}
 use Rattle.pl_stream.proofs.HeadLaws.{lines-step, mark-step}
 
 -- ---- what is left

@@ -1,10 +1,11 @@
 -- An item whose line end came is the first item of every longer text.
-use Rattle.std.proofs.Common.{◌≡◌, ℕ, suc, ◌+◌, ◌<◌, Bool, true, false, cond, not, ◌==◌, List, [], ◌∷◌, ◌++◌, length, take, drop, refl, sym, ◌∙◌, ap, subst, append_assoc, arith, inl, inr, length-append, length-drop, nat_eq}
+use Rattle.std.proofs.Common.{◌≡◌, ℕ, suc, ◌+◌, ◌<◌, ◌≤◌, Bool, true, false, cond, not, ◌==◌, List, [], ◌∷◌, ◌++◌, length, take, drop, refl, sym, ◌∙◌, ap, subst, append_assoc, arith, inl, inr, length-append, length-drop, nat_eq}
 use Rattle.std.specs.Prelude.{Option, Some, take_while}
 use Rattle.std.specs.List.{prefix_len}
 use Rattle.std.proofs.lemmas.Bool.Decides.{nat_tests}
-use Rattle.std.proofs.lemmas.List.{length-take-le, take-append-le, drop-append-le, take-append-drop}
+use Rattle.std.proofs.lemmas.List.{length-take, length-take-le, take-append-le, drop-append-le, take-append-drop}
 use Rattle.std.proofs.lemmas.List.Folds.{length-prefix_len}
+use Rattle.std.proofs.lemmas.List.Sums.{prefix_len-le-length}
 use Rattle.pl_frame.specs.Dialect.{Marks, IsCommentPrefix}
 use Rattle.pl_scan.specs.Comment.{is_comment}
 use Rattle.pl_scan.specs.Fields.{extent}
@@ -37,6 +38,13 @@ cut-line e (x ∷ xs) h = by (x == e) refl h (cut-line e xs)
 -- the item at the front, by whether a comment begins there
 abbrev item_by : Bool → Marks → List ℕ → ItemText
 item_by t m b = cond t (CommentText (take_while (λ x. not (x == m.line_end)) b)) (RecordText (take (extent m b) b))
+
+pub text-fits : (m : Marks) (comment : Option (List ℕ)) (b : List ℕ) → length (text_of (item m comment b)) ≤ length b
+text-fits m comment b = by (is_comment comment b)
+  where
+    by : (t : Bool) → length (text_of (item_by t m b)) ≤ length b
+    by true = omega (arith, length-prefix_len (λ x. not (x == m.line_end)) b, prefix_len-le-length (λ x. not (x == m.line_end)) b)
+    by false = omega (arith, length-take (extent m b) b)
 
 pub cut-item : (m : Marks) (comment : Option (List ℕ)) (b : List ℕ) → length (text_of (item m comment b)) < length b → IsCut m.line_end (length (text_of (item m comment b))) b
 cut-item m comment b within = by (is_comment comment b) within

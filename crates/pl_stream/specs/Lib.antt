@@ -5,8 +5,8 @@ pub mod Stream
 pub mod Kept
 pub mod Head
 pub mod Printing
-pub mod Ending
 pub mod Feeding
+pub mod Ending
 pub mod Laws
 pub mod Streaming
 pub mod Telling

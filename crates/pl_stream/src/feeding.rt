@@ -1,14 +1,17 @@
 //! Bytes that come to a state, and their end.
 ghost use Rattle.std.specs.Prelude.{◌≡◌, ◌<◌, ◌^◌, ◌++◌, ℕ, List, None, false, true, length, OnOk, IfErr, OnErr};
 ghost use Rattle.pl_stream.specs.Feeding.{feed_cause, finish_cause, IsFed, IsFinished, IsStreamFault};
+ghost use Rattle.pl_read.specs.Refusals.{numbers_past};
+ghost use Rattle.pl_stream.specs.Ending.{HasEndText};
+ghost use Rattle.pl_stream.specs.Printing.{IsRowsFault};
 ghost use Rattle.pl_stream.specs.Stream.{StandsFor};
 
 use crate::ending::data_at;
 use crate::fault::StreamFault;
 use crate::head::advance;
-use crate::heading::push_head;
+use crate::finishing::push_end;
 use crate::place::Place;
-use crate::printing::{left_limit, push_lines};
+use crate::printing::left_limit;
 use crate::settling::push_settled;
 use crate::state::{KeptFault, StreamState};
 use pl_frame::compression::is_compressed;
@@ -140,29 +143,24 @@ impl StreamState {
         Ok(step)
     }
 
-    // Appends the text of the records that are not settled.
-    fn print_end(&mut self, text: &mut Vec<u8>) -> Result<(), StreamFault> {
+    // Appends what the text of the frame has behind the settled text, once the input ended. Refuses the first cause against the input, and want of
+    // memory. So many records that their number with that of the bytes does not fit come of no input.
+    fn print_end(&mut self, text: &mut Vec<u8>) -> Result<(), StreamFault>
+        requires numbered { numbers_past self.old.read.row_index 0 ≡ None }
+        ensures same { self.new ≡ self.old }
+        ensures ended { (bytes : List ℕ) → StandsFor self.old bytes → OnOk result (HasEndText self.old bytes text.old.items text.new.items) }
+        ensures refused { (bytes : List ℕ) → StandsFor self.old bytes → IfErr result (IsRowsFault (finish_cause self.old.read bytes)) }
+    {
         if self.place == Place::Start && is_compressed(&self.kept) {
             return Err(compressed());
         }
         let Some(records) = data_at(&self.kept, &self.read, self.place) else {
             return Err(StreamFault::Polars(PolarsError::NoData(NoDataFault::Skip)));
         };
-        if self.rows == 0 {
-            push_head(
-                self.alloc,
-                &mut self.printer,
-                &self.read,
-                &self.settled,
-                &self.write,
-                text,
-            )?;
+        if usize::checked_add(self.rows, records.len()).is_none() {
+            return Err(StreamFault::OutOfMemory);
         }
-        let count = match left_limit(self.read.n_rows, self.rows) {
-            Some(limit) => limit,
-            None => records.len(),
-        };
-        push_lines(
+        push_end(
             self.alloc,
             records,
             &mut self.printer,
@@ -170,7 +168,6 @@ impl StreamState {
             &self.settled,
             &self.write,
             self.rows,
-            count,
             text,
         )
     }

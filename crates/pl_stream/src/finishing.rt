@@ -33,10 +33,7 @@ pub(crate) fn push_end(
     let Ok(()) = push_head_once(alloc, printer, read, settled, write, rows, text) else {
         return Err(StreamFault::OutOfMemory);
     };
-    let count = match left_limit(read.n_rows, rows) {
-        Some(limit) => limit,
-        None => records.len(),
-    };
+    let count = left_limit(read.n_rows, rows).unwrap_or(records.len());
     push_lines(
         alloc, records, printer, read, settled, write, rows, count, text,
     )

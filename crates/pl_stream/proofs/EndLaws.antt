@@ -1,6 +1,6 @@
 -- What an input that ended has behind its settled records.
 use Rattle.std.proofs.Common.{◌≡◌, ℕ, zero, suc, ◌+◌, ◌-◌, ◌<◌, ◌≤◌, ◌^◌, Bool, true, false, cond, List, [], ◌∷◌, ◌++◌, length, take, drop, Option, None, Some, refl, sym, ◌∙◌, ap, subst, arith, append_assoc, append-nil, length-append, inl, inr}
-use Rattle.std.specs.Prelude.{unwrap_or, IfSome, OnOk, Result, Ok, Err, filter, is_none, nat_le, ◌&&◌}
+use Rattle.std.specs.Prelude.{unwrap_or, IfSome, OnOk, IfErr, Result, Ok, Err, filter, is_none, nat_le, ◌&&◌}
 use Rattle.std.proofs.lemmas.List.{take-append-drop, drop_at, length-take-le}
 use Rattle.std.specs.List.{AllByRecursion}
 use Rattle.std.specs.Option.{option_map}
@@ -41,8 +41,9 @@ use Rattle.pl_stream.proofs.SettledLaws.{settled-all}
 use Rattle.pl_stream.proofs.StepLaws.{same-front}
 use Rattle.pl_stream.proofs.TextLaws.{frame-more}
 use Rattle.pl_stream.proofs.WholeItemLaws.{rows-whole}
-use Rattle.pl_stream.specs.Ending.{end_rows, end_text}
-use Rattle.pl_stream.specs.Printing.{first_rows, rows_cause, head_once, lines_behind, stream_head}
+use Rattle.pl_stream.specs.declared.fault.StreamFault.{StreamFault}
+use Rattle.pl_stream.specs.Ending.{end_rows, end_text, HasEndText}
+use Rattle.pl_stream.specs.Printing.{first_rows, rows_cause, IsRowsFault, head_once, lines_behind, stream_head}
 
 -- a list that is no longer than a number is its first ones
 take-all : {X : Type 0} (n : ℕ) (xs : List X) → length xs ≤ n → take n xs ≡ xs
@@ -289,3 +290,47 @@ text-behind s b given stands all =
     ∙ behind-text s.read s.write (settled_rows s.read b) given
     ∙ ap (λ n. end_text s.read s.write n given) (sym stands.count)
 
+
+-- ---- an input that ended
+
+module _ (s : Stream) (b : List ℕ) (apart : IsDialect (marks_of s.read.parse_options) (comment_of s.read.parse_options)) (stands : StandsFor s b) where
+  -- the bytes at the start are compressed
+  pub end-compressed : s.place ≡ place.Start → is_compressed s.kept ≡ true → finish_cause s.read b ≡ Some (error.ComputeError compute_fault.Compressed)
+  end-compressed start marked =
+      let same : b ≡ s.kept = at-start s.place s.kept s.rows stands.read start in
+      ap (λ t. first_some (when t (error.ComputeError compute_fault.Compressed) ∷ when (is_none (data_of s.read b)) (error.NoData no_data.Skip) ∷ faulty_of s.read (all_rows s.read b) ∷ numbers_of s.read (length (all_rows s.read b)) ∷ []))
+          (ap is_compressed same ∙ marked)
+    where
+      at-start : (at : Place) (kept : List ℕ) (count : ℕ) → IsOnWay s.read b at kept count → at ≡ place.Start → b ≡ kept
+      at-start place.Start kept count way e = way.0
+      at-start (place.Lines n) kept count way e = cc
+      at-start place.Ends kept count way e = cc
+      at-start (place.Rows n) kept count way e = cc
+      at-start place.Header kept count way e = cc
+      at-start (place.Behind n) kept count way e = cc
+      at-start place.Records kept count way e = cc
+      at-start place.Full kept count way e = cc
+
+  -- there are too few items to be skipped
+  pub end-skipped : (s.place ≡ place.Start → is_compressed s.kept ≡ false) → data_at s.read s.place s.kept ≡ None → finish_cause s.read b ≡ Some (error.NoData no_data.Skip)
+  end-skipped plain none =
+      ap (λ t. first_some (when t (error.ComputeError compute_fault.Compressed) ∷ when (is_none (data_of s.read b)) (error.NoData no_data.Skip) ∷ faulty_of s.read (all_rows s.read b) ∷ numbers_of s.read (length (all_rows s.read b)) ∷ [])) (plain-end s b stands plain)
+      ∙ ap (λ t. first_some (when t (error.NoData no_data.Skip) ∷ faulty_of s.read (all_rows s.read b) ∷ numbers_of s.read (length (all_rows s.read b)) ∷ [])) (told-end s.read b apart s.place s.kept s.rows stands.read ∙ ap is_none none)
+
+  module _ (records : List ℕ) (plain : s.place ≡ place.Start → is_compressed s.kept ≡ false) (told : data_at s.read s.place s.kept ≡ Some records) (numbered : numbers_past s.read.row_index 0 ≡ None) where
+    abbrev given : List Row
+    given = end_rows s.read s.rows records
+
+    all : all_rows s.read b ≡ settled_rows s.read b ++ given
+    all = rows-end s.read b apart s.place s.kept s.rows records stands.read stands.count told
+
+    cause : finish_cause s.read b ≡ rows_cause s.read s.rows given
+    cause = cause-end s b given stands (plain-end s b stands plain) (told-end s.read b apart s.place s.kept s.rows stands.read ∙ ap is_none told) numbered all
+
+    pub end-refused : {T : Type 0} (result : Result T StreamFault) → IfErr result (IsRowsFault (rows_cause s.read s.rows (end_rows s.read s.rows records))) → IfErr result (IsRowsFault (finish_cause s.read b))
+    end-refused result refused = subst (λ (first : Option PolarsError). IfErr result (IsRowsFault first)) (sym cause) refused
+
+    pub has-end : {T : Type 0} (result : Result T StreamFault) (text now : List ℕ) → OnOk result (now ≡ text ++ end_text s.read s.write s.rows (end_rows s.read s.rows records)) → OnOk result (rows_cause s.read s.rows (end_rows s.read s.rows records) ≡ None)
+        → OnOk result (HasEndText s b text now)
+    has-end (Err e) text now appended sound = tt
+    has-end (Ok x) text now appended sound = record { sound = cause ∙ sound; appended = appended ∙ ap (λ l. text ++ l) (sym (text-behind s b given stands all)) }

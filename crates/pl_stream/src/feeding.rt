@@ -1,7 +1,12 @@
 //! Bytes that come to a state, and their end.
 ghost use Rattle.std.specs.Prelude.{◌≡◌, ◌<◌, ◌^◌, ◌++◌, ℕ, List, None, false, true, length, OnOk, IfErr, OnErr};
 ghost use Rattle.pl_stream.specs.Feeding.{feed_cause, finish_cause, IsFed, IsFinished, IsStreamFault};
+ghost use Rattle.pl_frame.specs.Compression.{is_compressed};
+ghost use Rattle.pl_frame.specs.declared.error.ComputeFault.TheVariants as compute_fault;
+ghost use Rattle.pl_frame.specs.declared.error.PolarsError.TheVariants as error;
 ghost use Rattle.pl_read.specs.Refusals.{numbers_past};
+ghost use Rattle.pl_stream.specs.declared.fault.StreamFault.TheVariants as fault;
+ghost use Rattle.pl_stream.specs.declared.place.Place.TheVariants as place;
 ghost use Rattle.pl_stream.specs.Ending.{HasEndText};
 ghost use Rattle.pl_stream.specs.Printing.{IsRowsFault};
 ghost use Rattle.pl_stream.specs.Stream.{StandsFor};
@@ -26,8 +31,21 @@ struct Step {
 }
 
 // The refusal of a compressed input.
-fn compressed() -> StreamFault {
+fn compressed() -> StreamFault
+    ensures { result ≡ fault.Polars (error.ComputeError compute_fault.Compressed) }
+{
     StreamFault::Polars(PolarsError::ComputeError(ComputeFault::Compressed))
+}
+
+// Whether bytes at the start of an input begin with the mark of a compressed stream.
+fn is_marked(at: Place, kept: &[u8]) -> bool
+    ensures yes { result ≡ true → (at ≡ place.Start) × (is_compressed kept.now ≡ true) }
+    ensures no { result ≡ false → at ≡ place.Start → is_compressed kept.now ≡ false }
+{
+    match at {
+        Place::Start => is_compressed(kept),
+        _ => false,
+    }
 }
 
 impl StreamState {
@@ -151,7 +169,7 @@ impl StreamState {
         ensures ended { (bytes : List ℕ) → StandsFor self.old bytes → OnOk result (HasEndText self.old bytes text.old.items text.new.items) }
         ensures refused { (bytes : List ℕ) → StandsFor self.old bytes → IfErr result (IsRowsFault (finish_cause self.old.read bytes)) }
     {
-        if self.place == Place::Start && is_compressed(&self.kept) {
+        if is_marked(self.place, &self.kept) {
             return Err(compressed());
         }
         let Some(records) = data_at(&self.kept, &self.read, self.place) else {

@@ -75,7 +75,7 @@ at-head o b kept is = record {
 }
 
 -- whole items are let go
-pub at-more : (o : CsvReadOptions) (b kept : List ℕ) (count next : ℕ) (whole : Whole) → IsDialect (marks_of o.parse_options) (comment_of o.parse_options) → IsAtRecords o b kept count → IsWholeFront o.parse_options kept whole
+unfoldable pub at-more : (o : CsvReadOptions) (b kept : List ℕ) (count next : ℕ) (whole : Whole) → IsDialect (marks_of o.parse_options) (comment_of o.parse_options) → IsAtRecords o b kept count → IsWholeFront o.parse_options kept whole
     → next ≡ count + whole.rows → IsAtRecords o b (drop whole.end kept) next
 at-more o b kept count next whole apart at front next_is =
     let m = marks_of o.parse_options in

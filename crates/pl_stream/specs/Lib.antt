@@ -5,6 +5,7 @@ pub mod Stream
 pub mod Kept
 pub mod Head
 pub mod Printing
+pub mod Stepping
 pub mod Feeding
 pub mod Ending
 pub mod Laws

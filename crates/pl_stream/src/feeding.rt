@@ -1,38 +1,29 @@
 //! Bytes that come to a state, and their end.
-ghost use Rattle.std.specs.Prelude.{◌≡◌, ◌<◌, ◌^◌, ◌++◌, ℕ, List, None, false, true, length, OnOk, IfErr, OnErr};
+ghost use Rattle.std.specs.Prelude.{◌≡◌, ◌<◌, ◌≤◌, ◌^◌, ◌++◌, ℕ, List, None, false, true, drop, length, OnOk, IfErr, OnErr};
 ghost use Rattle.pl_stream.specs.Feeding.{feed_cause, finish_cause, IsFed, IsFinished, IsStreamFault};
 ghost use Rattle.pl_frame.specs.Compression.{is_compressed};
 ghost use Rattle.pl_frame.specs.declared.error.ComputeFault.TheVariants as compute_fault;
 ghost use Rattle.pl_frame.specs.declared.error.PolarsError.TheVariants as error;
 ghost use Rattle.pl_read.specs.Refusals.{numbers_past};
-ghost use Rattle.pl_stream.specs.declared.fault.StreamFault.TheVariants as fault;
 ghost use Rattle.pl_stream.specs.declared.place.Place.TheVariants as place;
 ghost use Rattle.pl_stream.specs.Ending.{HasEndText};
+ghost use Rattle.pl_stream.specs.Kept.{error_of};
 ghost use Rattle.pl_stream.specs.Printing.{IsRowsFault};
 ghost use Rattle.pl_stream.specs.Stream.{StandsFor};
+ghost use Rattle.pl_stream.specs.declared.fault.StreamFault.TheVariants as refusal;
 
 use crate::ending::data_at;
 use crate::fault::StreamFault;
-use crate::head::advance;
 use crate::finishing::push_end;
 use crate::place::Place;
-use crate::printing::left_limit;
-use crate::settling::push_settled;
 use crate::state::{KeptFault, StreamState};
+use crate::stepping::{kept_of, settle};
 use pl_frame::compression::is_compressed;
 use pl_frame::error::{ComputeFault, NoDataFault, PolarsError};
 
-// What a call makes of a state: how many bytes are let go, where the others are read on, and how many records were settled.
-#[derive(Clone, Copy)]
-struct Step {
-    at: usize,
-    place: Place,
-    rows: usize,
-}
-
 // The refusal of a compressed input.
 fn compressed() -> StreamFault
-    ensures { result ≡ fault.Polars (error.ComputeError compute_fault.Compressed) }
+    ensures { result ≡ refusal.Polars (error.ComputeError compute_fault.Compressed) }
 {
     StreamFault::Polars(PolarsError::ComputeError(ComputeFault::Compressed))
 }
@@ -65,18 +56,26 @@ impl StreamState {
         if self.kept.extend_from_slice(piece).is_err() {
             return Err(StreamFault::OutOfMemory);
         }
-        let before = text.len();
-        match self.settle(text) {
+        match settle(
+            self.alloc,
+            &self.kept,
+            self.place,
+            &mut self.printer,
+            &self.read,
+            &self.settled,
+            &self.write,
+            self.rows,
+            text,
+        ) {
             Ok(step) => {
-                self.let_go(step.at);
+                let_go(&mut self.kept, step.at);
                 self.place = step.place;
                 self.rows = step.rows;
                 Ok(())
             }
             Err(fault) => {
-                text.truncate(before);
                 self.kept.truncate(held);
-                self.keep(&fault);
+                self.fault = kept_of(&fault);
                 Err(fault)
             }
         }
@@ -101,64 +100,10 @@ impl StreamState {
             }
             Err(fault) => {
                 text.truncate(before);
-                self.keep(&fault);
+                self.fault = kept_of(&fault);
                 Err(fault)
             }
         }
-    }
-
-    // Lets the first bytes go that are kept.
-    fn let_go(&mut self, count: usize) {
-        let left = self.kept.len() - count;
-        self.kept.copy_within(count.., 0);
-        self.kept.truncate(left);
-    }
-
-    // Keeps a fault of the input.
-    fn keep(&mut self, fault: &StreamFault) {
-        match fault {
-            StreamFault::Polars(PolarsError::ComputeError(fault)) => {
-                self.fault = Some(KeptFault::Compute(*fault));
-            }
-            StreamFault::Polars(PolarsError::NoData(fault)) => {
-                self.fault = Some(KeptFault::NoData(*fault));
-            }
-            _ => (),
-        }
-    }
-
-    // Appends the text of the records that are settled now.
-    fn settle(&mut self, text: &mut Vec<u8>) -> Result<Step, StreamFault> {
-        if self.place == Place::Start && self.kept.len() >= 4 && is_compressed(&self.kept) {
-            return Err(compressed());
-        }
-        let reached = advance(&self.kept, &self.read, self.place);
-        let mut step = Step {
-            at: reached.at,
-            place: reached.place,
-            rows: self.rows,
-        };
-        if step.place == Place::Records {
-            let whole = push_settled(
-                self.alloc,
-                &self.kept[step.at..],
-                &mut self.printer,
-                &self.read,
-                &self.settled,
-                &self.write,
-                self.rows,
-                text,
-            )?;
-            step.at += whole.end;
-            step.rows += whole.rows;
-            if left_limit(self.read.n_rows, step.rows) == Some(0) {
-                step.place = Place::Full;
-            }
-        }
-        if step.place == Place::Full {
-            step.at = self.kept.len();
-        }
-        Ok(step)
     }
 
     // Appends what the text of the frame has behind the settled text, once the input ended. Refuses the first cause against the input, and want of
@@ -191,8 +136,20 @@ impl StreamState {
     }
 }
 
+// Lets the first bytes go.
+fn let_go(kept: &mut Vec<u8>, count: usize)
+    requires { count ≤ length kept.now.items }
+    ensures { kept.new.items ≡ drop count kept.old.items }
+{
+    let left = kept.len() - count;
+    kept.copy_within(count.., 0);
+    kept.truncate(left);
+}
+
 // The fault that is kept, once more.
-fn fault_of_kept(fault: KeptFault) -> StreamFault {
+fn fault_of_kept(fault: KeptFault) -> StreamFault
+    ensures { result ≡ refusal.Polars (error_of fault) }
+{
     match fault {
         KeptFault::Compute(fault) => StreamFault::Polars(PolarsError::ComputeError(fault)),
         KeptFault::NoData(fault) => StreamFault::Polars(PolarsError::NoData(fault)),

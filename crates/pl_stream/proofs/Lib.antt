@@ -19,3 +19,4 @@ pub mod FedLaws
 mod StreamingLaws
 mod RunLaws
 pub mod EndLaws
+pub mod FinishLaws

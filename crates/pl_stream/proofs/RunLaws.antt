@@ -37,6 +37,7 @@ use Rattle.pl_stream.specs.Run.{Asks, HasNoStream, asks_nothing, IsOutcome, IsRu
 use Rattle.pl_stream.specs.Settled.{settled_rows}
 use Rattle.pl_stream.specs.Streaming.{IsUnstreamed, IsStreamRefused, HasFed, most_bytes}
 use Rattle.pl_stream.specs.Telling.{refusal_of, stream_status}
+use Rattle.pl_stream.proofs.EndLaws.{when-some, numbers-fewer}
 use Rattle.pl_stream.proofs.StreamingLaws.{accepted-dialect}
 use Rattle.pl_stream.proofs.TextLaws.{rows-front}
 
@@ -49,14 +50,6 @@ compressed-more (x ∷ []) more h = absurd (omega arith)
 compressed-more (x ∷ y ∷ []) more h = absurd (omega arith)
 compressed-more (x ∷ y ∷ z ∷ []) more h = absurd (omega arith)
 compressed-more (x ∷ y ∷ z ∷ w ∷ others) more h = refl
-
--- there is a first cause where a cause is told
-when-some : (t : Bool) (x : PolarsError) → when t x ≡ None → t ≡ false
-when-some true x none = absurd (some-none x none)
-  where
-    some-none : (x : PolarsError) → ◌≡◌ {A = Option PolarsError} (Some x) None → ⊥
-    some-none x h = cc
-when-some false x none = refl
 
 -- none of four causes stands
 pub record AllNone (a b c d : Option PolarsError) : Type 0 where
@@ -74,14 +67,6 @@ all-none (Some x) b c d none = absurd (let h : ◌≡◌ {A = Option PolarsError
 
 none-of : (a b c : Option PolarsError) → a ≡ None → b ≡ None → c ≡ None → first_some (a ∷ b ∷ c ∷ []) ≡ None
 none-of a b c x y z = ap (λ o. first_some (o ∷ b ∷ c ∷ [])) x ∙ ap (λ o. first_some (o ∷ c ∷ [])) y ∙ ap (λ o. first_some (o ∷ [])) z
-
--- fewer numbers fit where more do
-numbers-fewer : (index : Option RowIndex) (few more : ℕ) → few ≤ more → numbers_past index more ≡ None → numbers_past index few ≡ None
-numbers-fewer None few more least none = refl
-numbers-fewer (Some given) few more least none =
-    let fits : nat_lt (2 ^ 64) (given.offset + more) ≡ false = when-some (nat_lt (2 ^ 64) (given.offset + more)) (error.ComputeError (compute_fault.Index given.offset more)) none in
-    let still : nat_lt (2 ^ 64) (given.offset + few) ≡ false = grind (arith, nat_tests, fits, least) in
-    ap (λ t. when t (error.ComputeError (compute_fault.Index given.offset few))) still
 
 numbers_of-fewer : (o : CsvReadOptions) (xs ys : List Row) → numbers_of o (length (xs ++ ys)) ≡ None → numbers_of o (length xs) ≡ None
 numbers_of-fewer o [] ys none = refl

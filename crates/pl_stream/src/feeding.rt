@@ -4,7 +4,6 @@ ghost use Rattle.pl_stream.specs.Feeding.{feed_cause, finish_cause, IsFed, IsFin
 ghost use Rattle.pl_frame.specs.Compression.{is_compressed};
 ghost use Rattle.pl_frame.specs.declared.error.ComputeFault.TheVariants as compute_fault;
 ghost use Rattle.pl_frame.specs.declared.error.PolarsError.TheVariants as error;
-ghost use Rattle.pl_read.specs.Refusals.{numbers_past};
 ghost use Rattle.pl_stream.specs.declared.place.Place.TheVariants as place;
 ghost use Rattle.pl_stream.specs.Ending.{HasEndText};
 ghost use Rattle.pl_stream.specs.Kept.{error_of};
@@ -92,14 +91,16 @@ impl StreamState {
         if let Some(fault) = self.fault {
             return Err(fault_of_kept(fault));
         }
-        let before = text.len();
-        match self.print_end(text) {
+        let mut gained = Vec::new(self.alloc);
+        match self.print_end(&mut gained) {
             Ok(()) => {
+                if text.extend_from_slice(&gained).is_err() {
+                    return Err(StreamFault::OutOfMemory);
+                }
                 self.is_finished = true;
                 Ok(())
             }
             Err(fault) => {
-                text.truncate(before);
                 self.fault = kept_of(&fault);
                 Err(fault)
             }
@@ -109,7 +110,6 @@ impl StreamState {
     // Appends what the text of the frame has behind the settled text, once the input ended. Refuses the first cause against the input, and want of
     // memory. So many records that their number with that of the bytes does not fit come of no input.
     fn print_end(&mut self, text: &mut Vec<u8>) -> Result<(), StreamFault>
-        requires numbered { numbers_past self.old.read.row_index 0 ≡ None }
         ensures same { self.new ≡ self.old }
         ensures ended { (bytes : List ℕ) → StandsFor self.old bytes → OnOk result (HasEndText self.old bytes text.old.items text.new.items) }
         ensures refused { (bytes : List ℕ) → StandsFor self.old bytes → IfErr result (IsRowsFault (finish_cause self.old.read bytes)) }

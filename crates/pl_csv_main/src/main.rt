@@ -1,5 +1,5 @@
-//! The program `pl_csv`: `run`, or `run_multi` where the first word is `multi` and `run_seek` where it is `seek`, over the words and the
-//! standard streams of the process; where it is `help`, what the words mean, and where it is `version`, which program this is.
+//! The program `pl_csv`: `run`, or `run_multi` where the first word is `multi`, `run_seek` where it is `seek` and `run_stream` where it is
+//! `stream`, over the words and the standard streams of the process; where it is `help`, what the words mean, and where it is `version`, which program this is.
 #![tactic(auto)]
 
 mod help;
@@ -15,6 +15,7 @@ use pl_csv::arguments::words;
 use pl_csv::run::run;
 use pl_multi::run::run_multi;
 use pl_seek::run::run_seek;
+use pl_stream::run::run_stream;
 use std::io;
 use std::io::Write;
 use std::process::ExitCode;
@@ -36,6 +37,7 @@ enum Call<'a> {
     Version,
     Multi(&'a [String]),
     Seek(&'a [String]),
+    Stream(&'a [String]),
     Run(&'a [String]),
 }
 
@@ -46,6 +48,7 @@ fn call_of(words: &[String]) -> Call<'_> {
         [only] if only.as_str() == "version" => Call::Version,
         [first, others @ ..] if first.as_str() == "multi" => Call::Multi(others),
         [first, others @ ..] if first.as_str() == "seek" => Call::Seek(others),
+        [first, others @ ..] if first.as_str() == "stream" => Call::Stream(others),
         _ => Call::Run(words),
     }
 }
@@ -70,6 +73,13 @@ fn main(rt: HostRuntime) -> ExitCode {
                 rt.alloc(),
                 others,
                 &mut FsOpener::new(&rt),
+                &mut out,
+                &mut err,
+            ),
+            Call::Stream(others) => run_stream(
+                rt.alloc(),
+                others,
+                &mut ReadSource::new(rt.stdin()),
                 &mut out,
                 &mut err,
             ),

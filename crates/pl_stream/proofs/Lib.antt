@@ -13,3 +13,10 @@ pub mod HeadingLaws
 pub mod BoundLaws
 pub mod StepLaws
 pub mod SettlingLaws
+pub mod SteppingLaws
+pub mod FeedLaws
+pub mod FedLaws
+mod StreamingLaws
+mod RunLaws
+pub mod EndLaws
+pub mod FinishLaws

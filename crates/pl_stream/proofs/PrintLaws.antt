@@ -61,7 +61,7 @@ use Rattle.pl_stream.proofs.TextLaws.{frames-behind, same-behind, level-behind}
 
 -- ---- no rows
 
-none-lines : (w : WriteOptions) (rules : RowRules) (columns : List (ℕ × Entry)) → all_lines w (frame_of_rows rules columns []) ≡ []
+pub none-lines : (w : WriteOptions) (rules : RowRules) (columns : List (ℕ × Entry)) → all_lines w (frame_of_rows rules columns []) ≡ []
 none-lines w rules [] = refl
 none-lines w rules (column ∷ columns) = refl
 
@@ -298,9 +298,10 @@ can-print plan o settled can p texts =
 print-fault_by : (o : CsvReadOptions) (write : CsvWriterOptions) (before : ℕ) (records old mid : List ℕ) (first : Whole) → IsDialect (marks_of o.parse_options) (comment_of o.parse_options) → AreRowsPrinted o write before records old mid first
     → IfSome o.n_rows (λ _. first.rows ≡ 0) → (given : StreamFault)
     → (whole : Whole) × IsWholeFront o.parse_options (drop first.end records) whole × IsWholeEnd o.parse_options (drop first.end records) (left_limit o.n_rows before) whole
-    × IsRowsFault (rows_cause o (before + first.rows) (front_rows o (drop first.end records) whole)) given
-    → (whole : Whole) × IsWholeFront o.parse_options records whole × IsWholeEnd o.parse_options records (left_limit o.n_rows before) whole × IsRowsFault (rows_cause o before (front_rows o records whole)) given
-print-fault_by o write before records old mid first apart one none given (next, front, end, is) =
+    × IfSome (left_limit o.n_rows before) (λ most. whole.rows ≤ most) × IsRowsFault (rows_cause o (before + first.rows) (front_rows o (drop first.end records) whole)) given
+    → (whole : Whole) × IsWholeFront o.parse_options records whole × IsWholeEnd o.parse_options records (left_limit o.n_rows before) whole
+    × IfSome (left_limit o.n_rows before) (λ most. whole.rows ≤ most) × IsRowsFault (rows_cause o before (front_rows o records whole)) given
+print-fault_by o write before records old mid first apart one none given (next, front, end, few, is) =
     let m = marks_of o.parse_options in
     let comment = comment_of o.parse_options in
     let a : List ℕ = take first.end records in
@@ -310,7 +311,7 @@ print-fault_by o write before records old mid first apart one none given (next, 
     let count : before + first.rows ≡ before + length (rows m comment a) = ap (λ n. before + n) one.front.count_is in
     let cause : rows_cause o (before + first.rows) (rows m comment b) ≡ rows_cause o before (front_rows o records whole) =
     ap (λ n. rows_cause o n (rows m comment b)) count ∙ sym (cause-behind o before (rows m comment a) (rows m comment b) one.sound) ∙ ap (rows_cause o before) (sym joined.1) in
-    (whole, joined.0, end-more o before records first next whole none end refl refl, subst (λ c. IsRowsFault c given) cause is)
+    (whole, joined.0, end-more o before records first next whole none end refl refl, few-more o before first next whole none few refl, subst (λ c. IsRowsFault c given) cause is)
 
 pub print-fault-more : (o : CsvReadOptions) (write : CsvWriterOptions) (before : ℕ) (records old mid : List ℕ) (first : Whole) → IsDialect (marks_of o.parse_options) (comment_of o.parse_options) → AreRowsPrinted o write before records old mid first
     → IfSome o.n_rows (λ _. first.rows ≡ 0) → (given : StreamFault) → IsPrintFault o (before + first.rows) (left_limit o.n_rows before) (drop first.end records) given → IsPrintFault o before (left_limit o.n_rows before) records given

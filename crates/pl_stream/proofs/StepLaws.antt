@@ -75,7 +75,7 @@ at-head o b kept is = record {
 }
 
 -- whole items are let go
-pub at-more : (o : CsvReadOptions) (b kept : List ℕ) (count next : ℕ) (whole : Whole) → IsDialect (marks_of o.parse_options) (comment_of o.parse_options) → IsAtRecords o b kept count → IsWholeFront o.parse_options kept whole
+unfoldable pub at-more : (o : CsvReadOptions) (b kept : List ℕ) (count next : ℕ) (whole : Whole) → IsDialect (marks_of o.parse_options) (comment_of o.parse_options) → IsAtRecords o b kept count → IsWholeFront o.parse_options kept whole
     → next ≡ count + whole.rows → IsAtRecords o b (drop whole.end kept) next
 at-more o b kept count next whole apart at front next_is =
     let m = marks_of o.parse_options in
@@ -98,7 +98,7 @@ at-more o b kept count next whole apart at front next_is =
         ∙ sym (append_assoc before (take whole.end kept) (drop whole.end kept ++ more))
 
 -- fronts that are as long are the same
-same-front : {X : Type 0} (a b c d : List X) → a ++ b ≡ c ++ d → length a ≡ length c → (a ≡ c) × (b ≡ d)
+pub same-front : {X : Type 0} (a b c d : List X) → a ++ b ≡ c ++ d → length a ≡ length c → (a ≡ c) × (b ≡ d)
 same-front a b c d is size = (
   sym (take-append_seam a b) ∙ ap (take (length a)) is ∙ ap (λ n. take n (c ++ d)) size ∙ take-append_seam c d,
   sym (drop_at a b (length a) refl) ∙ ap (drop (length a)) is ∙ drop_at c d (length a) (sym size),

@@ -102,7 +102,7 @@ module _ (o : CsvReadOptions) where
 
   -- ---- their texts
 
-  frame-more : (w : WriteOptions) (xs ys : List Row) → text_of_frame w (frame_of_first o (xs ++ ys)) ≡ text_of_frame w (frame_of_first o xs) ++ all_lines w (frame_behind o (given_schema o) (length xs) ys)
+  pub frame-more : (w : WriteOptions) (xs ys : List Row) → text_of_frame w (frame_of_first o (xs ++ ys)) ≡ text_of_frame w (frame_of_first o xs) ++ all_lines w (frame_behind o (given_schema o) (length xs) ys)
   frame-more w xs ys =
       let C = frame_of_first o xs in
       let D = frame_behind o (given_schema o) (length xs) ys in
@@ -156,3 +156,19 @@ cuts_do_not_matter o write pieces apart =
     let b : List ℕ = concat pieces in
     ap (λ l. l ++ behind_settled o write b (whole_text o write b)) (fed-from o write apart [] pieces)
     ∙ behind-front (settled_text o write b) (whole_text o write b) (whole-same o write (settled_rows o b) (all_rows o b) (settled-all o b apart))
+
+-- what the settled text of bytes and of more have in common, and what the text of the frame has
+pub fed-more : (o : CsvReadOptions) (write : CsvWriterOptions) (b piece : List ℕ) → IsDialect (marks_of o.parse_options) (comment_of o.parse_options)
+    → settled_text o write b ++ behind_settled o write b (settled_text o write (b ++ piece)) ≡ settled_text o write (b ++ piece)
+fed-more o write b piece apart = behind-front (settled_text o write b) (settled_text o write (b ++ piece)) (settled_text_stays o write b piece apart)
+
+pub whole-more : (o : CsvReadOptions) (write : CsvWriterOptions) (b : List ℕ) → IsDialect (marks_of o.parse_options) (comment_of o.parse_options)
+    → settled_text o write b ++ behind_settled o write b (whole_text o write b) ≡ whole_text o write b
+whole-more o write b apart = behind-front (settled_text o write b) (whole_text o write b) (whole-same o write (settled_rows o b) (all_rows o b) (settled-all o b apart))
+
+-- the settled records of bytes are the first of all rows of an input that begins with them
+pub rows-front : (o : CsvReadOptions) (b more : List ℕ) → IsDialect (marks_of o.parse_options) (comment_of o.parse_options) → (others : List Row) × (all_rows o (b ++ more) ≡ settled_rows o b ++ others)
+rows-front o b more apart =
+    let stay = settled_rows_stay o b more apart in
+    let all = settled-all o (b ++ more) apart in
+    (stay.0 ++ all.0, all.1 ∙ ap (λ l. l ++ all.0) stay.1 ∙ append_assoc (settled_rows o b) stay.0 all.0)

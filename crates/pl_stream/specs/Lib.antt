@@ -5,5 +5,10 @@ pub mod Stream
 pub mod Kept
 pub mod Head
 pub mod Printing
+pub mod Stepping
 pub mod Feeding
+pub mod Ending
 pub mod Laws
+pub mod Streaming
+pub mod Telling
+pub mod Run

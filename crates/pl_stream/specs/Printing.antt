@@ -1,5 +1,5 @@
 -- Rows of a stream that are read and printed; only the proofs of the code need this.
-use Rattle.std.specs.Prelude.{◌≡◌, ℕ, zero, suc, ◌+◌, ◌<◌, true, List, [], ◌∷◌, ◌++◌, length, take, Option, Some, None}
+use Rattle.std.specs.Prelude.{◌≡◌, ℕ, zero, suc, ◌+◌, ◌<◌, ◌≤◌, true, List, [], ◌∷◌, ◌++◌, length, take, Option, Some, None, IfSome}
 use Rattle.pl_frame.specs.declared.error.PolarsError.{PolarsError}
 use Rattle.pl_frame.specs.declared.data_type.DataType.TheVariants as dtype
 use Rattle.pl_frame.specs.Frame.{Letters, ColumnValue, names_of}
@@ -111,4 +111,5 @@ pub record AreSettled (o : CsvReadOptions) (write : CsvWriterOptions) (before : 
 abbrev pub IsPrintFault : CsvReadOptions → ℕ → Option ℕ → List ℕ → StreamFault → Type 0
 IsPrintFault o before limit records fault.OutOfMemory = Unit {0}
 IsPrintFault o before limit records given =
-    (whole : Whole) × IsWholeFront o.parse_options records whole × IsWholeEnd o.parse_options records limit whole × IsRowsFault (rows_cause o before (front_rows o records whole)) given
+    (whole : Whole) × IsWholeFront o.parse_options records whole × IsWholeEnd o.parse_options records limit whole × IfSome limit (λ most. whole.rows ≤ most)
+    × IsRowsFault (rows_cause o before (front_rows o records whole)) given

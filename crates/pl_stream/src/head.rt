@@ -6,7 +6,7 @@ ghost use Rattle.pl_options.specs.Text.{marks_of, comment_of};
 ghost use Rattle.pl_read.specs.Options.{keeps_ends};
 ghost use Rattle.pl_scan.specs.Items.{item, text_of};
 ghost use Rattle.pl_scan.specs.Start.{cut_ends};
-ghost use Rattle.pl_stream.specs.Head.{IsReached, IsNearer, HasNoStep};
+ghost use Rattle.pl_stream.specs.Head.{IsReached, IsNearer, HasNoStep, rank};
 ghost use Rattle.pl_stream.specs.declared.place.Place.TheVariants as spot;
 
 use crate::place::Place;
@@ -98,6 +98,7 @@ fn pass_line(bytes: &[u8], options: &CsvReadOptions, left: usize) -> Option<Reac
     requires { 0 < left }
     ensures reached { IfSome result (IsReached options.now (spot.Lines left) bytes.now) }
     ensures nearer { IfSome result (IsNearer (spot.Lines left)) }
+    ensures past { IfSome result (λ next. rank next.place < 6) }
     ensures none { IfNone result (HasNoStep options.now (spot.Lines left) bytes.now) }
 {
     let len = line_len(bytes, options.parse_options.eol_char);
@@ -122,6 +123,7 @@ fn pass_line(bytes: &[u8], options: &CsvReadOptions, left: usize) -> Option<Reac
 fn pass_start(bytes: &[u8], options: &CsvReadOptions) -> Option<Reached>
     ensures reached { IfSome result (IsReached options.now spot.Start bytes.now) }
     ensures nearer { IfSome result (IsNearer spot.Start) }
+    ensures past { IfSome result (λ next. rank next.place < 6) }
     ensures none { IfNone result (HasNoStep options.now spot.Start bytes.now) }
 {
     if bytes.len() < 4 {
@@ -144,6 +146,7 @@ fn pass_start(bytes: &[u8], options: &CsvReadOptions) -> Option<Reached>
 fn pass_ends(bytes: &[u8], options: &CsvReadOptions) -> Option<Reached>
     ensures reached { IfSome result (IsReached options.now spot.Ends bytes.now) }
     ensures nearer { IfSome result (IsNearer spot.Ends) }
+    ensures past { IfSome result (λ next. rank next.place < 6) }
     ensures none { IfNone result (HasNoStep options.now spot.Ends bytes.now) }
 {
     let rows = Place::Rows(options.skip_rows);
@@ -169,6 +172,7 @@ fn pass_header(bytes: &[u8], options: &CsvReadOptions) -> Option<Reached>
     requires { IsDialect (marks_of options.now.parse_options) (comment_of options.now.parse_options) }
     ensures reached { IfSome result (IsReached options.now spot.Header bytes.now) }
     ensures nearer { IfSome result (IsNearer spot.Header) }
+    ensures past { IfSome result (λ next. rank next.place < 6) }
     ensures none { IfNone result (HasNoStep options.now spot.Header bytes.now) }
 {
     let parse_options = &options.parse_options;
@@ -191,6 +195,7 @@ fn step(bytes: &[u8], options: &CsvReadOptions, place: Place) -> Option<Reached>
     requires { IsDialect (marks_of options.now.parse_options) (comment_of options.now.parse_options) }
     ensures reached { IfSome result (IsReached options.now place bytes.now) }
     ensures nearer { IfSome result (IsNearer place) }
+    ensures past { IfSome result (λ next. rank next.place < 6) }
     ensures none { IfNone result (HasNoStep options.now place bytes.now) }
 {
     match place {
@@ -228,6 +233,7 @@ pub(crate) fn advance(bytes: &[u8], options: &CsvReadOptions, place: Place) -> R
     requires { IsDialect (marks_of options.now.parse_options) (comment_of options.now.parse_options) }
     ensures reached { IsReached options.now place bytes.now result }
     ensures stops { HasNoStep options.now result.place (drop result.at bytes.now) }
+    ensures first { result.place ≡ spot.Start → (place ≡ spot.Start) × (result.at ≡ 0) }
 {
     let mut reached = Reached { place, at: 0 };
     while let Some(next) = step(&bytes[reached.at..], options, reached.place) {

@@ -16,8 +16,8 @@ use pl_write::options::CsvWriterOptions;
 use pl_write::row_printer::RowPrinter;
 use std::alloc::Global;
 
-// Appends what stands before the rows, unless rows were settled before. Refuses only want of memory.
-fn push_head_once(
+/// Appends what stands before the rows, unless rows were settled before. Refuses only want of memory.
+pub(crate) fn push_head_once(
     alloc: Global,
     printer: &mut RowPrinter,
     read: &CsvReadOptions,

@@ -1,5 +1,6 @@
 //! The state of a stream.
-ghost use Rattle.std.specs.Prelude.{◌≡◌, ◌≤◌, ℕ, List, [], length, IfOk, OnOk, IfErr};
+ghost use Rattle.std.specs.Prelude.{◌≡◌, ◌≤◌, ◌<◌, ◌^◌, ℕ, List, [], None, length, IfOk, OnOk, IfErr};
+ghost use Rattle.pl_read.specs.Refusals.{numbers_past};
 ghost use Rattle.pl_stream.specs.Options.{IsAccepted, IsRefused};
 ghost use Rattle.pl_stream.specs.Stream.{new_stream, StandsFor, most_kept};
 
@@ -10,6 +11,7 @@ use pl_frame::error::{ComputeFault, NoDataFault};
 use pl_options::read_options::CsvReadOptions;
 use pl_read::settle_given::Settled;
 use pl_write::options::CsvWriterOptions;
+use pl_write::row_printer::RowPrinter;
 use std::alloc::Global;
 use std::marker::Model;
 
@@ -24,19 +26,22 @@ pub(crate) enum KeptFault {
 /// records were settled, the fault that a call answered, and whether the input ended.
 #[derive(Drop)]
 pub struct StreamState {
-    alloc: Global,
-    read: CsvReadOptions,
-    write: CsvWriterOptions,
-    settled: Settled,
-    kept: Vec<u8>,
-    place: Place,
-    rows: usize,
-    fault: Option<KeptFault>,
-    is_finished: bool,
+    pub(crate) alloc: Global,
+    pub(crate) read: CsvReadOptions,
+    pub(crate) write: CsvWriterOptions,
+    pub(crate) settled: Settled,
+    pub(crate) kept: Vec<u8>,
+    pub(crate) place: Place,
+    pub(crate) rows: usize,
+    pub(crate) fault: Option<KeptFault>,
+    pub(crate) is_finished: bool,
+    pub(crate) printer: RowPrinter,
 }
 
 impl Model for StreamState {
+    ghost use Rattle.std.specs.Prelude.{◌≡◌, None};
     ghost use Rattle.std.specs.Option.{option_map};
+    ghost use Rattle.pl_read.specs.Refusals.{numbers_past};
     ghost use Rattle.pl_read.specs.SettleGiven.{given_schema, IsSettled};
     ghost use Rattle.pl_stream.specs.Kept.{error_of};
     ghost use Rattle.pl_stream.specs.Options.{IsAccepted};
@@ -54,7 +59,25 @@ impl Model for StreamState {
       is_finished = s.is_finished;
     } };
 
-    ghost invariant = { λ s. IsAccepted s.read s.write × IsSettled s.read (given_schema s.read) s.settled };
+    ghost invariant = { λ s. IsAccepted s.read s.write × IsSettled s.read (given_schema s.read) s.settled × (numbers_past s.read.row_index s.rows ≡ None) };
+}
+
+// A number, which fits 64 bits.
+fn number(offset: u64) -> u64
+    ensures fits { offset < 2 ^ 64 }
+    ensures same { result ≡ offset }
+{
+    offset
+}
+
+// The number of the first row, where rows are numbered: it fits 64 bits.
+fn first_number(read: &CsvReadOptions) -> Option<u64>
+    ensures { numbers_past read.now.row_index 0 ≡ None }
+{
+    match &read.row_index {
+        Some(index) => Some(number(index.offset)),
+        None => None,
+    }
 }
 
 impl StreamState {
@@ -75,6 +98,7 @@ impl StreamState {
         ensures accepted { OnOk result (IsAccepted read.now write.now) }
         ensures refused { IfErr result (IsRefused read.now write.now) }
     {
+        let _ = first_number(read);
         let settled = match settle_stream(alloc, read, write) {
             Ok(settled) => settled,
             Err(fault) => return Err(fault),
@@ -84,6 +108,12 @@ impl StreamState {
             return Err(StreamFault::OutOfMemory);
         };
         let Ok(write) = write.try_clone() else {
+            drop(read);
+            drop(settled);
+            return Err(StreamFault::OutOfMemory);
+        };
+        let Ok(printer) = RowPrinter::new(alloc) else {
+            drop(write);
             drop(read);
             drop(settled);
             return Err(StreamFault::OutOfMemory);
@@ -98,6 +128,7 @@ impl StreamState {
             rows: 0,
             fault: None,
             is_finished: false,
+            printer,
         })
     }
 

@@ -16,8 +16,8 @@ pub(crate) struct Whole {
     pub(crate) rows: usize,
 }
 
-// Whether there are fewer records than a limit, where there is one.
-fn is_below(limit: Option<usize>, rows: usize) -> bool
+/// Whether there are fewer records than a limit, where there is one.
+pub(crate) fn is_below(limit: Option<usize>, rows: usize) -> bool
     ensures { result ≡ is_below limit rows }
 {
     match limit {

@@ -1,6 +1,6 @@
-use Rattle.std.proofs.Common.{◌≡◌, ℕ, ◌-◌, List, take, drop, length, subst, sym, arith, length-drop}
+use Rattle.std.proofs.Common.{◌≡◌, ℕ, ◌-◌, List, take, drop, length, subst, ap, arith, length-drop}
 use Rattle.std.proofs.lemmas.List.{take_all}
-use Rattle.pl_stream.specs.Head.{IsReached, HasNoStep}
+use Rattle.pl_stream.specs.Head.{IsReached, rank}
 use Rattle.pl_stream.proofs.HeadLaws.{reach_on}
 use Rattle.pl_stream.proofs.head.advance.Goals as goal
 
@@ -13,4 +13,7 @@ loop-next-preserved c =
     let o = c.args.options.now in
     let b = c.args.bytes.now in
     let reached = c.loop-next.reached in
-    reach_on o c.args.place b reached c.in-Some.next c.requires c.loop-next.invariant (subst (λ l. IsReached o reached.place l c.in-Some.next) (rest-is reached.at b) c.in-Some.ensures.reached)
+    let next = c.in-Some.next in (
+      reach_on o c.args.place b reached next c.requires c.loop-next.invariant.0 (subst (λ l. IsReached o reached.place l next) (rest-is reached.at b) c.in-Some.ensures.reached),
+      λ start. absurd (omega (arith, c.in-Some.ensures.past, ap rank start)),
+    )

@@ -148,9 +148,9 @@ module _ (o : CsvReadOptions) (b : List ℕ) (apart : IsDialect (marks_of o.pars
       let xs = rows m comment at.records in
       let given_data : data_of o b ≡ Some (at.records ++ kept) = ap (data_of o) (sym (append-nil b)) ∙ at.data_is [] ∙ ap (λ l. Some (at.records ++ l)) (append-nil kept) in
       let all : all_rows o b ≡ xs ++ limited (left_limit o.n_rows (length xs)) (rows m comment kept) =
-          ap (λ given. limited o.n_rows (rows m comment (unwrap_or given []))) given_data
-          ∙ ap (limited o.n_rows) (rows-whole o.parse_options at.records kept apart at.are_whole)
-          ∙ limited-behind o.n_rows xs (rows m comment kept) (subst (λ (n : ℕ). IfSome o.n_rows (λ most. n ≤ most)) (sym counted ∙ at.count_is) (settled-few o b)) in
+      ap (λ given. limited o.n_rows (rows m comment (unwrap_or given []))) given_data
+      ∙ ap (limited o.n_rows) (rows-whole o.parse_options at.records kept apart at.are_whole)
+      ∙ limited-behind o.n_rows xs (rows m comment kept) (subst (λ (n : ℕ). IfSome o.n_rows (λ most. n ≤ most)) (sym counted ∙ at.count_is) (settled-few o b)) in
       let front = settled-all o b apart in
       let same = same-front (settled_rows o b) front.0 xs (limited (left_limit o.n_rows (length xs)) (rows m comment kept)) (sym front.1 ∙ all) (sym counted ∙ at.count_is) in
       all ∙ ap (λ l. l ++ limited (left_limit o.n_rows (length xs)) (rows m comment kept)) (sym same.0)
@@ -164,7 +164,7 @@ module _ (o : CsvReadOptions) (b : List ℕ) (apart : IsDialect (marks_of o.pars
       let stay = past.stay [] in
       let told : data_of o b ≡ Some stay.0 = ap (data_of o) (sym (append-nil b)) ∙ stay.1 in
       let all : all_rows o b ≡ past.first =
-          ap (λ given. limited o.n_rows (rows m comment (unwrap_or given []))) told ∙ ap (λ limit. limited limit (rows m comment stay.0)) past.limit_is ∙ stay.2 in
+      ap (λ given. limited o.n_rows (rows m comment (unwrap_or given []))) told ∙ ap (λ limit. limited limit (rows m comment stay.0)) past.limit_is ∙ stay.2 in
       let front = settled-all o b apart in
       let same = same-front (settled_rows o b) front.0 past.first [] (sym front.1 ∙ all ∙ sym (append-nil past.first)) (sym counted ∙ sym past.count_is) in
       all ∙ sym same.0 ∙ sym (append-nil (settled_rows o b)) ∙ ap (λ l. settled_rows o b ++ l) (sym (none-left (left_limit o.n_rows count)))
@@ -306,7 +306,6 @@ text-behind s b given stands all =
     ∙ behind-text s.read s.write (settled_rows s.read b) given
     ∙ ap (λ n. end_text s.read s.write n given) (sym stands.count)
 
-
 -- ---- an input that ended
 
 module _ (s : Stream) (b : List ℕ) (apart : IsDialect (marks_of s.read.parse_options) (comment_of s.read.parse_options)) (stands : StandsFor s b) where
@@ -315,7 +314,7 @@ module _ (s : Stream) (b : List ℕ) (apart : IsDialect (marks_of s.read.parse_o
   end-compressed start marked =
       let same : b ≡ s.kept = at-start s.place s.kept s.rows stands.read start in
       ap (λ t. first_some (when t (error.ComputeError compute_fault.Compressed) ∷ when (is_none (data_of s.read b)) (error.NoData no_data.Skip) ∷ faulty_of s.read (all_rows s.read b) ∷ numbers_of s.read (length (all_rows s.read b)) ∷ []))
-          (ap is_compressed same ∙ marked)
+      (ap is_compressed same ∙ marked)
     where
       at-start : (at : Place) (kept : List ℕ) (count : ℕ) → IsOnWay s.read b at kept count → at ≡ place.Start → b ≡ kept
       at-start place.Start kept count way e = way.0

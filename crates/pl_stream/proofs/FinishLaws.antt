@@ -61,10 +61,10 @@ cause-kept o b x is =
     first-kept (when (is_compressed b) (error.ComputeError compute_fault.Compressed)) (when (is_none (data_of o b)) (error.NoData no_data.Skip) ∷ faulty_of o rows ∷ numbers_of o (length rows) ∷ []) x
     (λ y. when-kept (is_compressed b) (error.ComputeError compute_fault.Compressed) y refl)
     (first-kept (when (is_none (data_of o b)) (error.NoData no_data.Skip)) (faulty_of o rows ∷ numbers_of o (length rows) ∷ []) x
-        (λ y. when-kept (is_none (data_of o b)) (error.NoData no_data.Skip) y refl)
-        (first-kept (faulty_of o rows) (numbers_of o (length rows) ∷ []) x
-            (λ y. faulty-kept o y (first_faulty (rules_of o (given_schema o)) (columns_read o (given_schema o)) 0 rows))
-            (first-kept (numbers_of o (length rows)) [] x (numbers-kept o (length rows)) (λ none. none-some x none))))
+    (λ y. when-kept (is_none (data_of o b)) (error.NoData no_data.Skip) y refl)
+    (first-kept (faulty_of o rows) (numbers_of o (length rows) ∷ []) x
+    (λ y. faulty-kept o y (first_faulty (rules_of o (given_schema o)) (columns_read o (given_schema o)) 0 rows))
+    (first-kept (numbers_of o (length rows)) [] x (numbers-kept o (length rows)) (λ none. none-some x none))))
     is
 
 -- the first cause is answered and kept; or memory is wanting, and the state is as it was

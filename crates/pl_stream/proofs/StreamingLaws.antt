@@ -133,8 +133,8 @@ feeding-more first now new size piece left left_mid left_now received received_m
     sound = subst (λ (o : CsvReadOptions). feed_cause o (feeding.fed ++ piece) ≡ None) feeding.read_is on.sound;
     written = subst (Appends received received_now) (fed-more first.read first.write feeding.fed piece apart)
         (Appends-more received received_mid received_now (settled_text first.read first.write feeding.fed) (behind_settled first.read first.write feeding.fed (settled_text first.read first.write (feeding.fed ++ piece))) feeding.has.written
-            (subst (λ (o : CsvReadOptions). Appends received_mid received_now (behind_settled o first.write feeding.fed (settled_text o first.write (feeding.fed ++ piece)))) feeding.read_is
-                (subst (λ (w : CsvWriterOptions). Appends received_mid received_now (behind_settled now.read w feeding.fed (settled_text now.read w (feeding.fed ++ piece)))) feeding.write_is on.written)));
+        (subst (λ (o : CsvReadOptions). Appends received_mid received_now (behind_settled o first.write feeding.fed (settled_text o first.write (feeding.fed ++ piece)))) feeding.read_is
+        (subst (λ (w : CsvWriterOptions). Appends received_mid received_now (behind_settled now.read w feeding.fed (settled_text now.read w (feeding.fed ++ piece)))) feeding.write_is on.written)));
   };
 }
 
@@ -145,77 +145,77 @@ module _ (o : CsvReadOptions) (write : CsvWriterOptions) (source source_now : So
     (apart : IsDialect (marks_of o.parse_options) (comment_of o.parse_options)) (came : Consumes source.left source_now.left (fed ++ last)) (within : length (fed ++ last) ≤ most_bytes)
     (sound : feed_cause o fed ≡ None) (written : Appends out.received out_mid.received (settled_text o write fed)) (later : out.faults ≤ out_mid.faults)
   where
-  few : length fed ≤ most_bytes
-  few = omega (arith, length-append fed last, within)
+    few : length fed ≤ most_bytes
+    few = omega (arith, length-append fed last, within)
 
-  same-received : out_now ≡ out_mid → Appends out.received out_now.received (settled_text o write fed)
-  same-received same = subst (λ (view : SinkView). Appends out.received view.received (settled_text o write fed)) (sym same) written
+    same-received : out_now ≡ out_mid → Appends out.received out_now.received (settled_text o write fed)
+    same-received same = subst (λ (view : SinkView). Appends out.received view.received (settled_text o write fed)) (sym same) written
 
-  fed-still : out_now ≡ out_mid → HasFed o write source.left source_now.left out.received out_now.received fed last
-  fed-still same = record { came = came; within = few; sound = sound; written = same-received same }
+    fed-still : out_now ≡ out_mid → HasFed o write source.left source_now.left out.received out_now.received fed last
+    fed-still same = record { came = came; within = few; sound = sound; written = same-received same }
 
-  part-still : out_now ≡ out_mid → IsPartStreamed o write source.left source_now.left out.received out_now.received
-  part-still same = (fed, last, came, within, inl (sound, AppendsPrefix-from out.received out_now.received (settled_text o write fed) [] (settled_text o write fed) (append-nil (settled_text o write fed)) (same-received same)))
+    part-still : out_now ≡ out_mid → IsPartStreamed o write source.left source_now.left out.received out_now.received
+    part-still same = (fed, last, came, within, inl (sound, AppendsPrefix-from out.received out_now.received (settled_text o write fed) [] (settled_text o write fed) (append-nil (settled_text o write fed)) (same-received same)))
 
-  rose : Rose out_mid.faults out_now.faults → Rose out.faults out_now.faults
-  rose more = Rose-later later more
+    rose : Rose out_mid.faults out_now.faults → Rose out.faults out_now.faults
+    rose more = Rose-later later more
 
-  -- the last bytes were accepted too, and the sink received a prefix of what the settled text has by them
-  part-fed : feed_cause o (fed ++ last) ≡ None → AppendsPrefix out_mid.received out_now.received (behind_settled o write fed (settled_text o write (fed ++ last))) → IsPartStreamed o write source.left source_now.left out.received out_now.received
-  part-fed none prefix =
-      let both : AppendsPrefix out.received out_now.received (settled_text o write fed ++ behind_settled o write fed (settled_text o write (fed ++ last))) = AppendsPrefix-behind _ _ _ _ _ written prefix in (
-        fed ++ last,
-        [],
-        subst (Consumes source.left source_now.left) (sym (append-nil (fed ++ last))) came,
-        subst (λ (l : List ℕ). length l ≤ most_bytes) (sym (append-nil (fed ++ last))) within,
-        inl (none, subst (AppendsPrefix out.received out_now.received) (fed-more o write fed last apart) both),
-      )
+    -- the last bytes were accepted too, and the sink received a prefix of what the settled text has by them
+    part-fed : feed_cause o (fed ++ last) ≡ None → AppendsPrefix out_mid.received out_now.received (behind_settled o write fed (settled_text o write (fed ++ last))) → IsPartStreamed o write source.left source_now.left out.received out_now.received
+    part-fed none prefix =
+        let both : AppendsPrefix out.received out_now.received (settled_text o write fed ++ behind_settled o write fed (settled_text o write (fed ++ last))) = AppendsPrefix-behind _ _ _ _ _ written prefix in (
+          fed ++ last,
+          [],
+          subst (Consumes source.left source_now.left) (sym (append-nil (fed ++ last))) came,
+          subst (λ (l : List ℕ). length l ≤ most_bytes) (sym (append-nil (fed ++ last))) within,
+          inl (none, subst (AppendsPrefix out.received out_now.received) (fed-more o write fed last apart) both),
+        )
 
-  feed-put : (given : StreamFault) → feed_cause o (fed ++ last) ≡ None → IsPutFault (behind_settled o write fed (settled_text o write (fed ++ last))) out_mid out_now given → IsUnstreamed o write source source_now out out_now given
-  feed-put fault.Sink none put = (rose put.0, part-fed none put.1)
-  feed-put fault.OutOfMemory none put = part-fed none put
-  feed-put (fault.Polars refusal) none put = absurd put
-  feed-put fault.NoSchema none put = absurd put
-  feed-put (fault.Category column) none put = absurd put
-  feed-put fault.NoColumn none put = absurd put
-  feed-put fault.Source none put = absurd put
-  feed-put fault.TooLong none put = absurd put
+    feed-put : (given : StreamFault) → feed_cause o (fed ++ last) ≡ None → IsPutFault (behind_settled o write fed (settled_text o write (fed ++ last))) out_mid out_now given → IsUnstreamed o write source source_now out out_now given
+    feed-put fault.Sink none put = (rose put.0, part-fed none put.1)
+    feed-put fault.OutOfMemory none put = part-fed none put
+    feed-put (fault.Polars refusal) none put = absurd put
+    feed-put fault.NoSchema none put = absurd put
+    feed-put (fault.Category column) none put = absurd put
+    feed-put fault.NoColumn none put = absurd put
+    feed-put fault.Source none put = absurd put
+    feed-put fault.TooLong none put = absurd put
 
-  pub unfed : (given : StreamFault) → IsFeedFault o write fed last out_mid out_now given → IsUnstreamed o write source source_now out out_now given
-  unfed given (inl (inl is, same)) = subst (IsUnstreamed o write source source_now out out_now) (sym is) (part-still same)
-  unfed given (inl (inr (refusal, is, cause), same)) = subst (IsUnstreamed o write source source_now out out_now) (sym is) (fed, last, fed-still same, within, inl cause)
-  unfed given (inr (none, put)) = feed-put given none put
+    pub unfed : (given : StreamFault) → IsFeedFault o write fed last out_mid out_now given → IsUnstreamed o write source source_now out out_now given
+    unfed given (inl (inl is, same)) = subst (IsUnstreamed o write source source_now out out_now) (sym is) (part-still same)
+    unfed given (inl (inr (refusal, is, cause), same)) = subst (IsUnstreamed o write source source_now out out_now) (sym is) (fed, last, fed-still same, within, inl cause)
+    unfed given (inr (none, put)) = feed-put given none put
 
-  -- all bytes came, and the sink received a prefix of what the text of their frame has behind the settled text
-  part-ended : last ≡ [] → IsAtEnd source_now.left → finish_cause o fed ≡ None → AppendsPrefix out_mid.received out_now.received (behind_settled o write fed (whole_text o write fed)) → IsPartStreamed o write source.left source_now.left out.received out_now.received
-  part-ended empty end none prefix =
-      let both : AppendsPrefix out.received out_now.received (settled_text o write fed ++ behind_settled o write fed (whole_text o write fed)) = AppendsPrefix-behind _ _ _ _ _ written prefix in
-      (fed, last, came, within, inr (empty, end, none, subst (AppendsPrefix out.received out_now.received) (whole-more o write fed apart) both))
+    -- all bytes came, and the sink received a prefix of what the text of their frame has behind the settled text
+    part-ended : last ≡ [] → IsAtEnd source_now.left → finish_cause o fed ≡ None → AppendsPrefix out_mid.received out_now.received (behind_settled o write fed (whole_text o write fed)) → IsPartStreamed o write source.left source_now.left out.received out_now.received
+    part-ended empty end none prefix =
+        let both : AppendsPrefix out.received out_now.received (settled_text o write fed ++ behind_settled o write fed (whole_text o write fed)) = AppendsPrefix-behind _ _ _ _ _ written prefix in
+        (fed, last, came, within, inr (empty, end, none, subst (AppendsPrefix out.received out_now.received) (whole-more o write fed apart) both))
 
-  end-put : (given : StreamFault) → last ≡ [] → IsAtEnd source_now.left → finish_cause o fed ≡ None → IsPutFault (behind_settled o write fed (whole_text o write fed)) out_mid out_now given → IsUnstreamed o write source source_now out out_now given
-  end-put fault.Sink empty end none put = (rose put.0, part-ended empty end none put.1)
-  end-put fault.OutOfMemory empty end none put = part-ended empty end none put
-  end-put (fault.Polars refusal) empty end none put = absurd put
-  end-put fault.NoSchema empty end none put = absurd put
-  end-put (fault.Category column) empty end none put = absurd put
-  end-put fault.NoColumn empty end none put = absurd put
-  end-put fault.Source empty end none put = absurd put
-  end-put fault.TooLong empty end none put = absurd put
+    end-put : (given : StreamFault) → last ≡ [] → IsAtEnd source_now.left → finish_cause o fed ≡ None → IsPutFault (behind_settled o write fed (whole_text o write fed)) out_mid out_now given → IsUnstreamed o write source source_now out out_now given
+    end-put fault.Sink empty end none put = (rose put.0, part-ended empty end none put.1)
+    end-put fault.OutOfMemory empty end none put = part-ended empty end none put
+    end-put (fault.Polars refusal) empty end none put = absurd put
+    end-put fault.NoSchema empty end none put = absurd put
+    end-put (fault.Category column) empty end none put = absurd put
+    end-put fault.NoColumn empty end none put = absurd put
+    end-put fault.Source empty end none put = absurd put
+    end-put fault.TooLong empty end none put = absurd put
 
-  pub unended : (given : StreamFault) → last ≡ [] → IsAtEnd source_now.left → IsEndFault o write fed out_mid out_now given → IsUnstreamed o write source source_now out out_now given
-  unended given empty end (inl (inl is, same)) = subst (IsUnstreamed o write source source_now out out_now) (sym is) (part-still same)
-  unended given empty end (inl (inr (refusal, is, cause), same)) = subst (IsUnstreamed o write source source_now out out_now) (sym is) (fed, last, fed-still same, within, inr (empty, end, cause))
-  unended given empty end (inr (none, put)) = end-put given empty end none put
+    pub unended : (given : StreamFault) → last ≡ [] → IsAtEnd source_now.left → IsEndFault o write fed out_mid out_now given → IsUnstreamed o write source source_now out out_now given
+    unended given empty end (inl (inl is, same)) = subst (IsUnstreamed o write source source_now out out_now) (sym is) (part-still same)
+    unended given empty end (inl (inr (refusal, is, cause), same)) = subst (IsUnstreamed o write source source_now out out_now) (sym is) (fed, last, fed-still same, within, inr (empty, end, cause))
+    unended given empty end (inr (none, put)) = end-put given empty end none put
 
-  pub ended : last ≡ [] → IsAtEnd source_now.left → IsEndedOn o write fed out_mid.received out_now.received → IsStreamed o write source.left source_now.left out.received out_now.received
-  ended empty end is = record {
-    bytes = fed;
-    came = subst (Consumes source.left source_now.left) (ap (λ l. fed ++ l) empty ∙ append-nil fed) came;
-    end = end;
-    within = few;
-    sound = is.sound;
-    written = subst (Appends out.received out_now.received) (whole-more o write fed apart) (Appends-more _ _ _ _ _ written is.written);
-  }
+    pub ended : last ≡ [] → IsAtEnd source_now.left → IsEndedOn o write fed out_mid.received out_now.received → IsStreamed o write source.left source_now.left out.received out_now.received
+    ended empty end is = record {
+      bytes = fed;
+      came = subst (Consumes source.left source_now.left) (ap (λ l. fed ++ l) empty ∙ append-nil fed) came;
+      end = end;
+      within = few;
+      sound = is.sound;
+      written = subst (Appends out.received out_now.received) (whole-more o write fed apart) (Appends-more _ _ _ _ _ written is.written);
+    }
 
 -- ---- the same, of a state that was fed
 
@@ -226,47 +226,46 @@ came-more left left_mid left_now fed piece came more = subst (Consumes left left
 module _ (first now : Stream) (size : ℕ) (source source_mid source_now : SourceView) (out out_mid out_now : SinkView) (apart : IsDialect (marks_of first.read.parse_options) (comment_of first.read.parse_options))
     (feeding : IsFeeding first now size source.left source_mid.left out.received out_mid.received) (later : out.faults ≤ out_mid.faults)
   where
-  same-feed : (piece : List ℕ) (given : StreamFault) → IsFeedFault now.read now.write feeding.fed piece out_mid out_now given → IsFeedFault first.read first.write feeding.fed piece out_mid out_now given
-  same-feed piece given is = subst (λ (o : CsvReadOptions). IsFeedFault o first.write feeding.fed piece out_mid out_now given) feeding.read_is (subst (λ (w : CsvWriterOptions). IsFeedFault now.read w feeding.fed piece out_mid out_now given) feeding.write_is is)
+    same-feed : (piece : List ℕ) (given : StreamFault) → IsFeedFault now.read now.write feeding.fed piece out_mid out_now given → IsFeedFault first.read first.write feeding.fed piece out_mid out_now given
+    same-feed piece given is = subst (λ (o : CsvReadOptions). IsFeedFault o first.write feeding.fed piece out_mid out_now given) feeding.read_is (subst (λ (w : CsvWriterOptions). IsFeedFault now.read w feeding.fed piece out_mid out_now given) feeding.write_is is)
 
-  same-end : (given : StreamFault) → IsEndFault now.read now.write feeding.fed out_mid out_now given → IsEndFault first.read first.write feeding.fed out_mid out_now given
-  same-end given is = subst (λ (o : CsvReadOptions). IsEndFault o first.write feeding.fed out_mid out_now given) feeding.read_is (subst (λ (w : CsvWriterOptions). IsEndFault now.read w feeding.fed out_mid out_now given) feeding.write_is is)
+    same-end : (given : StreamFault) → IsEndFault now.read now.write feeding.fed out_mid out_now given → IsEndFault first.read first.write feeding.fed out_mid out_now given
+    same-end given is = subst (λ (o : CsvReadOptions). IsEndFault o first.write feeding.fed out_mid out_now given) feeding.read_is (subst (λ (w : CsvWriterOptions). IsEndFault now.read w feeding.fed out_mid out_now given) feeding.write_is is)
 
-  same-ended : IsEndedOn now.read now.write feeding.fed out_mid.received out_now.received → IsEndedOn first.read first.write feeding.fed out_mid.received out_now.received
-  same-ended is = subst (λ (o : CsvReadOptions). IsEndedOn o first.write feeding.fed out_mid.received out_now.received) feeding.read_is (subst (λ (w : CsvWriterOptions). IsEndedOn now.read w feeding.fed out_mid.received out_now.received) feeding.write_is is)
+    same-ended : IsEndedOn now.read now.write feeding.fed out_mid.received out_now.received → IsEndedOn first.read first.write feeding.fed out_mid.received out_now.received
+    same-ended is = subst (λ (o : CsvReadOptions). IsEndedOn o first.write feeding.fed out_mid.received out_now.received) feeding.read_is (subst (λ (w : CsvWriterOptions). IsEndedOn now.read w feeding.fed out_mid.received out_now.received) feeding.write_is is)
 
-  none-more : length (feeding.fed ++ []) ≤ most_bytes
-  none-more = omega (arith, length-append feeding.fed [], feeding.has.within)
+    none-more : length (feeding.fed ++ []) ≤ most_bytes
+    none-more = omega (arith, length-append feeding.fed [], feeding.has.within)
 
-  pub feeding-unfed : (piece : List ℕ) → Consumes source_mid.left source_now.left piece → size + length piece ≤ most_bytes → (given : StreamFault)
-      → IsFeedFault now.read now.write feeding.fed piece out_mid out_now given → IsUnstreamed first.read first.write source source_now out out_now given
-  feeding-unfed piece came within given is =
-      unfed first.read first.write source source_now out out_mid out_now feeding.fed piece apart (came-more source.left source_mid.left source_now.left feeding.fed piece feeding.has.came came)
-          (omega (arith, length-append feeding.fed piece, feeding.size_is, within)) feeding.has.sound feeding.has.written later given (same-feed piece given is)
+    pub feeding-unfed : (piece : List ℕ) → Consumes source_mid.left source_now.left piece → size + length piece ≤ most_bytes → (given : StreamFault)
+        → IsFeedFault now.read now.write feeding.fed piece out_mid out_now given → IsUnstreamed first.read first.write source source_now out out_now given
+    feeding-unfed piece came within given is =
+        unfed first.read first.write source source_now out out_mid out_now feeding.fed piece apart (came-more source.left source_mid.left source_now.left feeding.fed piece feeding.has.came came)
+        (omega (arith, length-append feeding.fed piece, feeding.size_is, within)) feeding.has.sound feeding.has.written later given (same-feed piece given is)
 
-  pub feeding-unended : Consumes source_mid.left source_now.left [] → IsAtEnd source_now.left → (given : StreamFault)
-      → IsEndFault now.read now.write feeding.fed out_mid out_now given → IsUnstreamed first.read first.write source source_now out out_now given
-  feeding-unended came end given is =
-      unended first.read first.write source source_now out out_mid out_now feeding.fed [] apart (came-more source.left source_mid.left source_now.left feeding.fed [] feeding.has.came came)
-          none-more feeding.has.sound feeding.has.written later given refl end (same-end given is)
+    pub feeding-unended : Consumes source_mid.left source_now.left [] → IsAtEnd source_now.left → (given : StreamFault)
+        → IsEndFault now.read now.write feeding.fed out_mid out_now given → IsUnstreamed first.read first.write source source_now out out_now given
+    feeding-unended came end given is =
+        unended first.read first.write source source_now out out_mid out_now feeding.fed [] apart (came-more source.left source_mid.left source_now.left feeding.fed [] feeding.has.came came)
+        none-more feeding.has.sound feeding.has.written later given refl end (same-end given is)
 
-  pub feeding-ended : Consumes source_mid.left source_now.left [] → IsAtEnd source_now.left
-      → IsEndedOn now.read now.write feeding.fed out_mid.received out_now.received → IsStreamed first.read first.write source.left source_now.left out.received out_now.received
-  feeding-ended came end is =
-      ended first.read first.write source source_now out out_mid out_now feeding.fed [] apart (came-more source.left source_mid.left source_now.left feeding.fed [] feeding.has.came came)
-          none-more feeding.has.sound feeding.has.written later refl end (same-ended is)
+    pub feeding-ended : Consumes source_mid.left source_now.left [] → IsAtEnd source_now.left
+        → IsEndedOn now.read now.write feeding.fed out_mid.received out_now.received → IsStreamed first.read first.write source.left source_now.left out.received out_now.received
+    feeding-ended came end is =
+        ended first.read first.write source source_now out out_mid out_now feeding.fed [] apart (came-more source.left source_mid.left source_now.left feeding.fed [] feeding.has.came came)
+        none-more feeding.has.sound feeding.has.written later refl end (same-ended is)
 
 -- more came than an input may have
 pub feeding-late : (first now : Stream) (size : ℕ) (piece : List ℕ) (left left_mid left_now received received_mid : Option (List ℕ)) → (feeding : IsFeeding first now size left left_mid received received_mid)
     → Consumes left_mid left_now piece → most_bytes < size + length piece
     → (fed last : List ℕ) × HasFed first.read first.write left left_now received received_mid fed last × (most_bytes < length (fed ++ last))
-feeding-late first now size piece left left_mid left_now received received_mid feeding came many =
-    (
-      feeding.fed,
-      piece,
-      record { came = came-more left left_mid left_now feeding.fed piece feeding.has.came came; within = feeding.has.within; sound = feeding.has.sound; written = feeding.has.written },
-      omega (arith, length-append feeding.fed piece, feeding.size_is, many),
-    )
+feeding-late first now size piece left left_mid left_now received received_mid feeding came many = (
+  feeding.fed,
+  piece,
+  record { came = came-more left left_mid left_now feeding.fed piece feeding.has.came came; within = feeding.has.within; sound = feeding.has.sound; written = feeding.has.written },
+  omega (arith, length-append feeding.fed piece, feeding.size_is, many),
+)
 
 -- ---- options
 

@@ -81,7 +81,7 @@ abbrev pub IsPartStreamed : CsvReadOptions → CsvWriterOptions → (left left_n
 IsPartStreamed o write left left_now received received_now =
     (fed last : List ℕ) × Consumes left left_now (fed ++ last) × (length (fed ++ last) ≤ most_bytes)
     × (((feed_cause o fed ≡ None) × AppendsPrefix received received_now (settled_text o write fed))
-       ⊎ ((last ≡ []) × IsAtEnd left_now × (finish_cause o fed ≡ None) × AppendsPrefix received received_now (whole_text o write fed)))
+    ⊎ ((last ≡ []) × IsAtEnd left_now × (finish_cause o fed ≡ None) × AppendsPrefix received received_now (whole_text o write fed)))
 
 -- Why not all text of a source was written, under options that are accepted. The source failed, whose count rose; or more bytes came than an input may
 -- have; or a cause stands against the bytes that came, or against all of them: the sink received exactly the settled text of the bytes that were accepted

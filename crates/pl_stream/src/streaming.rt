@@ -44,8 +44,8 @@ fn feed_piece<Si: Sink>(
         → OnOk result (IsFedOn state.old state.new bytes piece.now (Si.received sink.old) (Si.received sink.new)) }
     ensures refused { (bytes : List ℕ) → StandsFor state.old bytes → length (bytes ++ piece.now) < 2 ^ 64
         → IfErr result (IsFeedFault state.old.read state.old.write bytes piece.now
-            (sink_view (Si.received sink.old) (Si.faults sink.old) (Si.wants sink.old))
-            (sink_view (Si.received sink.new) (Si.faults sink.new) (Si.wants sink.new))) }
+        (sink_view (Si.received sink.old) (Si.faults sink.old) (Si.wants sink.old))
+        (sink_view (Si.received sink.new) (Si.faults sink.new) (Si.wants sink.new))) }
     ensures later { Si.faults sink.old ≤ Si.faults sink.new }
     ensures wants_later { Si.wants sink.old ≤ Si.wants sink.new }
 {
@@ -67,8 +67,8 @@ fn end_input<Si: Sink>(
         → OnOk result (IsEndedOn state.old.read state.old.write bytes (Si.received sink.old) (Si.received sink.new)) }
     ensures refused { (bytes : List ℕ) → StandsFor state.old bytes
         → IfErr result (IsEndFault state.old.read state.old.write bytes
-            (sink_view (Si.received sink.old) (Si.faults sink.old) (Si.wants sink.old))
-            (sink_view (Si.received sink.new) (Si.faults sink.new) (Si.wants sink.new))) }
+        (sink_view (Si.received sink.old) (Si.faults sink.old) (Si.wants sink.old))
+        (sink_view (Si.received sink.new) (Si.faults sink.new) (Si.wants sink.new))) }
     ensures later { Si.faults sink.old ≤ Si.faults sink.new }
     ensures wants_later { Si.wants sink.old ≤ Si.wants sink.new }
 {

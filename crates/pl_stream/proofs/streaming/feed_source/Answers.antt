@@ -51,7 +51,7 @@ loop-count-preserved g c =
       within = omega (arith, count, within);
       fed = subst (λ (n : ℕ). IsFeeding c.args.state.now c.feed_piece.new.state (c.loop-count.size + n) (left c.args.source.now) (left c.read.new.self) (received c.args.sink.now) (received c.feed_piece.new.sink)) (sym count)
           (feeding-more c.args.state.now c.loop-count.state c.feed_piece.new.state c.loop-count.size piece (left c.args.source.now) (left c.loop-count.source) (left c.read.new.self) (received c.args.sink.now) (received c.loop-count.sink)
-              (received c.feed_piece.new.sink) (accepted-dialect c.args.state.now.read c.args.state.now.write c.requires.accepted) before.fed on c.in-Ok.ensures.bytes.0 within);
+          (received c.feed_piece.new.sink) (accepted-dialect c.args.state.now.read c.args.state.now.write c.requires.accepted) before.fed on c.in-Ok.ensures.bytes.0 within);
       source_later = omega (arith, before.source_later, c.read.ensures.cause.later);
       later = omega (arith, before.later, c.feed_piece.ensures.later);
       wants_later = omega (arith, before.wants_later, c.feed_piece.ensures.wants_later);

@@ -1,6 +1,6 @@
 -- Lemmas on runs over a stream.
 use Rattle.std.proofs.Common.{◌≡◌, ◌≤◌, ◌<◌, ◌+◌, ◌^◌, ◌++◌, ◌∙◌, ap, sym, subst, refl, ℕ, Bool, true, false, List, [], ◌∷◌, length, arith, append-nil, append_assoc, length-append, inl, inr}
-use Rattle.std.specs.Prelude.{◌⊎◌, Option, None, Some, IsSome, nat_le, nat_lt, ◌&&◌}
+use Rattle.std.specs.Prelude.{◌⊎◌, Option, None, Some, IsSome, nat_le, ◌&&◌}
 use Rattle.std.specs.Option.{option_map}
 use Rattle.std.specs.Io.KnownBytes.{Consumes, IsAtEnd}
 use Rattle.std.proofs.lemmas.Bool.Decides.{nat_tests}
@@ -12,7 +12,6 @@ use Rattle.pl_frame.specs.declared.error.FaultKind.{FaultKind}
 use Rattle.pl_frame.specs.declared.error.PolarsError.{PolarsError}
 use Rattle.pl_frame.specs.declared.error.PolarsError.TheVariants as error
 use Rattle.pl_options.specs.declared.read_options.CsvReadOptions.{CsvReadOptions}
-use Rattle.pl_options.specs.declared.row_index.RowIndex.{RowIndex}
 use Rattle.pl_options.specs.FirstCause.{when, first_some}
 use Rattle.pl_options.specs.Text.{marks_of, comment_of}
 use Rattle.pl_read.specs.Options.{rules_of}
@@ -37,18 +36,12 @@ use Rattle.pl_stream.specs.Run.{Asks, HasNoStream, asks_nothing, IsOutcome, IsRu
 use Rattle.pl_stream.specs.Settled.{settled_rows}
 use Rattle.pl_stream.specs.Streaming.{IsUnstreamed, IsStreamRefused, HasFed, most_bytes}
 use Rattle.pl_stream.specs.Telling.{refusal_of, stream_status}
+use Rattle.pl_stream.proofs.FedLaws.{compressed-more}
+use Rattle.pl_stream.proofs.FeedLaws.{none-before}
 use Rattle.pl_stream.proofs.StreamingLaws.{accepted-dialect}
 use Rattle.pl_stream.proofs.TextLaws.{rows-front}
 
 -- ---- causes
-
--- four bytes tell whether a text is compressed
-compressed-more : (b more : List ℕ) → 4 ≤ length b → is_compressed (b ++ more) ≡ is_compressed b
-compressed-more [] more h = absurd (omega arith)
-compressed-more (x ∷ []) more h = absurd (omega arith)
-compressed-more (x ∷ y ∷ []) more h = absurd (omega arith)
-compressed-more (x ∷ y ∷ z ∷ []) more h = absurd (omega arith)
-compressed-more (x ∷ y ∷ z ∷ w ∷ others) more h = refl
 
 -- there is a first cause where a cause is told
 when-some : (t : Bool) (x : PolarsError) → when t x ≡ None → t ≡ false
@@ -76,16 +69,9 @@ none-of : (a b c : Option PolarsError) → a ≡ None → b ≡ None → c ≡ N
 none-of a b c x y z = ap (λ o. first_some (o ∷ b ∷ c ∷ [])) x ∙ ap (λ o. first_some (o ∷ c ∷ [])) y ∙ ap (λ o. first_some (o ∷ [])) z
 
 -- fewer numbers fit where more do
-numbers-fewer : (index : Option RowIndex) (few more : ℕ) → few ≤ more → numbers_past index more ≡ None → numbers_past index few ≡ None
-numbers-fewer None few more least none = refl
-numbers-fewer (Some given) few more least none =
-    let fits : nat_lt (2 ^ 64) (given.offset + more) ≡ false = when-some (nat_lt (2 ^ 64) (given.offset + more)) (error.ComputeError (compute_fault.Index given.offset more)) none in
-    let still : nat_lt (2 ^ 64) (given.offset + few) ≡ false = grind (arith, nat_tests, fits, least) in
-    ap (λ t. when t (error.ComputeError (compute_fault.Index given.offset few))) still
-
 numbers_of-fewer : (o : CsvReadOptions) (xs ys : List Row) → numbers_of o (length (xs ++ ys)) ≡ None → numbers_of o (length xs) ≡ None
 numbers_of-fewer o [] ys none = refl
-numbers_of-fewer o (x ∷ xs) ys none = numbers-fewer o.row_index (length (x ∷ xs)) (length ((x ∷ xs) ++ ys)) (omega (arith, length-append (x ∷ xs) ys)) none
+numbers_of-fewer o (x ∷ xs) ys none = none-before o.row_index (length (x ∷ xs)) (length ((x ∷ xs) ++ ys)) (omega (arith, length-append (x ∷ xs) ys)) none
 
 faulty_of-fewer : (o : CsvReadOptions) (xs ys : List Row) → faulty_of o (xs ++ ys) ≡ None → faulty_of o xs ≡ None
 faulty_of-fewer o xs ys none =

@@ -1,6 +1,6 @@
 -- What an input that ended has behind its settled records.
 use Rattle.std.proofs.Common.{◌≡◌, ℕ, zero, suc, ◌+◌, ◌-◌, ◌<◌, ◌≤◌, ◌^◌, Bool, true, false, cond, List, [], ◌∷◌, ◌++◌, length, take, drop, Option, None, Some, refl, sym, ◌∙◌, ap, subst, arith, append_assoc, append-nil, length-append, inl, inr}
-use Rattle.std.specs.Prelude.{nat_lt, unwrap_or, IfSome, OnOk, IfErr, Result, Ok, Err, filter, is_none, nat_le, ◌&&◌}
+use Rattle.std.specs.Prelude.{unwrap_or, IfSome, OnOk, IfErr, Result, Ok, Err, filter, is_none, nat_le, ◌&&◌}
 use Rattle.std.proofs.lemmas.List.{take-append-drop, drop_at, length-take-le}
 use Rattle.std.specs.List.{AllByRecursion}
 use Rattle.std.specs.Option.{option_map}
@@ -267,22 +267,6 @@ cause-end s b given stands plain told numbered all =
 
     numbers : numbers_of s.read (length (all_rows s.read b)) ≡ numbers_past s.read.row_index (s.rows + length given)
     numbers = numbers_are (length (all_rows s.read b)) ∙ ap (numbers_past s.read.row_index) size
-
--- there is a first cause where a cause is told
-pub when-some : (t : Bool) (x : PolarsError) → when t x ≡ None → t ≡ false
-when-some true x none = absurd (some-none x none)
-  where
-    some-none : (x : PolarsError) → ◌≡◌ {A = Option PolarsError} (Some x) None → ⊥
-    some-none x h = cc
-when-some false x none = refl
-
--- fewer numbers fit where more do
-pub numbers-fewer : (index : Option RowIndex) (few more : ℕ) → few ≤ more → numbers_past index more ≡ None → numbers_past index few ≡ None
-numbers-fewer None few more least none = refl
-numbers-fewer (Some given) few more least none =
-    let fits : nat_lt (2 ^ 64) (given.offset + more) ≡ false = when-some (nat_lt (2 ^ 64) (given.offset + more)) (error.ComputeError (compute_fault.Index given.offset more)) none in
-    let still : nat_lt (2 ^ 64) (given.offset + few) ≡ false = grind (arith, nat_tests, fits, least) in
-    ap (λ t. when t (error.ComputeError (compute_fault.Index given.offset few))) still
 
 -- ---- its text
 

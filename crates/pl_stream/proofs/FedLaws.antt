@@ -99,7 +99,7 @@ four-head o place.Records b kept piece count within come way enough = absurd (cc
 four-head o place.Full b kept piece count within come way enough = absurd (cc)
 
 -- four bytes tell whether a text is compressed
-compressed-more : (b more : List ℕ) → 4 ≤ length b → is_compressed (b ++ more) ≡ is_compressed b
+pub compressed-more : (b more : List ℕ) → 4 ≤ length b → is_compressed (b ++ more) ≡ is_compressed b
 compressed-more [] more h = absurd (omega arith)
 compressed-more (x ∷ []) more h = absurd (omega arith)
 compressed-more (x ∷ y ∷ []) more h = absurd (omega arith)

@@ -1,6 +1,6 @@
 -- Lemmas on runs over a stream.
 use Rattle.std.proofs.Common.{◌≡◌, ◌≤◌, ◌<◌, ◌+◌, ◌^◌, ◌++◌, ◌∙◌, ap, sym, subst, refl, ℕ, Bool, true, false, List, [], ◌∷◌, length, arith, append-nil, append_assoc, length-append, inl, inr}
-use Rattle.std.specs.Prelude.{◌⊎◌, Option, None, Some, IsSome, nat_le, nat_lt, ◌&&◌}
+use Rattle.std.specs.Prelude.{◌⊎◌, Option, None, Some, IsSome, nat_le, ◌&&◌}
 use Rattle.std.specs.Option.{option_map}
 use Rattle.std.specs.Io.KnownBytes.{Consumes, IsAtEnd}
 use Rattle.std.proofs.lemmas.Bool.Decides.{nat_tests}
@@ -12,7 +12,6 @@ use Rattle.pl_frame.specs.declared.error.FaultKind.{FaultKind}
 use Rattle.pl_frame.specs.declared.error.PolarsError.{PolarsError}
 use Rattle.pl_frame.specs.declared.error.PolarsError.TheVariants as error
 use Rattle.pl_options.specs.declared.read_options.CsvReadOptions.{CsvReadOptions}
-use Rattle.pl_options.specs.declared.row_index.RowIndex.{RowIndex}
 use Rattle.pl_options.specs.FirstCause.{when, first_some}
 use Rattle.pl_options.specs.Text.{marks_of, comment_of}
 use Rattle.pl_read.specs.Options.{rules_of}
@@ -37,19 +36,20 @@ use Rattle.pl_stream.specs.Run.{Asks, HasNoStream, asks_nothing, IsOutcome, IsRu
 use Rattle.pl_stream.specs.Settled.{settled_rows}
 use Rattle.pl_stream.specs.Streaming.{IsUnstreamed, IsStreamRefused, HasFed, most_bytes}
 use Rattle.pl_stream.specs.Telling.{refusal_of, stream_status}
-use Rattle.pl_stream.proofs.EndLaws.{when-some, numbers-fewer}
+use Rattle.pl_stream.proofs.FedLaws.{compressed-more}
+use Rattle.pl_stream.proofs.FeedLaws.{none-before}
 use Rattle.pl_stream.proofs.StreamingLaws.{accepted-dialect}
 use Rattle.pl_stream.proofs.TextLaws.{rows-front}
 
 -- ---- causes
 
--- four bytes tell whether a text is compressed
-compressed-more : (b more : List ℕ) → 4 ≤ length b → is_compressed (b ++ more) ≡ is_compressed b
-compressed-more [] more h = absurd (omega arith)
-compressed-more (x ∷ []) more h = absurd (omega arith)
-compressed-more (x ∷ y ∷ []) more h = absurd (omega arith)
-compressed-more (x ∷ y ∷ z ∷ []) more h = absurd (omega arith)
-compressed-more (x ∷ y ∷ z ∷ w ∷ others) more h = refl
+-- there is a first cause where a cause is told
+when-some : (t : Bool) (x : PolarsError) → when t x ≡ None → t ≡ false
+when-some true x none = absurd (some-none x none)
+  where
+    some-none : (x : PolarsError) → ◌≡◌ {A = Option PolarsError} (Some x) None → ⊥
+    some-none x h = cc
+when-some false x none = refl
 
 -- none of four causes stands
 pub record AllNone (a b c d : Option PolarsError) : Type 0 where
@@ -70,7 +70,7 @@ none-of a b c x y z = ap (λ o. first_some (o ∷ b ∷ c ∷ [])) x ∙ ap (λ 
 
 numbers_of-fewer : (o : CsvReadOptions) (xs ys : List Row) → numbers_of o (length (xs ++ ys)) ≡ None → numbers_of o (length xs) ≡ None
 numbers_of-fewer o [] ys none = refl
-numbers_of-fewer o (x ∷ xs) ys none = numbers-fewer o.row_index (length (x ∷ xs)) (length ((x ∷ xs) ++ ys)) (omega (arith, length-append (x ∷ xs) ys)) none
+numbers_of-fewer o (x ∷ xs) ys none = none-before o.row_index (length (x ∷ xs)) (length ((x ∷ xs) ++ ys)) (omega (arith, length-append (x ∷ xs) ys)) none
 
 faulty_of-fewer : (o : CsvReadOptions) (xs ys : List Row) → faulty_of o (xs ++ ys) ≡ None → faulty_of o xs ≡ None
 faulty_of-fewer o xs ys none =
@@ -110,45 +110,45 @@ front-of input bytes (Some rest) came = (rest, refl, came)
 module _ (o : CsvReadOptions) (write : CsvWriterOptions) (source source_now : SourceView) (out out_now : SinkView) (accepted : IsAccepted o write) (input : List ℕ) (told : source.left ≡ Some input)
     (sound : finish_cause o input ≡ None) (within : length input ≤ most_bytes)
   where
-    abbrev Ends : StreamFault → Type 0
-    Ends given = EndsStreamed (stream_status (refusal_of given)) source.faults source_now.faults out.faults out_now.faults
+  abbrev Ends : StreamFault → Type 0
+  Ends given = EndsStreamed (stream_status (refusal_of given)) source.faults source_now.faults out.faults out_now.faults
 
-    came-front : (bytes : List ℕ) → Consumes source.left source_now.left bytes → (rest : List ℕ) × (source_now.left ≡ Some rest) × (input ≡ bytes ++ rest)
-    came-front bytes came = front-of input bytes source_now.left (subst (λ (left : Option (List ℕ)). Consumes left source_now.left bytes) told came)
+  came-front : (bytes : List ℕ) → Consumes source.left source_now.left bytes → (rest : List ℕ) × (source_now.left ≡ Some rest) × (input ≡ bytes ++ rest)
+  came-front bytes came = front-of input bytes source_now.left (subst (λ (left : Option (List ℕ)). Consumes left source_now.left bytes) told came)
 
-    some-none : {X : Type 0} (x : PolarsError) (given : Option PolarsError) → given ≡ Some x → given ≡ None → X
-    some-none x given some none = absurd (let h : ◌≡◌ {A = Option PolarsError} (Some x) None = sym some ∙ none in cc)
+  some-none : {X : Type 0} (x : PolarsError) (given : Option PolarsError) → given ≡ Some x → given ≡ None → X
+  some-none x given some none = absurd (let h : ◌≡◌ {A = Option PolarsError} (Some x) None = sym some ∙ none in cc)
 
-    ends-cut : (given : StreamFault) → IsUnstreamed o write source source_now out out_now given → Ends given
-    ends-cut fault.Source is = inr (inr (inl (refl, is.0)))
-    ends-cut fault.Sink is = inr (inr (inr (refl, is.0)))
-    ends-cut fault.OutOfMemory is = inr (inl refl)
-    ends-cut fault.TooLong (fed, last, has, many) = let front = came-front (fed ++ last) has.came in absurd (omega (arith, many, within, ap length front.2, length-append (fed ++ last) front.0))
-    ends-cut (fault.Polars refusal) (fed, last, has, few, inl cause) =
-        let front = came-front (fed ++ last) has.came in
-        some-none refusal (feed_cause o (fed ++ last)) cause (feed-sound o (fed ++ last) front.0 (accepted-dialect o write accepted) (subst (λ (l : List ℕ). finish_cause o l ≡ None) front.2 sound))
-    ends-cut (fault.Polars refusal) (fed, last, has, few, inr (empty, end, cause)) =
-        let front = came-front (fed ++ last) has.came in
-        let none : front.0 ≡ [] = subst IsAtEnd front.1 end in
-        let all : input ≡ fed = front.2 ∙ ap (λ l. (fed ++ last) ++ l) none ∙ append-nil (fed ++ last) ∙ ap (λ l. fed ++ l) empty ∙ append-nil fed in
-        some-none refusal (finish_cause o fed) cause (subst (λ (l : List ℕ). finish_cause o l ≡ None) all sound)
-    ends-cut fault.NoSchema is = absurd is
-    ends-cut (fault.Category column) is = absurd is
-    ends-cut fault.NoColumn is = absurd is
+  ends-cut : (given : StreamFault) → IsUnstreamed o write source source_now out out_now given → Ends given
+  ends-cut fault.Source is = inr (inr (inl (refl, is.0)))
+  ends-cut fault.Sink is = inr (inr (inr (refl, is.0)))
+  ends-cut fault.OutOfMemory is = inr (inl refl)
+  ends-cut fault.TooLong (fed, last, has, many) = let front = came-front (fed ++ last) has.came in absurd (omega (arith, many, within, ap length front.2, length-append (fed ++ last) front.0))
+  ends-cut (fault.Polars refusal) (fed, last, has, few, inl cause) =
+      let front = came-front (fed ++ last) has.came in
+      some-none refusal (feed_cause o (fed ++ last)) cause (feed-sound o (fed ++ last) front.0 (accepted-dialect o write accepted) (subst (λ (l : List ℕ). finish_cause o l ≡ None) front.2 sound))
+  ends-cut (fault.Polars refusal) (fed, last, has, few, inr (empty, end, cause)) =
+      let front = came-front (fed ++ last) has.came in
+      let none : front.0 ≡ [] = subst IsAtEnd front.1 end in
+      let all : input ≡ fed = front.2 ∙ ap (λ l. (fed ++ last) ++ l) none ∙ append-nil (fed ++ last) ∙ ap (λ l. fed ++ l) empty ∙ append-nil fed in
+      some-none refusal (finish_cause o fed) cause (subst (λ (l : List ℕ). finish_cause o l ≡ None) all sound)
+  ends-cut fault.NoSchema is = absurd is
+  ends-cut (fault.Category column) is = absurd is
+  ends-cut fault.NoColumn is = absurd is
 
-    ends-refused : (given : StreamFault) → IsRefused o write given → Ends given
-    ends-refused fault.NoSchema none = absurd (let h : false ≡ true = subst IsSome none accepted.given in cc)
-    ends-refused (fault.Polars refusal) (given, first) = absurd (let h : ◌≡◌ {A = Option PolarsError} None (Some refusal) = first-same (option_causes o write) o.parse_options None (Some refusal) accepted.sound first in cc)
-    ends-refused (fault.Category column) (may, some) = absurd (let h : ◌≡◌ {A = Option ℕ} (Some column) None = sym some ∙ accepted.uncoded in cc)
-    ends-refused fault.NoColumn (may, uncoded, none) = absurd (omega (arith, accepted.some, ap length none))
-    ends-refused fault.OutOfMemory is = inr (inl refl)
-    ends-refused fault.Source is = absurd is
-    ends-refused fault.Sink is = absurd is
-    ends-refused fault.TooLong is = absurd is
+  ends-refused : (given : StreamFault) → IsRefused o write given → Ends given
+  ends-refused fault.NoSchema none = absurd (let h : false ≡ true = subst IsSome none accepted.given in cc)
+  ends-refused (fault.Polars refusal) (given, first) = absurd (let h : ◌≡◌ {A = Option PolarsError} None (Some refusal) = first-same (option_causes o write) o.parse_options None (Some refusal) accepted.sound first in cc)
+  ends-refused (fault.Category column) (may, some) = absurd (let h : ◌≡◌ {A = Option ℕ} (Some column) None = sym some ∙ accepted.uncoded in cc)
+  ends-refused fault.NoColumn (may, uncoded, none) = absurd (omega (arith, accepted.some, ap length none))
+  ends-refused fault.OutOfMemory is = inr (inl refl)
+  ends-refused fault.Source is = absurd is
+  ends-refused fault.Sink is = absurd is
+  ends-refused fault.TooLong is = absurd is
 
-    pub ends-stream : (given : StreamFault) → IsStreamRefused o write source source_now out out_now given → Ends given
-    ends-stream given (inl (refused, source_same, out_same)) = ends-refused given refused
-    ends-stream given (inr (accepted, cut)) = ends-cut given cut
+  pub ends-stream : (given : StreamFault) → IsStreamRefused o write source source_now out out_now given → Ends given
+  ends-stream given (inl (refused, source_same, out_same)) = ends-refused given refused
+  ends-stream given (inr (accepted, cut)) = ends-cut given cut
 
 -- ---- a run
 

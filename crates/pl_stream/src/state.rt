@@ -1,6 +1,5 @@
 //! The state of a stream.
-ghost use Rattle.std.specs.Prelude.{◌≡◌, ◌≤◌, ◌<◌, ◌^◌, ℕ, List, [], None, length, IfOk, OnOk, IfErr};
-ghost use Rattle.pl_read.specs.Refusals.{numbers_past};
+ghost use Rattle.std.specs.Prelude.{◌≡◌, ◌≤◌, ℕ, List, [], length, IfOk, OnOk, IfErr};
 ghost use Rattle.pl_stream.specs.Options.{IsAccepted, IsRefused};
 ghost use Rattle.pl_stream.specs.Stream.{new_stream, StandsFor, most_kept};
 
@@ -62,24 +61,6 @@ impl Model for StreamState {
     ghost invariant = { λ s. IsAccepted s.read s.write × IsSettled s.read (given_schema s.read) s.settled × (numbers_past s.read.row_index s.rows ≡ None) };
 }
 
-// A number, which fits 64 bits.
-fn number(offset: u64) -> u64
-    ensures fits { offset < 2 ^ 64 }
-    ensures same { result ≡ offset }
-{
-    offset
-}
-
-// The number of the first row, where rows are numbered: it fits 64 bits.
-fn first_number(read: &CsvReadOptions) -> Option<u64>
-    ensures { numbers_past read.now.row_index 0 ≡ None }
-{
-    match &read.row_index {
-        Some(index) => Some(number(index.offset)),
-        None => None,
-    }
-}
-
 impl StreamState {
     /// A state that no bytes came to, under these options: it stands for the empty input.
     ///
@@ -98,7 +79,6 @@ impl StreamState {
         ensures accepted { OnOk result (IsAccepted read.now write.now) }
         ensures refused { IfErr result (IsRefused read.now write.now) }
     {
-        let _ = first_number(read);
         let settled = match settle_stream(alloc, read, write) {
             Ok(settled) => settled,
             Err(fault) => return Err(fault),

@@ -12,7 +12,8 @@ use Rattle.pl_stream.specs.Printing.{IsRowsFault}
 use Rattle.pl_stream.specs.Stream.{Stream, StandsFor, data_at}
 use Rattle.pl_stream.specs.declared.fault.StreamFault.{StreamFault}
 use Rattle.pl_stream.specs.declared.place.Place.TheVariants as place
-use Rattle.pl_stream.proofs.EndLaws.{numbers-fewer, end-compressed, end-skipped, has-end, end-refused}
+use Rattle.pl_stream.proofs.FeedLaws.{none-before}
+use Rattle.pl_stream.proofs.EndLaws.{end-compressed, end-skipped, has-end, end-refused}
 use Rattle.pl_stream.proofs.StreamingLaws.{accepted-dialect}
 use Rattle.pl_stream.proofs.state.StreamState.print_end.Goals as goal
 
@@ -40,7 +41,7 @@ returns-clause-ended c =
     let apart = accepted-dialect s.read s.write c.self.invariant.0 in
     let plain : s.place ≡ place.Start → is_compressed s.kept ≡ false = λ start. ap is_compressed (sym c.deref.ensures.value) ∙ c.if-is_marked.ensures.no refl start in
     let told : data_at s.read s.place s.kept ≡ Some c.in-Some.records.now = ap (data_at s.read s.place) (sym c.deref-2.ensures.value) ∙ sym c.in-Some.ensures in
-    let numbered : numbers_past s.read.row_index 0 ≡ None = numbers-fewer s.read.row_index 0 s.rows (omega arith) c.self.invariant.2 in
+    let numbered : numbers_past s.read.row_index 0 ≡ None = none-before s.read.row_index 0 s.rows (omega arith) c.self.invariant.2 in
     subst (λ (state : Stream). (bytes : List ℕ) → StandsFor state bytes → OnOk c.push_end.result (HasEndText state bytes c.args.text.now.items c.push_end.new.text.items)) c.self.view_is
     (λ bytes stands. has-end s bytes apart stands c.in-Some.records.now plain told numbered c.push_end.result c.args.text.now.items c.push_end.new.text.items c.push_end.ensures.text c.push_end.ensures.sound)
 
@@ -50,6 +51,6 @@ returns-clause-refused c =
     let apart = accepted-dialect s.read s.write c.self.invariant.0 in
     let plain : s.place ≡ place.Start → is_compressed s.kept ≡ false = λ start. ap is_compressed (sym c.deref.ensures.value) ∙ c.if-is_marked.ensures.no refl start in
     let told : data_at s.read s.place s.kept ≡ Some c.in-Some.records.now = ap (data_at s.read s.place) (sym c.deref-2.ensures.value) ∙ sym c.in-Some.ensures in
-    let numbered : numbers_past s.read.row_index 0 ≡ None = numbers-fewer s.read.row_index 0 s.rows (omega arith) c.self.invariant.2 in
+    let numbered : numbers_past s.read.row_index 0 ≡ None = none-before s.read.row_index 0 s.rows (omega arith) c.self.invariant.2 in
     subst (λ (state : Stream). (bytes : List ℕ) → StandsFor state bytes → IfErr c.push_end.result (IsRowsFault (finish_cause state.read bytes))) c.self.view_is
     (λ bytes stands. end-refused s bytes apart stands c.in-Some.records.now plain told numbered c.push_end.result c.push_end.ensures.refused)

@@ -75,8 +75,8 @@ END {
     print "        texts=("
     print "            " words
     print "        )"
-    print "        # `multi`, `seek`, `help` and `version` are first words; behind `multi` stands a slice first, and `--` anywhere."
-    print "        ((COMP_CWORD == 1)) && texts+=(multi seek help version)"
+    print "        # `multi`, `seek`, `stream`, `help` and `version` are first words; behind `multi` stands a slice first, and `--` anywhere."
+    print "        ((COMP_CWORD == 1)) && texts+=(multi seek stream help version)"
     print "        [[ ${COMP_WORDS[1]} == seek ]] && ((COMP_CWORD == 2)) && texts=(" seeks ")"
     print "        [[ ${COMP_WORDS[1]} == multi ]] && ((COMP_CWORD > 1)) && texts+=(--)"
     print "        [[ ${COMP_WORDS[1]} == multi ]] && ((COMP_CWORD == 2)) && texts+=(" slices ")"

@@ -44,6 +44,12 @@ $1 == "seek" {
     }
 }
 
+$1 == "stream" {
+    name = $2
+    gsub(/`/, "", name)
+    print "complete -c pl_csv -n __fish_is_first_token -a " name " -d " quoted($3)
+}
+
 $1 == "word" {
     print "complete -c pl_csv -l " substr($2, 3) ($3 == "" ? "" : " -x") ($4 == "" ? "" : " -a " quoted($4)) " -d " quoted($5)
 }

@@ -6,6 +6,7 @@ BEGIN {
         "pl_csv multi [--slice=A-B] [words] -- PATH.. > output\n" \
         "pl_csv seek build K PATH [words] > index\n" \
         "pl_csv seek slice A L PATH INDEX [words] > output\n" \
+        "pl_csv stream [words] < input > output\n" \
         "pl_csv help [word]\n" \
         "pl_csv version\n"
 }
@@ -67,6 +68,11 @@ $1 == "seek" {
     name = plain($2)
     sub(/ .*/, "", name)
     keep(name, "  " plain($2), wrapped(plain($3)))
+}
+$1 == "stream" {
+    if (!streams++)
+        all = all "\nA stream\n"
+    keep(plain($2), "  " plain($2), wrapped(plain($3)))
 }
 $1 == "value" {
     if (!values++)

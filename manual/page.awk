@@ -62,7 +62,7 @@ files == 1 && $1 == "multi" {
     made["multi"] = made["multi"] entry(inline($2), sentence($3) "\nWithout it: " inline($4) ".")
     next
 }
-files == 1 && ($1 == "seek" || $1 == "value" || $1 == "type") { made[$1] = made[$1] entry(inline($2), sentence($3)); next }
+files == 1 && ($1 == "seek" || $1 == "stream" || $1 == "value" || $1 == "type") { made[$1] = made[$1] entry(inline($2), sentence($3)); next }
 files == 1 && $1 == "status" {
     made["status"] = made["status"] entry("\\fB" $2 "\\fP", sentence($4) "\nFault line: " inline($3) ".\nStandard output: " inline($5) ".")
     next

@@ -4,6 +4,7 @@
 #   word    NAME VALUE FIXED MEANING DEFAULT         VALUE is empty for a flag; FIXED: the texts that a value can be
 #   multi   NAME MEANING DEFAULT                     a word of many files
 #   seek    NAME MEANING                             a word of an index, with those behind it
+#   stream  NAME MEANING                             a word of a stream
 #   value   NAME MEANING                             what a value is
 #   type    WORDS MEANING
 #   status  NUMBER FAULT-LINE CASE OUTPUT
@@ -15,6 +16,7 @@ BEGIN {
     kinds["Word|Value|Meaning|Where it is left out"] = "word"
     kinds["Word of many files|Meaning|Where it is left out"] = "multi"
     kinds["Word of an index|Meaning"] = "seek"
+    kinds["Word of a stream|Meaning"] = "stream"
     kinds["Value|What it is"] = "value"
     kinds["TYPE|Type"] = "type"
     kinds["Status|Fault line|When|Standard output"] = "status"

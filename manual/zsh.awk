@@ -43,7 +43,7 @@ $1 == "multi" {
     name = $2
     gsub(/`/, "", name)
     if (name == "multi")
-        lines[++count] = "    '1: :(multi seek help version)'"
+        lines[++count] = "    '1: :(multi seek stream help version)'"
     else if (name ~ /=/)
         lines[++count] = "    '" substr(name, 1, index(name, "=")) "[" escaped($3) "]:A-B: '"
 }

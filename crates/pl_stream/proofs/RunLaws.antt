@@ -110,45 +110,45 @@ front-of input bytes (Some rest) came = (rest, refl, came)
 module _ (o : CsvReadOptions) (write : CsvWriterOptions) (source source_now : SourceView) (out out_now : SinkView) (accepted : IsAccepted o write) (input : List ℕ) (told : source.left ≡ Some input)
     (sound : finish_cause o input ≡ None) (within : length input ≤ most_bytes)
   where
-  abbrev Ends : StreamFault → Type 0
-  Ends given = EndsStreamed (stream_status (refusal_of given)) source.faults source_now.faults out.faults out_now.faults
+    abbrev Ends : StreamFault → Type 0
+    Ends given = EndsStreamed (stream_status (refusal_of given)) source.faults source_now.faults out.faults out_now.faults
 
-  came-front : (bytes : List ℕ) → Consumes source.left source_now.left bytes → (rest : List ℕ) × (source_now.left ≡ Some rest) × (input ≡ bytes ++ rest)
-  came-front bytes came = front-of input bytes source_now.left (subst (λ (left : Option (List ℕ)). Consumes left source_now.left bytes) told came)
+    came-front : (bytes : List ℕ) → Consumes source.left source_now.left bytes → (rest : List ℕ) × (source_now.left ≡ Some rest) × (input ≡ bytes ++ rest)
+    came-front bytes came = front-of input bytes source_now.left (subst (λ (left : Option (List ℕ)). Consumes left source_now.left bytes) told came)
 
-  some-none : {X : Type 0} (x : PolarsError) (given : Option PolarsError) → given ≡ Some x → given ≡ None → X
-  some-none x given some none = absurd (let h : ◌≡◌ {A = Option PolarsError} (Some x) None = sym some ∙ none in cc)
+    some-none : {X : Type 0} (x : PolarsError) (given : Option PolarsError) → given ≡ Some x → given ≡ None → X
+    some-none x given some none = absurd (let h : ◌≡◌ {A = Option PolarsError} (Some x) None = sym some ∙ none in cc)
 
-  ends-cut : (given : StreamFault) → IsUnstreamed o write source source_now out out_now given → Ends given
-  ends-cut fault.Source is = inr (inr (inl (refl, is.0)))
-  ends-cut fault.Sink is = inr (inr (inr (refl, is.0)))
-  ends-cut fault.OutOfMemory is = inr (inl refl)
-  ends-cut fault.TooLong (fed, last, has, many) = let front = came-front (fed ++ last) has.came in absurd (omega (arith, many, within, ap length front.2, length-append (fed ++ last) front.0))
-  ends-cut (fault.Polars refusal) (fed, last, has, few, inl cause) =
-      let front = came-front (fed ++ last) has.came in
-      some-none refusal (feed_cause o (fed ++ last)) cause (feed-sound o (fed ++ last) front.0 (accepted-dialect o write accepted) (subst (λ (l : List ℕ). finish_cause o l ≡ None) front.2 sound))
-  ends-cut (fault.Polars refusal) (fed, last, has, few, inr (empty, end, cause)) =
-      let front = came-front (fed ++ last) has.came in
-      let none : front.0 ≡ [] = subst IsAtEnd front.1 end in
-      let all : input ≡ fed = front.2 ∙ ap (λ l. (fed ++ last) ++ l) none ∙ append-nil (fed ++ last) ∙ ap (λ l. fed ++ l) empty ∙ append-nil fed in
-      some-none refusal (finish_cause o fed) cause (subst (λ (l : List ℕ). finish_cause o l ≡ None) all sound)
-  ends-cut fault.NoSchema is = absurd is
-  ends-cut (fault.Category column) is = absurd is
-  ends-cut fault.NoColumn is = absurd is
+    ends-cut : (given : StreamFault) → IsUnstreamed o write source source_now out out_now given → Ends given
+    ends-cut fault.Source is = inr (inr (inl (refl, is.0)))
+    ends-cut fault.Sink is = inr (inr (inr (refl, is.0)))
+    ends-cut fault.OutOfMemory is = inr (inl refl)
+    ends-cut fault.TooLong (fed, last, has, many) = let front = came-front (fed ++ last) has.came in absurd (omega (arith, many, within, ap length front.2, length-append (fed ++ last) front.0))
+    ends-cut (fault.Polars refusal) (fed, last, has, few, inl cause) =
+        let front = came-front (fed ++ last) has.came in
+        some-none refusal (feed_cause o (fed ++ last)) cause (feed-sound o (fed ++ last) front.0 (accepted-dialect o write accepted) (subst (λ (l : List ℕ). finish_cause o l ≡ None) front.2 sound))
+    ends-cut (fault.Polars refusal) (fed, last, has, few, inr (empty, end, cause)) =
+        let front = came-front (fed ++ last) has.came in
+        let none : front.0 ≡ [] = subst IsAtEnd front.1 end in
+        let all : input ≡ fed = front.2 ∙ ap (λ l. (fed ++ last) ++ l) none ∙ append-nil (fed ++ last) ∙ ap (λ l. fed ++ l) empty ∙ append-nil fed in
+        some-none refusal (finish_cause o fed) cause (subst (λ (l : List ℕ). finish_cause o l ≡ None) all sound)
+    ends-cut fault.NoSchema is = absurd is
+    ends-cut (fault.Category column) is = absurd is
+    ends-cut fault.NoColumn is = absurd is
 
-  ends-refused : (given : StreamFault) → IsRefused o write given → Ends given
-  ends-refused fault.NoSchema none = absurd (let h : false ≡ true = subst IsSome none accepted.given in cc)
-  ends-refused (fault.Polars refusal) (given, first) = absurd (let h : ◌≡◌ {A = Option PolarsError} None (Some refusal) = first-same (option_causes o write) o.parse_options None (Some refusal) accepted.sound first in cc)
-  ends-refused (fault.Category column) (may, some) = absurd (let h : ◌≡◌ {A = Option ℕ} (Some column) None = sym some ∙ accepted.uncoded in cc)
-  ends-refused fault.NoColumn (may, uncoded, none) = absurd (omega (arith, accepted.some, ap length none))
-  ends-refused fault.OutOfMemory is = inr (inl refl)
-  ends-refused fault.Source is = absurd is
-  ends-refused fault.Sink is = absurd is
-  ends-refused fault.TooLong is = absurd is
+    ends-refused : (given : StreamFault) → IsRefused o write given → Ends given
+    ends-refused fault.NoSchema none = absurd (let h : false ≡ true = subst IsSome none accepted.given in cc)
+    ends-refused (fault.Polars refusal) (given, first) = absurd (let h : ◌≡◌ {A = Option PolarsError} None (Some refusal) = first-same (option_causes o write) o.parse_options None (Some refusal) accepted.sound first in cc)
+    ends-refused (fault.Category column) (may, some) = absurd (let h : ◌≡◌ {A = Option ℕ} (Some column) None = sym some ∙ accepted.uncoded in cc)
+    ends-refused fault.NoColumn (may, uncoded, none) = absurd (omega (arith, accepted.some, ap length none))
+    ends-refused fault.OutOfMemory is = inr (inl refl)
+    ends-refused fault.Source is = absurd is
+    ends-refused fault.Sink is = absurd is
+    ends-refused fault.TooLong is = absurd is
 
-  pub ends-stream : (given : StreamFault) → IsStreamRefused o write source source_now out out_now given → Ends given
-  ends-stream given (inl (refused, source_same, out_same)) = ends-refused given refused
-  ends-stream given (inr (accepted, cut)) = ends-cut given cut
+    pub ends-stream : (given : StreamFault) → IsStreamRefused o write source source_now out out_now given → Ends given
+    ends-stream given (inl (refused, source_same, out_same)) = ends-refused given refused
+    ends-stream given (inr (accepted, cut)) = ends-cut given cut
 
 -- ---- a run
 

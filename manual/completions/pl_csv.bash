@@ -49,8 +49,8 @@ _pl_csv() {
             --keep-missing --truncate --ignore-errors --out-sep --out-quote --out-null --out-eol
             --style --out-no-header --out-bom --batch --make
         )
-        # `multi`, `seek`, `help` and `version` are first words; behind `multi` stands a slice first, and `--` anywhere.
-        ((COMP_CWORD == 1)) && texts+=(multi seek help version)
+        # `multi`, `seek`, `stream`, `help` and `version` are first words; behind `multi` stands a slice first, and `--` anywhere.
+        ((COMP_CWORD == 1)) && texts+=(multi seek stream help version)
         [[ ${COMP_WORDS[1]} == seek ]] && ((COMP_CWORD == 2)) && texts=(build slice)
         [[ ${COMP_WORDS[1]} == multi ]] && ((COMP_CWORD > 1)) && texts+=(--)
         [[ ${COMP_WORDS[1]} == multi ]] && ((COMP_CWORD == 2)) && texts+=(--slice=)

@@ -48,3 +48,4 @@ complete -c pl_csv -n 'contains -- seek (commandline -opc); and not contains -- 
 complete -c pl_csv -n 'contains -- seek (commandline -opc); and contains -- build (commandline -opc)' -F
 complete -c pl_csv -n 'contains -- seek (commandline -opc); and not contains -- slice (commandline -opc)' -a slice -d 'behind seek: of the file at PATH the records from the one with the number A on, at most L, are written; INDEX is the path of its index. A and L are NUM, and the first record has the number 0'
 complete -c pl_csv -n 'contains -- seek (commandline -opc); and contains -- slice (commandline -opc)' -F
+complete -c pl_csv -n __fish_is_first_token -a stream -d 'each record is written as soon as its line end came; it is the first word'

@@ -2,4 +2,10 @@
 #![tactic(auto)]
 
 #[cfg(test)]
+mod feeding;
+#[cfg(test)]
+mod run;
+#[cfg(test)]
 mod state;
+#[cfg(test)]
+mod words;

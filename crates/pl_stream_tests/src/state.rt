@@ -1,5 +1,6 @@
 //! Tests of `pl_stream::state`.
 
+use crate::words::words_of;
 use pl_frame::error::{ComputeFault, OpFault, PolarsError};
 use pl_frame::schema::Schema;
 use pl_options::read_options::CsvReadOptions;
@@ -69,16 +70,6 @@ fn name_of(made: &Result<StreamState, StreamFault>) -> &'static str {
         Err(StreamFault::NoColumn) => "no column",
         _ => "another answer",
     }
-}
-
-// The words between blanks.
-fn words_of(rt: &impl Abort, alloc: Global, text: &str) -> Vec<String> {
-    let mut words = Vec::new(alloc);
-    for word in text.split(' ') {
-        let word = String::from_str(alloc, word).expect(rt, "a word");
-        words.push(word).expect(rt, "a word");
-    }
-    words
 }
 
 // What a state under these words is.

@@ -44,11 +44,17 @@ fn is_refused(alloc: Global, state: &mut StreamState, piece: &[u8]) -> bool
 {
     let mut gained = Vec::new(alloc);
     let is_value = match state.feed(piece, &mut gained) {
-        Err(StreamFault::Polars(PolarsError::ComputeError(ComputeFault::Record {
-            row: 1,
-            column: 0,
-            kind: FaultKind::Value,
-        }))) => true,
+        Err(
+            StreamFault::Polars(
+                PolarsError::ComputeError(
+                    ComputeFault::Record {
+                        row: 1,
+                        column: 0,
+                        kind: FaultKind::Value,
+                    },
+                ),
+            ),
+        ) => true,
         _ => false,
     };
     is_value && gained.is_empty()

@@ -7,9 +7,11 @@ use pl_stream::run::run_stream;
 use std::alloc::Global;
 use std::process::Abort;
 
-const SALES: &[u8] = b"# export of March\nid,day,shop,amount,note\n1,2024-02-29,Oslo,12.50,\"fine, thanks\"\n2,2024-03-01,NA,-3,\n3,NA,Bergen,n/a,\"say \"\"hi\"\"\"\n4,2024-03-02,-,7,ok\n";
+const SALES: &[u8] =
+    b"# export of March\nid,day,shop,amount,note\n1,2024-02-29,Oslo,12.50,\"fine, thanks\"\n2,2024-03-01,NA,-3,\n3,NA,Bergen,n/a,\"say \"\"hi\"\"\"\n4,2024-03-02,-,7,ok\n";
 
-const SALES_TEXT: &[u8] = b"id,day,shop,amount,note\n1,2024-02-29,Oslo,12.50,\"fine, thanks\"\n2,2024-03-01,,-3,\n3,,Bergen,,\"say \"\"hi\"\"\"\n4,2024-03-02,,7,ok\n";
+const SALES_TEXT: &[u8] =
+    b"id,day,shop,amount,note\n1,2024-02-29,Oslo,12.50,\"fine, thanks\"\n2,2024-03-01,,-3,\n3,,Bergen,,\"say \"\"hi\"\"\"\n4,2024-03-02,,7,ok\n";
 
 // Words, with blanks between them, an input, and what a run over it has to answer.
 struct Row {

@@ -1,0 +1,2 @@
+pub mod NearestLaws
+pub mod ShownLaws

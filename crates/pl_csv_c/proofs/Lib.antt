@@ -1,0 +1,10 @@
+pub mod ArrayLaws
+pub mod BoxOfBytes
+pub mod BoxOfFrame
+pub mod CallLaws
+pub mod CountLaws
+pub mod HostLaws
+pub mod JoinLaws
+pub mod KeptLaws
+pub mod NameLaws
+pub mod SchemaLaws

@@ -1,0 +1,161 @@
+//! Flags, numbers and words of cells, put behind others.
+ghost use Rattle.std.specs.Prelude.{◌≡◌, ◌+◌, ◌≤◌, ◌++◌, ◌∷◌, [], true, replicate, map, is_some, length, OnOk, IfOk, vec_len, vec_capacity, Some};
+ghost use Rattle.std.specs.List.{flat_map};
+ghost use Rattle.pl_csv_c.specs.Arrays.{number_in, or_zero, wide_in, low_word, high_word, words_in};
+ghost use Rattle.pl_frame.specs.Columns.{scalar_of, number_cells};
+
+use pl_frame::column::{Column, Value};
+use pl_frame::numbers::Numbers;
+use std::alloc::AllocError;
+
+// Whether a cell is there.
+#[inline]
+fn is_there(value: Value<'_>) -> bool
+    ensures { result ≡ is_some (scalar_of value.entry) }
+{
+    !matches!(value, Value::Null)
+}
+
+// The flags of a column, cell by cell.
+fn put_each_flag(flags: &mut Vec<bool>, column: &Column)
+    requires { vec_len flags.old + length column.now.values ≤ vec_capacity flags.old }
+    ensures { flags.new.items ≡ flags.old.items ++ map is_some column.now.values }
+{
+    for row in 0..column.len() {
+        flags.push_reserved(is_there(column.get(row)));
+    }
+}
+
+// So many flags that are set.
+fn put_set_flags(flags: &mut Vec<bool>, count: usize)
+    requires { vec_len flags.old + count ≤ vec_capacity flags.old }
+    ensures { flags.new.items ≡ flags.old.items ++ replicate count true }
+{
+    for row in 0..count {
+        flags.push_reserved(true);
+    }
+}
+
+/// Puts a flag for each cell of a column behind others, which tells whether it is there. Refuses only want of memory.
+#[tactic(auto, using(crate::proofs::ArrayLaws::all_there))]
+pub(crate) fn put_flags(flags: &mut Vec<bool>, column: &Column) -> Result<(), AllocError>
+    ensures { OnOk result (flags.new.items ≡ flags.old.items ++ map is_some column.now.values) }
+{
+    let rows = column.len();
+    flags.reserve(rows)?;
+    if column.null_count() == 0 {
+        put_set_flags(flags, rows);
+    } else {
+        put_each_flag(flags, column);
+    }
+    Ok(())
+}
+
+// A number, and 0 where there is none.
+#[inline]
+fn or_zero(number: Option<i64>) -> i64
+    ensures { result ≡ or_zero number }
+{
+    match number {
+        Some(number) => number,
+        None => 0,
+    }
+}
+
+// Puts numbers behind others, for which there is room.
+fn put_kept(numbers: &mut Vec<i64>, kept: &Numbers<i64>)
+    requires { vec_len numbers.old + length kept.now ≤ vec_capacity numbers.old }
+    ensures { numbers.new.items ≡ numbers.old.items ++ map number_in (number_cells kept.now) }
+{
+    for row in 0..kept.len() {
+        numbers.push_reserved(or_zero(kept.get(row)));
+    }
+}
+
+// The number of a cell, where it has 64 bits: 1 at true, 0 at false and where there is none.
+#[inline]
+fn number_in(value: Value<'_>) -> Result<i64, AllocError>
+    ensures { IfOk result (λ number. number ≡ number_in (scalar_of value.entry)) }
+{
+    match value {
+        Value::Boolean(true) => Ok(1),
+        Value::Whole(number) => match i64::try_from(number) {
+            Ok(number) => Ok(number),
+            Err(_) => Err(AllocError),
+        },
+        Value::Boolean(false) | Value::Text(_) | Value::Null => Ok(0),
+    }
+}
+
+// The numbers of a column, cell by cell.
+fn put_each_number(numbers: &mut Vec<i64>, column: &Column) -> Result<(), AllocError>
+    ensures { OnOk result (numbers.new.items ≡ numbers.old.items ++ map number_in column.now.values) }
+{
+    for row in 0..column.len() {
+        let number = number_in(column.get(row))?;
+        numbers.push(number)?;
+    }
+    Ok(())
+}
+
+/// Puts the number of each cell of a column behind others. Refuses only want of memory.
+pub(crate) fn put_numbers(numbers: &mut Vec<i64>, column: &Column) -> Result<(), AllocError>
+    ensures { OnOk result (numbers.new.items ≡ numbers.old.items ++ map number_in column.now.values) }
+{
+    let Some(kept) = column.narrow_numbers() else {
+        return put_each_number(numbers, column);
+    };
+    numbers.reserve(kept.len())?;
+    put_kept(numbers, kept);
+    Ok(())
+}
+
+// So many words of 64 bits there are.
+const WORDS: u128 = 1 << 64;
+
+// The low word of a number in two's complement.
+#[inline]
+fn low_word(number: i128) -> u64
+    ensures { result ≡ low_word number }
+{
+    (number.cast_unsigned() % WORDS) as u64
+}
+
+// The high word.
+#[inline]
+fn high_word(number: i128) -> u64
+    ensures { result ≡ high_word number }
+{
+    (number.cast_unsigned() / WORDS) as u64
+}
+
+// The number of a cell, 0 where there is none.
+#[inline]
+fn wide_in(value: Value<'_>) -> i128
+    ensures { result ≡ wide_in (scalar_of value.entry) }
+{
+    match value {
+        Value::Whole(number) => number,
+        Value::Boolean(_) | Value::Text(_) | Value::Null => 0,
+    }
+}
+
+// Puts a number behind others as two words.
+#[inline]
+fn put_pair(words: &mut Vec<u64>, number: i128) -> Result<(), AllocError>
+    ensures { OnOk result (words.new.items ≡ words.old.items ++ low_word number ∷ high_word number ∷ []) }
+{
+    words.push(low_word(number))?;
+    words.push(high_word(number))?;
+    Ok(())
+}
+
+/// Puts two words for the number of each cell of a column behind others. Refuses only want of memory.
+pub(crate) fn put_words(words: &mut Vec<u64>, column: &Column) -> Result<(), AllocError>
+    ensures { OnOk result (words.new.items ≡ words.old.items ++ flat_map words_in column.now.values) }
+{
+    for row in 0..column.len() {
+        put_pair(words, wide_in(column.get(row)))?;
+    }
+    Ok(())
+}

@@ -1,0 +1,435 @@
+"""Frames and their columns, shown as numpy arrays without a copy."""
+
+from __future__ import annotations
+
+import ctypes
+import datetime
+import decimal
+import functools
+import weakref
+from collections.abc import Iterator
+from typing import TYPE_CHECKING, Any, NamedTuple, Union
+
+import numpy
+
+from . import _library
+from .words import WriteOptions
+
+if TYPE_CHECKING:
+    import pandas
+
+_TYPES = (
+    "boolean int8 int16 int32 int64 int128 uint8 uint16 uint32 uint64 string category enum date time datetime decimal null"
+).split()
+_UNITS = ("ms", "us", "ns")
+_EPOCH = datetime.datetime(1970, 1, 1)
+_FLOATS = ("exact", "float")
+
+
+class _Owner:
+    """Owns what the library made for a frame, and frees it once: when nothing shows it any more."""
+
+    def __init__(self, view: _library.FrameView):
+        self.view = view
+        self.shared = _library.library.pl_csv_shared_new(view.handle)
+        if not self.shared:
+            _library.library.pl_csv_free_frame(view.handle)
+            raise MemoryError
+        self._freed = weakref.finalize(self, _library.library.pl_csv_shared_drop, self.shared)
+
+
+class _Held:
+    """An array in the library's memory, as numpy asks for it. The numpy array keeps this, and this the owner."""
+
+    def __init__(self, owner: _Owner, at: int, length: int, kind: str):
+        self.owner = owner
+        self.__array_interface__ = {"version": 3, "typestr": kind, "shape": (length,), "data": (at, True)}
+
+
+class _View(NamedTuple):
+    """A column's structure as plain numbers, word by word, as c/pl_csv.h lays it out: ctypes would take a microsecond for each field."""
+
+    name: int
+    name_len: int
+    type_and_unit: int
+    precision_and_scale: int
+    present: int
+    present_len: int
+    numbers: int
+    numbers_len: int
+    words: int
+    words_len: int
+    ends: int
+    ends_len: int
+    bytes: int
+    bytes_len: int
+    categories: int
+    categories_len: int
+    null_count: int
+
+    @property
+    def unit(self) -> int:
+        return self.type_and_unit >> 32
+
+    @property
+    def precision(self) -> int:
+        return self.precision_and_scale & 0xFFFFFFFF
+
+    @property
+    def scale(self) -> int:
+        return self.precision_and_scale >> 32
+
+
+def _views(view: _library.FrameView) -> list[_View]:
+    """Returns the structures of a frame's columns."""
+    count = len(_View._fields)
+    assert ctypes.sizeof(_library.Column) == 8 * count
+    if not view.width:
+        return []
+    words = ctypes.cast(view.columns, ctypes.POINTER(ctypes.c_uint64))
+    return [_View(*it) for it in numpy.ctypeslib.as_array(words, (view.width, count)).tolist()]
+
+
+def _shown(owner: _Owner, at: int, length: int, kind: str) -> numpy.ndarray:
+    """Returns an array over memory of the library, which can't be written."""
+    if not length:
+        array = numpy.empty(0, kind)
+        array.flags.writeable = False
+        return array
+    return numpy.asarray(_Held(owner, at, length, kind))
+
+
+def _texts_at(at: int, count: int) -> list[str]:
+    texts = ctypes.cast(at, ctypes.POINTER(_library.Text))
+    return [ctypes.string_at(texts[it].at, texts[it].len).decode() for it in range(count)]
+
+
+def _type_word(view: _View, name: str, categories: list[str]) -> str:
+    """Returns a column's type as a word of docs/command-line.md."""
+    if name == "datetime":
+        return f"datetime/{_UNITS[view.unit]}"
+    if name == "decimal":
+        return f"decimal/{view.precision or '-'}/{view.scale}"
+    if name == "enum":
+        return "/".join(["enum", *categories])
+    return name
+
+
+class Column:
+    """A column of a frame: a name, a type, values, and which of them are there.
+
+    name: its name.
+    dtype: its type, as docs/command-line.md has it ("int64", "decimal/10/2").
+    present: an array of `bool`, False at each null.
+    null_count: the number of nulls.
+    categories: the texts of a column of categories, else an empty list.
+    """
+
+    def __init__(self, owner: _Owner, view: _View):
+        self._owner, self._view, self._kind = owner, view, _TYPES[view.type_and_unit & 0xFFFFFFFF]
+        self.name = ctypes.string_at(view.name, view.name_len).decode()
+        self.null_count = view.null_count
+
+    @functools.cached_property
+    def categories(self) -> list[str]:
+        return _texts_at(self._view.categories, self._view.categories_len)
+
+    @functools.cached_property
+    def dtype(self) -> str:
+        return _type_word(self._view, self._kind, self.categories)
+
+    @functools.cached_property
+    def present(self) -> numpy.ndarray:
+        return _shown(self._owner, self._view.present, self._view.present_len, "|b1")
+
+    def __len__(self) -> int:
+        return self._view.present_len
+
+    @property
+    def values(self) -> numpy.ndarray:
+        """The values, without a copy wherever numpy has the type; a null is 0 there.
+
+        Whole numbers: `int64`, and `uint64` of a column of `uint64`. Booleans: `bool`, a copy. Dates: `datetime64[D]`. Datetimes:
+        `datetime64[ms]`, `[us]`, and `[ns]` as a copy. Times: nanoseconds of the day, `timedelta64[ns]`. Categories: places in
+        `categories`, `int64`. Decimals and `int128`: an array of two `uint64` a row, the low one first, in two's complement. Texts have
+        no such array: see `ends`, `data` and `to_list`.
+
+        Raises OverflowError where a datetime in nanoseconds is outside what numpy can tell (1677 to 2262).
+        """
+        view = self._view
+        if self._kind in ("decimal", "int128"):
+            return self.words
+        if self._kind == "uint64":
+            return self.words[:, 0]
+        if self._kind == "datetime" and view.unit == 2:
+            return _nanoseconds(self.words)
+        numbers = _shown(self._owner, view.numbers, view.numbers_len, "<i8")
+        if self._kind == "boolean":
+            return numbers.astype(bool)
+        if self._kind == "date":
+            return numbers.view("datetime64[D]")
+        if self._kind == "time":
+            return numbers.view("timedelta64[ns]")
+        if self._kind == "datetime":
+            return numbers.view(f"datetime64[{_UNITS[view.unit]}]")
+        if self._kind in ("string", "null"):
+            raise TypeError(f"pl_csv: column {self.name!r} of {self.dtype} has no array of values: see to_list, ends and data")
+        return numbers
+
+    @property
+    def words(self) -> numpy.ndarray:
+        """The values of a wide column as two `uint64` a row, the low one first."""
+        return _shown(self._owner, self._view.words, self._view.words_len, "<u8").reshape(-1, 2)
+
+    @property
+    def ends(self) -> numpy.ndarray:
+        """Where texts end: row k of a column of strings is `data[ends[k] : ends[k + 1]]`."""
+        return _shown(self._owner, self._view.ends, self._view.ends_len, "<u8").view("<i8")
+
+    @property
+    def data(self) -> numpy.ndarray:
+        """The bytes of all texts of a column of strings, in UTF-8."""
+        return _shown(self._owner, self._view.bytes, self._view.bytes_len, "|u1")
+
+    def __array__(self, dtype: Any = None) -> numpy.ndarray:
+        if self._kind in ("string", "category", "enum", "decimal", "int128", "null"):
+            array = numpy.empty(len(self), object)
+            array[:] = self.to_list()
+            return array if dtype is None else array.astype(dtype)
+        return self.values if dtype is None else self.values.astype(dtype)
+
+    def to_list(self) -> list:
+        """Returns the cells as Python's own values, None at a null: bool, int, str, date, time, datetime, Decimal."""
+        cells = self._cells()
+        if self.null_count:
+            cells = [cell if there else None for cell, there in zip(cells, self.present.tolist())]
+        return cells
+
+    def _cells(self) -> list:
+        """Returns the cells, and anything at a null."""
+        if self._kind == "null":
+            return [None] * len(self)
+        if self._kind == "string":
+            return _texts(self.data.tobytes(), self.ends.tolist())
+        if self._kind in ("category", "enum"):
+            texts = self.categories or [""]
+            return [texts[it] for it in self.values.tolist()]
+        if self._kind in ("decimal", "int128"):
+            wide = _wide(self.words)
+            return [_scaled(it, self._view.scale) for it in wide] if self._kind == "decimal" else wide
+        if self._kind == "time":
+            return [_time(it) for it in self.values.view("<i8").tolist()]
+        if self._kind in ("date", "datetime"):
+            return self._days_or_instants()
+        return self.values.tolist()
+
+    def _days_or_instants(self) -> list:
+        """Returns dates or datetimes; what Python's own can't tell (the year 0, nanoseconds) as `numpy.datetime64`."""
+        if self._kind == "datetime" and self._view.unit == 2:
+            return list(_nanoseconds(self.words))
+        cells = self.values.tolist()
+        if any(isinstance(it, int) for it in cells):
+            return [numpy.datetime64(it, numpy.datetime_data(self.values.dtype)[0]) if isinstance(it, int) else it for it in cells]
+        return cells
+
+    def to_numpy(self, decimals: str = "exact") -> numpy.ndarray:
+        """Returns one array of the cells, without a copy where there are no nulls and numpy has the type.
+
+        Nulls: whole numbers, times and booleans with nulls become `float64` with NaN, dates and datetimes `NaT`, others `None` in an array
+        of objects.
+        decimals: "exact" gives objects of `decimal.Decimal`, "float" an array of `float64`.
+        """
+        if self._kind == "decimal" and _checked(decimals) == "float":
+            return self._floats()
+        if self._kind in ("string", "category", "enum", "decimal", "int128", "null"):
+            return self.__array__()
+        if not self.null_count:
+            return self.values
+        missing = ~self.present
+        if self._kind in ("date", "datetime", "time"):
+            values = self.values.copy()
+            values[missing] = numpy.array("NaT", values.dtype)
+            return values
+        values = self.values.astype("float64")
+        values[missing] = numpy.nan
+        return values
+
+    def _floats(self) -> numpy.ndarray:
+        """Returns decimals as the nearest floats, NaN at a null."""
+        words = self.words
+        low, high = words[:, 0], words[:, 1].view("<i8")
+        narrow = (high == 0) & (low < 2**53) | (high == -1) & (low > 2**64 - 2**53)
+        if narrow.all():
+            values = low.view("<i8").astype("float64") / 10.0**self._view.scale
+        else:
+            values = numpy.array([float(_scaled(it, self._view.scale)) for it in _wide(words)], "float64")
+        if self.null_count:
+            values[~self.present] = numpy.nan
+        return values
+
+    def to_pandas(self, decimals: str = "exact", nullable: bool = False) -> "pandas.Series":
+        """Returns a pandas series: whole numbers and booleans of pandas' nullable types where there are nulls, else of numpy's; dates and
+        datetimes as `datetime64[ns]` where they all fit, else objects; categories as `category`; texts as objects.
+
+        decimals: "exact" gives objects of `decimal.Decimal`, "float" `float64`.
+        nullable: whole numbers and booleans are of the nullable types also where there are no nulls, so that the types of parts agree.
+        """
+        import pandas
+
+        values = self._pandas_values(pandas, _checked(decimals), nullable or self.null_count > 0)
+        return pandas.Series(values, name=self.name, copy=False)
+
+    def _pandas_values(self, pandas: Any, decimals: str, nullable: bool) -> Any:
+        if self._kind in ("category", "enum"):
+            codes = self.values if not self.null_count else numpy.where(self.present, self.values, -1)
+            return pandas.Categorical.from_codes(codes, self.categories, ordered=self._kind == "enum")
+        if self._kind == "boolean" and nullable:
+            return pandas.arrays.BooleanArray(self.values, ~self.present)
+        if self._kind.startswith(("int", "uint")) and self._kind != "int128" and nullable:
+            values = self.values
+            return pandas.arrays.IntegerArray(values if values.flags.c_contiguous else values.copy(), ~self.present)
+        if self._kind in ("date", "datetime"):
+            return self._pandas_instants()
+        return self.to_numpy(decimals)
+
+    def _pandas_instants(self) -> Any:
+        values = self.to_numpy()
+        years = values[~numpy.isnat(values)].astype("datetime64[Y]").astype("int64") + 1970
+        if years.size and (years.min() < 1678 or years.max() > 2261):
+            cells = numpy.empty(len(self), object)
+            cells[:] = self.to_list()
+            return cells
+        return values.astype("datetime64[ns]")
+
+    def __repr__(self) -> str:
+        return f"Column({self.name!r}, {self.dtype}, {len(self)} rows, {self.null_count} nulls)"
+
+
+def _checked(decimals: str) -> str:
+    if decimals not in _FLOATS:
+        raise ValueError(f"pl_csv: decimals is {decimals!r}, and has to be 'exact' or 'float'")
+    return decimals
+
+
+def _texts(data: bytes, ends: list[int]) -> list[str]:
+    if data.isascii():
+        text = data.decode("ascii")
+        return [text[start:end] for start, end in zip(ends, ends[1:])]
+    return [data[start:end].decode() for start, end in zip(ends, ends[1:])]
+
+
+def _wide(words: numpy.ndarray) -> list[int]:
+    """Returns numbers of 128 bits."""
+    lows, highs = words[:, 0].tolist(), words[:, 1].view("<i8").tolist()
+    return [(high << 64) + low for low, high in zip(lows, highs)]
+
+
+def _scaled(number: int, scale: int) -> decimal.Decimal:
+    return decimal.Decimal((number < 0, tuple(int(it) for it in str(abs(number))), -scale))
+
+
+def _nanoseconds(words: numpy.ndarray) -> numpy.ndarray:
+    low, high = words[:, 0].view("<i8"), words[:, 1].view("<i8")
+    if not (high == (low >> 63)).all() or (low == numpy.iinfo("int64").min).any():
+        raise OverflowError("pl_csv: a datetime in nanoseconds is outside what numpy can tell (1677 to 2262): read it as datetime/us")
+    return low.copy().view("datetime64[ns]")
+
+
+def _time(nanoseconds: int) -> datetime.time:
+    """Returns a time of the day, cut to microseconds, which is what Python's own can tell."""
+    return (_EPOCH + datetime.timedelta(microseconds=nanoseconds // 1000)).time()
+
+
+class Frame:
+    """A frame: columns of one height, each with a name of its own.
+
+    height, width: the number of rows, and of columns.
+
+    It owns memory of the library, which is given back when neither the frame nor any array of it is used any more.
+    """
+
+    def __init__(self, view: _library.FrameView):
+        self._owner = _Owner(view)
+        self.height, self.width = view.height, view.width
+
+    @functools.cached_property
+    def _columns(self) -> dict[str, Column]:
+        return {it.name: it for it in (Column(self._owner, view) for view in _views(self._owner.view))}
+
+    @property
+    def columns(self) -> list[str]:
+        """The names, in order."""
+        return list(self._columns)
+
+    @property
+    def dtypes(self) -> dict[str, str]:
+        """The type of each column by its name."""
+        return {name: it.dtype for name, it in self._columns.items()}
+
+    @property
+    def shape(self) -> tuple[int, int]:
+        """The number of rows and of columns."""
+        return self.height, self.width
+
+    def __len__(self) -> int:
+        return self.height
+
+    def __iter__(self) -> Iterator[Column]:
+        return iter(self._columns.values())
+
+    def __getitem__(self, name: Union[str, int]) -> Column:
+        """Returns the column of a name, or at a place.
+
+        Raises KeyError where no column has the name, and IndexError where there is none at the place.
+        """
+        if isinstance(name, str):
+            return self._columns[name]
+        return list(self._columns.values())[name]
+
+    def __contains__(self, name: object) -> bool:
+        return name in self._columns
+
+    def to_dict(self) -> dict[str, list]:
+        """Returns the cells of each column as Python's own values."""
+        return {name: it.to_list() for name, it in self._columns.items()}
+
+    def to_numpy(self, decimals: str = "exact") -> dict[str, numpy.ndarray]:
+        """Returns an array for each column (`Column.to_numpy`)."""
+        return {name: it.to_numpy(decimals) for name, it in self._columns.items()}
+
+    def to_pandas(self, decimals: str = "exact", nullable: bool = False) -> "pandas.DataFrame":
+        """Returns a pandas data frame (`Column.to_pandas`)."""
+        import pandas
+
+        if not self._columns:
+            return pandas.DataFrame(index=range(self.height))
+        return pandas.DataFrame({name: it.to_pandas(decimals, nullable) for name, it in self._columns.items()}, copy=False)
+
+    def __arrow_c_array__(self, requested_schema: Any = None) -> tuple:
+        """Returns the frame as two capsules of Arrow's C data interface, an array of structs, for whoever reads that (pyarrow, polars,
+        duckdb). Whole numbers of 64 bits, times, decimals and texts are shown without a copy."""
+        from . import arrow
+
+        return arrow.capsules(self._owner)
+
+    def to_arrow(self) -> Any:
+        """Returns a record batch of pyarrow, by Arrow's C data interface. Raises ImportError without pyarrow."""
+        import pyarrow
+
+        return pyarrow.record_batch(self)
+
+    def write_csv(self, file: Any = None, **options: Any) -> Union[bytes, None]:
+        """Writes the frame as CSV: see `pl_csv.write_csv`."""
+        from .writing import write_csv
+
+        return write_csv(self, file, **options)
+
+    def _written(self, options: WriteOptions) -> bytes:
+        """Returns the text of the frame."""
+        words, text, view = _library.Words(options.words()), _library.BytesView(), self._owner.view
+        _library.call("pl_csv_write", view.columns, view.width, words.texts, words.count, ctypes.byref(text))
+        return _library.taken_bytes(text)
+
+    def __repr__(self) -> str:
+        listed = ", ".join(f"{name}: {it.dtype}" for name, it in self._columns.items())
+        return f"Frame({self.height} rows; {listed})"

@@ -60,7 +60,7 @@ def main():
         print(f"{it.workload}, {os.path.getsize(path) / 1e6:.0f} MB\n\n| Processes | pl_csv.dask, s | dask, s | times as fast |\n|--:|--:|--:|--:|")
         for count in map(int, it.processes.split(",")):
             least = {}
-            with dask.distributed.LocalCluster(count, threads_per_worker=1, dashboard_address=None) as cluster:
+            with dask.distributed.LocalCluster(n_workers=count, threads_per_worker=1, dashboard_address=None) as cluster:
                 with dask.distributed.Client(cluster):
                     for _ in range(it.rounds):
                         for call in (ours, theirs):

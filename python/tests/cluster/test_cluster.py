@@ -125,13 +125,13 @@ class Processes(unittest.TestCase):
 
     def test_one_two_and_four(self):
         for count in (1, 2, 4):
-            with dask.distributed.LocalCluster(count, threads_per_worker=1, dashboard_address=None) as cluster:
+            with dask.distributed.LocalCluster(n_workers=count, threads_per_worker=1, dashboard_address=None) as cluster:
                 with dask.distributed.Client(cluster):
                     for size in (9973, 200_000):
                         same(pl_csv.dask.read_csv(self.path, blocksize=size).compute(), self.whole)
 
     def test_a_worker_is_killed(self):
-        with dask.distributed.LocalCluster(2, threads_per_worker=1, dashboard_address=None) as cluster:
+        with dask.distributed.LocalCluster(n_workers=2, threads_per_worker=1, dashboard_address=None) as cluster:
             with dask.distributed.Client(cluster) as client:
                 found = client.compute(pl_csv.dask.read_csv(self.path, blocksize=3000).map_partitions(slowly, meta=self.whole.head(0)))
                 time.sleep(1)

@@ -1,9 +1,10 @@
 #!/usr/bin/env python3
-"""terminal.py PROGRAM: what a person at a terminal sees of pl_csv, through a pseudo-terminal. Ends with status 1 where it is not as it should be.
+"""terminal.py PROGRAM [--longest]: what a person at a terminal sees of pl_csv, through a pseudo-terminal. Ends with status 1 where it is not as
+it should be.
 
 Each status and each refusal that words and inputs can bring about is driven twice: with a terminal as standard error, where the fault line and
-the sentence behind it are compared with the table below, and without one, where the fault line alone has to come, byte by byte. Not driven are
-status 6, which takes 64 GiB, and status 23, which no words ask for."""
+the sentence behind it are compared with the table below, and without one, where the fault line alone has to come, byte by byte. Status 6, which
+takes 64 GiB through a pipe, is driven with --longest: some minutes, and a C compiler for thin.c. Status 23 is not, as no words ask for it."""
 import os
 import pty
 import re
@@ -12,6 +13,7 @@ import subprocess
 import sys
 import tempfile
 import termios
+import threading
 import time
 
 WAITING = b"pl_csv waits for CSV on standard input, which Ctrl-D on an empty line ends; `pl_csv help` has its words\n"
@@ -278,6 +280,51 @@ def try_progress():
     compare("progress: not without a terminal", plain.stderr, b"")
 
 
+def try_progress_of_files(folder):
+    """A slow file of `multi`: its path stands in the line."""
+    path = f"{folder}/slow.csv"
+    os.mkfifo(path)
+    terminal, other = open_terminal()
+    process = subprocess.Popen([program, "multi", "--schema", "a:int64", "--", path], stdout=subprocess.PIPE, stderr=other)
+    os.close(other)
+    with open(path, "wb", buffering=0) as mine:
+        for _ in range(30):
+            mine.write(b"1\n" * 500)
+            time.sleep(0.05)
+    out = process.communicate()[0]
+    parts = read_left(terminal).split(WIPE)
+    os.close(terminal)
+    compare("progress of files: the output", (process.returncode, len(out)), (0, 2 + 2 * 500 * 30 - 2))
+    compare("progress of files: the last part", parts[-1], b"")
+    told = re.compile(rb"\d+ MB, \d+ lines, \d+ MB/s.*slow\.csv.*")
+    compare("progress of files: lines", all(told.fullmatch(it) for it in parts[:-1]) and 2 <= len(parts) <= 7, True)
+
+
+def try_longest(folder):
+    """One byte more than an input may have, in the memory of a machine that has less (longest.py)."""
+    thin = f"{folder}/thin.so"
+    here = os.path.dirname(os.path.realpath(__file__))
+    subprocess.run(["cc", "-O2", "-shared", "-fPIC", "-o", thin, f"{here}/thin.c", "-lpthread"], check=True)
+    terminal, other = open_terminal()
+    words = [program, "--eol", "x00", "--schema", "n:int64,t:string", "--no-header", "--workers", "1"]
+    settings = {"LD_PRELOAD": thin, "TERM": "dumb"}
+    process = subprocess.Popen(words, stdin=subprocess.PIPE, stdout=subprocess.PIPE, stderr=other, env=settings)
+    os.close(other)
+    seen = []
+    reading = threading.Thread(target=lambda: seen.append(read_left(terminal)))
+    reading.start()
+    block, left = bytes(1 << 20), 2**36 + 1
+    while left:
+        left -= os.write(process.stdin.fileno(), block[:left])
+    process.stdin.close()
+    out = process.stdout.read()
+    compare("longest: status and output", (process.wait(), out), (6, b""))
+    reading.join()
+    os.close(terminal)
+    wanted = b"too long\nThe input has more than 64 GiB. Cut it into files, and read them by `pl_csv multi`.\n"
+    compare("longest: what is told", seen[0].split(WIPE)[-1], wanted)
+
+
 # words, whether standard input and standard error are terminals, and what comes of it
 TYPED = [
     ([], True, True, (0, CSV, WAITING)),
@@ -301,6 +348,9 @@ def main():
         try_devices(paths)
         try_colours(paths)
         try_bytes(folder)
+        try_progress_of_files(folder)
+        if sys.argv[2:] == ["--longest"]:
+            try_longest(folder)
     try_progress()
     print(f"{runs} comparisons, {wrong} wrong")
     sys.exit(wrong > 0)

@@ -7,7 +7,8 @@
    - Nobody writes an input while a call reads it. An output lies outside the inputs and outside the other outputs.
    - A bool is 0 or 1.
    - A handle is freed once, by the call for it, after the last look at what it holds; the views of a frame stand until then.
-   - The stack has some 64 KiB, and no call is made from a signal handler, or from a forked child of a process that has threads.
+   - The stack is that of a thread as the system makes it (8 MiB), and no call is made from a signal handler, or from a forked child of a
+     process that has threads.
 
    No call starts a thread, waits, or keeps anything for a later one. So calls can be made side by side, and one frame can be read by several
    threads. Memory is taken by malloc.

@@ -31,7 +31,8 @@ class OutOfMemoryError(CsvError, MemoryError):
 
 
 class InvalidOperationError(CsvError, ValueError):
-    """The arguments don't go together: separator, quote and line end, the number of lines to skip, or the types that are given."""
+    """The arguments don't go together: separator, quote and line end, the number of lines to skip, the types that are given, or arrays that are
+    to be written. Or the text of a schema is needed, and a name has a comma or a colon."""
 
 
 class NoDataError(CsvError):
@@ -96,7 +97,10 @@ _SENTENCES = {
     5: ("There is not memory enough", "Read the file in parts, by scan_csv"),
     6: ("The input has more than 64 GiB", "Read it in parts, by scan_csv"),
     11: ("Separator, quote, line end and comment prefix do not go together", "Each is an ASCII byte of its own"),
-    12: ("Lines and rows are both skipped, or arrays do not fit together", "Give skip_lines or skip_rows alone, and arrays of one length"),
+    12: (
+        "Lines and rows are both skipped, arrays do not fit together, or a name has a comma or a colon where a schema is told as a text",
+        "Give skip_lines or skip_rows alone, and arrays of one length; read_csv takes any name",
+    ),
     13: ("The quote of the output is not ASCII", "Give another quote_char"),
     14: ("The input is compressed", "Decompress it first"),
     15: ("The input has no first record, so it has no names of columns", "Give a schema; raise_if_empty=False takes it as one without columns"),

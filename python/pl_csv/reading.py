@@ -65,7 +65,7 @@ def read_with(data: numpy.ndarray, options: ReadOptions) -> Frame:
 def read_csv_schema(source: Source, **options: Any) -> dict[str, str]:
     """Returns the columns that `read_csv` would read by: a type's word by each name, in order. The arguments are those of `read_csv`.
 
-    Raises what `read_csv` does, but no fault of a record; and `ArgumentError` where a name holds a comma or a colon, which the text of a
+    Raises what `read_csv` does, but no fault of a record; and `InvalidOperationError` where a name holds a comma or a colon, which the text of a
     schema can't tell.
     """
     return schema_of(schema_in(bytes_of(source), ReadOptions(**options)))

@@ -93,6 +93,6 @@ def scan_csv(path: Union[str, "os.PathLike[str]"], *, part_size: int = 8 << 20, 
     part_size: about how many bytes a part has. A record longer than that is one part.
     options: those of `read_csv`, but row_index_name and n_rows.
 
-    Raises what `read_csv` does of the head of the file, and `ArgumentError` where a name holds a comma or a colon.
+    Raises what `read_csv` does of the head of the file, and `InvalidOperationError` where a name holds a comma or a colon.
     """
     return Scan(path, part_size, ReadOptions(**options))

@@ -140,7 +140,7 @@ class Sentences(unittest.TestCase):
         self.assertEqual(
             own - told,
             {
-                "Lines and rows are both skipped, or arrays do not fit together",
+                "Lines and rows are both skipped, arrays do not fit together, or a name has a comma or a colon where a schema is told as a text",
                 "More types are given than there are columns",
                 "columns asks for a place behind the last column",
             },
@@ -207,6 +207,12 @@ class Parts(unittest.TestCase):
         self.path.write_bytes(b"a,b\n" + b"1," + b"x" * (3 << 20) + b"\n" + b"2,y\n" * 300 + b"z,y\n")
         scan = pl_csv.scan_csv(self.path, part_size=1 << 20, infer_schema_length=250)
         self.assertEqual(scan.schema, {"a": "int64", "b": "string"})
+
+    def test_a_name_that_no_schema_tells(self):
+        self.path.write_bytes(b"a:b,c\n1,2\n")
+        self.assertEqual(pl_csv.read_csv(self.path).columns, ["a:b", "c"])
+        with self.assertRaises(errors.InvalidOperationError):
+            pl_csv.scan_csv(self.path)
 
     def test_a_changed_file_is_refused(self):
         self.path.write_bytes(split(400))

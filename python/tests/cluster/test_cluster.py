@@ -136,6 +136,7 @@ class Processes(unittest.TestCase):
                 found = client.compute(pl_csv.dask.read_csv(self.path, blocksize=3000).map_partitions(slowly, meta=self.whole.head(0)))
                 time.sleep(1)
                 victim = next(iter(cluster.workers.values()))
+                self.assertFalse(found.done())
                 os.kill(victim.pid, signal.SIGKILL)
                 same(found.result(), self.whole)
 

@@ -1,6 +1,8 @@
 /* libpl_csv: CSV into frames of arrays, and arrays into CSV.
 
-   The calls are proved to keep what is said here of them; the clauses stand in crates/pl_csv_c. What a caller has to keep, nothing proves:
+   The calls are proved; the clauses stand in crates/pl_csv_c. They tell the status, the fault line, that outputs stay as they were, the shape of a
+   frame and the length of bytes. What stands in the arrays and the bytes is proved of the functions that make them; that a pointer shows it is
+   only tested. What a caller has to keep, nothing proves:
 
    - No pointer is null, also where the length beside it is 0. Each length is that of memory that can be read, or, of an output, written, and
      is below 2^63 bytes.

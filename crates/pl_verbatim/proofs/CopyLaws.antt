@@ -29,7 +29,7 @@ use Rattle.pl_verbatim.proofs.NumberLaws.{slice-cons, slice-parts}
 -- ---- what is written of a cell
 
 -- it is read as the cell
-cell-read : (o : WriteOptions) (type : DataType) (field : List ℕ) → FitsOptions o → written_null o ≡ [] → is_readable type ≡ true → (here : IsCellOf o type field)
+pub cell-read : (o : WriteOptions) (type : DataType) (field : List ℕ) → FitsOptions o → written_null o ≡ [] → is_readable type ≡ true → (here : IsCellOf o type field)
     → (reading : Reading) (column : ℕ) → reading.missing_is_null ≡ true → cell reading (means_null None column) (Some o.quote) type field ≡ Ok here.value
 cell-read o type field fits null can here reading column missing =
     ap (λ n. cell reading (means_null n column) (Some o.quote) type field) (sym (ap nulls_of null))
@@ -37,7 +37,7 @@ cell-read o type field fits null can here reading column missing =
     ∙ cell-returns o reading column type here.value [] fits can here.fits missing (inl refl)
 
 -- and it is the text of a field
-cell-field : (o : WriteOptions) (type : DataType) (field : List ℕ) → FitsOptions o → is_readable type ≡ true → IsCellOf o type field → IsFieldText (line_marks o) field
+pub cell-field : (o : WriteOptions) (type : DataType) (field : List ℕ) → FitsOptions o → is_readable type ≡ true → IsCellOf o type field → IsFieldText (line_marks o) field
 cell-field o type field fits can here =
     subst (IsFieldText (line_marks o)) (append-nil (written_cell o type here.value) ∙ sym here.text_is)
     (written-field o (written_cell o type here.value) [] fits (written-cell o type here.value fits can here.fits) (inl refl))
@@ -71,7 +71,7 @@ always-written o type (Number n) = refl
 always-written o type (Truth b) = refl
 
 -- so it is read as the value, where no text means null
-quoted-read : (o : WriteOptions) (type : DataType) (value : Scalar) → FitsOptions o → is_readable type ≡ true → FitsValue o type value
+pub quoted-read : (o : WriteOptions) (type : DataType) (value : Scalar) → FitsOptions o → is_readable type ≡ true → FitsValue o type value
     → (reading : Reading) (column : ℕ) → cell reading (means_null None column) (Some o.quote) type (quoted o.quote (printed type value)) ≡ Ok (Some value)
 quoted-read o type value fits can held reading column =
     ap (cell reading (means_null None column) (Some o.quote) type) (always-written o type value)
@@ -160,7 +160,7 @@ other-inner : (separator quote : ℕ) (own : Kind) (text : List ℕ) → ((type 
 other-inner separator quote own text other some cells o type fits options can holds =
     subst (λ q. IsCopyOf o type (q ∷ (text ++ q ∷ [])) text) options.quote_is (cell-inner o separator quote type text fits options can (other type holds) some (cells o type options holds))
 
-whole-other : (type : DataType) → is_whole_number type ≡ true → is_text type ≡ false
+pub whole-other : (type : DataType) → is_whole_number type ≡ true → is_text type ≡ false
 whole-other dtype.String e = cc
 whole-other dtype.Categorical e = cc
 whole-other (dtype.Enum categories) e = cc
@@ -204,7 +204,7 @@ moment-inner separator quote own places text is w =
 -- ---- places
 
 -- a text between quotes
-quotes-at : (text : List ℕ) (at to quote : ℕ) → at + 1 ≤ to → to < length text → get_or text at 0 ≡ quote → get_or text to 0 ≡ quote
+pub quotes-at : (text : List ℕ) (at to quote : ℕ) → at + 1 ≤ to → to < length text → get_or text at 0 ≡ quote → get_or text to 0 ≡ quote
     → slice_range text at (to + 1) ≡ quote ∷ (slice_range text (at + 1) to ++ quote ∷ [])
 quotes-at text at to quote low inside first last =
     let none : to + 1 - (to + 1) ≡ 0 = omega arith in

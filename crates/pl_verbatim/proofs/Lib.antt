@@ -11,9 +11,14 @@ mod WholeLaws
 mod DecimalLaws
 mod DateLaws
 mod TextInnerLaws
+mod QuotedLaws
+mod FrontKeptLaws
 mod TextLaws
 mod FrontLaws
 mod CopyLaws
+mod RowStepLaws
 mod RowCopyLaws
 mod MomentTextLaws
 mod MomentCellLaws
+mod ChangeLaws
+mod RowChangeLaws

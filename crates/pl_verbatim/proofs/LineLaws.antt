@@ -37,11 +37,12 @@ use Rattle.pl_rows.proofs.RangeLaws.{rows-step}
 use Rattle.pl_write.specs.Batches.{all_lines}
 use Rattle.pl_round_trip.specs.Fits.{FitsOptions}
 use Rattle.pl_round_trip.specs.RoundTrip.{IsFieldText, RowsReturn, line_marks, line_of}
-use Rattle.pl_verbatim.specs.CellTexts.{IsCopyOf}
+use Rattle.pl_verbatim.specs.CellTexts.{IsChangeOf}
+use Rattle.pl_verbatim.specs.Changes.{AreChangesOf, IsLineChangeOf}
 use Rattle.pl_verbatim.specs.Kinds.{AreReadable}
 use Rattle.pl_verbatim.specs.PrintedTexts.{CanPrint, IsTextPrinted}
 use Rattle.pl_verbatim.proofs.CopyLaws.{cell-copy}
-use Rattle.pl_verbatim.specs.Verbatim.{AreCellsOf, AreCopiesOf, IsLineOf, IsLineCopyOf, IsWrittenAsRead}
+use Rattle.pl_verbatim.specs.Verbatim.{AreCellsOf, AreCopiesOf, IsLineOf, IsLineCopyOf, IsReadSo, IsWrittenAsRead}
 
 -- no fault for fields past the columns
 none-past : (p q : Bool) (found : ℕ × FaultKind) → cond (not p && (false && q)) (Some found) None ≡ None
@@ -100,59 +101,59 @@ are-readable schema places all none =
 -- ---- fields
 
 -- there is one for each column
-pub count-fields : (o : WriteOptions) (schema : List Entry) (texts written : List (List ℕ)) → AreCopiesOf o schema texts written → length texts ≡ length schema
-count-fields o [] [] [] are = refl
-count-fields o [] [] (one ∷ others) are = absurd are
-count-fields o [] (text ∷ texts) written are = absurd are
-count-fields o (entry ∷ schema) [] written are = absurd are
-count-fields o (entry ∷ schema) (text ∷ texts) [] are = absurd are
-count-fields o (entry ∷ schema) (text ∷ texts) (one ∷ others) are = omega (arith, count-fields o schema texts others are.1)
+pub count-fields : (r o : WriteOptions) (schema : List Entry) (texts written : List (List ℕ)) → AreChangesOf r o schema texts written → length texts ≡ length schema
+count-fields r o [] [] [] are = refl
+count-fields r o [] [] (one ∷ others) are = absurd are
+count-fields r o [] (text ∷ texts) written are = absurd are
+count-fields r o (entry ∷ schema) [] written are = absurd are
+count-fields r o (entry ∷ schema) (text ∷ texts) [] are = absurd are
+count-fields r o (entry ∷ schema) (text ∷ texts) (one ∷ others) are = omega (arith, count-fields r o schema texts others are.1)
 
 -- each stands in a line
-pub field-texts : (o : WriteOptions) (schema : List Entry) (texts written : List (List ℕ)) → AreCopiesOf o schema texts written → AllByRecursion (IsFieldText (line_marks o)) texts
-field-texts o [] [] [] are = tt
-field-texts o [] [] (one ∷ others) are = absurd are
-field-texts o [] (text ∷ texts) written are = absurd are
-field-texts o (entry ∷ schema) [] written are = absurd are
-field-texts o (entry ∷ schema) (text ∷ texts) [] are = absurd are
-field-texts o (entry ∷ schema) (text ∷ texts) (one ∷ others) are = (are.0.field_text, field-texts o schema texts others are.1)
+pub field-texts : (r o : WriteOptions) (schema : List Entry) (texts written : List (List ℕ)) → AreChangesOf r o schema texts written → AllByRecursion (IsFieldText (line_marks r)) texts
+field-texts r o [] [] [] are = tt
+field-texts r o [] [] (one ∷ others) are = absurd are
+field-texts r o [] (text ∷ texts) written are = absurd are
+field-texts r o (entry ∷ schema) [] written are = absurd are
+field-texts r o (entry ∷ schema) (text ∷ texts) [] are = absurd are
+field-texts r o (entry ∷ schema) (text ∷ texts) (one ∷ others) are = (are.0.field_text, field-texts r o schema texts others are.1)
 
 -- the columns of one row with their cells
-abbrev pub cell_columns : (o : WriteOptions) (schema : List Entry) (texts written : List (List ℕ)) → AreCopiesOf o schema texts written → List ColumnValue
-cell_columns o (entry ∷ schema) (text ∷ texts) (one ∷ others) are = record { name = entry.0; dtype = entry.1; values = are.0.value ∷ [] } ∷ cell_columns o schema texts others are.1
-cell_columns o schema texts written are = []
+abbrev pub cell_columns : (r o : WriteOptions) (schema : List Entry) (texts written : List (List ℕ)) → AreChangesOf r o schema texts written → List ColumnValue
+cell_columns r o (entry ∷ schema) (text ∷ texts) (one ∷ others) are = record { name = entry.0; dtype = entry.1; values = are.0.value ∷ [] } ∷ cell_columns r o schema texts others are.1
+cell_columns r o schema texts written are = []
 
 -- what is written of them
-pub written-columns : (o : WriteOptions) (schema : List Entry) (texts written : List (List ℕ)) (are : AreCopiesOf o schema texts written)
-    → map (λ column. written_cell o column.dtype (cell_at column 0)) (cell_columns o schema texts written are) ≡ written
-written-columns o [] [] [] are = refl
-written-columns o [] [] (one ∷ others) are = absurd are
-written-columns o [] (text ∷ texts) written are = absurd are
-written-columns o (entry ∷ schema) [] written are = absurd are
-written-columns o (entry ∷ schema) (text ∷ texts) [] are = absurd are
-written-columns o (entry ∷ schema) (text ∷ texts) (one ∷ others) are = (λ j. sym are.0.written_is j ∷ written-columns o schema texts others are.1 j)
+pub written-columns : (r o : WriteOptions) (schema : List Entry) (texts written : List (List ℕ)) (are : AreChangesOf r o schema texts written)
+    → map (λ column. written_cell o column.dtype (cell_at column 0)) (cell_columns r o schema texts written are) ≡ written
+written-columns r o [] [] [] are = refl
+written-columns r o [] [] (one ∷ others) are = absurd are
+written-columns r o [] (text ∷ texts) written are = absurd are
+written-columns r o (entry ∷ schema) [] written are = absurd are
+written-columns r o (entry ∷ schema) (text ∷ texts) [] are = absurd are
+written-columns r o (entry ∷ schema) (text ∷ texts) (one ∷ others) are = (λ j. sym are.0.written_is j ∷ written-columns r o schema texts others are.1 j)
 
-one-high : (o : WriteOptions) (schema : List Entry) (texts written : List (List ℕ)) (are : AreCopiesOf o schema texts written) → 0 < length schema → height_of (cell_columns o schema texts written are) ≡ 1
-one-high o [] texts written are some = absurd (omega (arith, some))
-one-high o (entry ∷ schema) [] written are some = absurd are
-one-high o (entry ∷ schema) (text ∷ texts) [] are some = absurd are
-one-high o (entry ∷ schema) (text ∷ texts) (one ∷ others) are some = refl
+one-high : (r o : WriteOptions) (schema : List Entry) (texts written : List (List ℕ)) (are : AreChangesOf r o schema texts written) → 0 < length schema → height_of (cell_columns r o schema texts written are) ≡ 1
+one-high r o [] texts written are some = absurd (omega (arith, some))
+one-high r o (entry ∷ schema) [] written are some = absurd are
+one-high r o (entry ∷ schema) (text ∷ texts) [] are some = absurd are
+one-high r o (entry ∷ schema) (text ∷ texts) (one ∷ others) are some = refl
 
-module _ (plan : RangePlan) (schema : List Entry) (o : WriteOptions) (can : CanPrint plan schema) (given : IsWrittenAsRead plan schema o) (returns : RowsReturn) where
-  quote-is : plan.dialect.quote_char ≡ Some o.quote
+module _ (plan : RangePlan) (schema : List Entry) (r o : WriteOptions) (can : CanPrint plan schema) (given : IsReadSo plan schema r) (returns : RowsReturn) where
+  quote-is : plan.dialect.quote_char ≡ Some r.quote
   quote-is = ap (λ m. m.quote) given.marks
 
   no-comment : comment_of plan.dialect ≡ None
   no-comment = ap prefix_of given.comments
 
-  apart : AreDistinct (line_marks o)
+  apart : AreDistinct (line_marks r)
   apart = given.fits.dialect.distinct
 
   nulls-are : (rules_of plan).nulls ≡ None
   nulls-are = ap (option_map (λ nulls. nulls.now)) given.nulls
 
   -- the cell of a field
-  cell-is : (column : ℕ) (type : DataType) (text written : List ℕ) (here : IsCopyOf o type text written) → cell (rules_of plan) column type text ≡ Ok here.value
+  cell-is : (column : ℕ) (type : DataType) (text written : List ℕ) (here : IsChangeOf r o type text written) → cell (rules_of plan) column type text ≡ Ok here.value
   cell-is column type text written here =
       let reading = (rules_of plan).reading in
       ap (λ n. cells.cell reading (means_null n column) plan.dialect.quote_char type text) nulls-are
@@ -160,7 +161,7 @@ module _ (plan : RangePlan) (schema : List Entry) (o : WriteOptions) (can : CanP
       ∙ here.cell_is reading column given.missing
 
   -- cells without a fault, from a column on
-  no-faults : (all : List (List ℕ)) (a : ℕ) (rest : List Entry) (texts written : List (List ℕ)) → AreCopiesOf o rest texts written → ((k : ℕ) → field_in all (a + k) ≡ field_in texts k)
+  no-faults : (all : List (List ℕ)) (a : ℕ) (rest : List Entry) (texts written : List (List ℕ)) → AreChangesOf r o rest texts written → ((k : ℕ) → field_in all (a + k) ≡ field_in texts k)
       → filter_map (column_fault (rules_of plan) all) (spread (λ k entry. (k, entry.1)) a rest) ≡ []
   no-faults all a [] texts written are same = refl
   no-faults all a (entry ∷ rest) [] written are same = absurd are
@@ -173,8 +174,8 @@ module _ (plan : RangePlan) (schema : List Entry) (o : WriteOptions) (can : CanP
       rw sound later
 
   -- their columns
-  columns-are : (all : List (List ℕ)) (a : ℕ) (rest : List Entry) (texts written : List (List ℕ)) (are : AreCopiesOf o rest texts written) → ((k : ℕ) → field_in all (a + k) ≡ field_in texts k)
-      → map (read_column (rules_of plan) (ended_row all ∷ [])) (spread (λ k entry. (k, entry)) a rest) ≡ cell_columns o rest texts written are
+  columns-are : (all : List (List ℕ)) (a : ℕ) (rest : List Entry) (texts written : List (List ℕ)) (are : AreChangesOf r o rest texts written) → ((k : ℕ) → field_in all (a + k) ≡ field_in texts k)
+      → map (read_column (rules_of plan) (ended_row all ∷ [])) (spread (λ k entry. (k, entry)) a rest) ≡ cell_columns r o rest texts written are
   columns-are all a [] texts written are same = refl
   columns-are all a (entry ∷ rest) [] written are same = absurd are
   columns-are all a (entry ∷ rest) (text ∷ texts) [] are same = absurd are
@@ -185,48 +186,48 @@ module _ (plan : RangePlan) (schema : List Entry) (o : WriteOptions) (can : CanP
       let later = columns-are all (a + 1) rest texts others are.1 (λ k. ap (field_in all) (let next : a + 1 + k ≡ a + suc k = omega arith in next) ∙ same (suc k)) in
       (λ j. record { name = entry.0; dtype = entry.1; values = value j ∷ [] } ∷ later j)
 
-  module _ (line copy : List ℕ) (is : IsLineCopyOf o schema line copy) where
+  module _ (line copy : List ℕ) (is : IsLineChangeOf r o schema line copy) where
     abbrev texts : List (List ℕ)
     texts = is.fields
 
     count : length texts ≡ length schema
-    count = count-fields o schema texts is.written is.copies
+    count = count-fields r o schema texts is.written is.changes
 
     some : 0 < length texts
     some = omega (arith, count, given.some)
 
-    are-fields : AllByRecursion (IsFieldText (line_marks o)) texts
-    are-fields = field-texts o schema texts is.written is.copies
+    are-fields : AllByRecursion (IsFieldText (line_marks r)) texts
+    are-fields = field-texts r o schema texts is.written is.changes
 
-    one-row : rows (line_marks o) None line ≡ ended_row texts ∷ []
+    one-row : rows (line_marks r) None line ≡ ended_row texts ∷ []
     one-row =
-        ap (rows (line_marks o) None) (is.line_is ∙ sym (append-nil (line_of (line_marks o) texts)))
-        ∙ returns (line_marks o) (texts ∷ []) apart ((some, are-fields), tt)
+        ap (rows (line_marks r) None) (is.line_is ∙ sym (append-nil (line_of (line_marks r) texts)))
+        ∙ returns (line_marks r) (texts ∷ []) apart ((some, are-fields), tt)
 
     its-row : rows (marks_of plan.dialect) (comment_of plan.dialect) line ≡ ended_row texts ∷ []
-    its-row = ap (λ m. rows m (comment_of plan.dialect) line) given.marks ∙ ap (λ c. rows (line_marks o) c line) no-comment ∙ one-row
+    its-row = ap (λ m. rows m (comment_of plan.dialect) line) given.marks ∙ ap (λ c. rows (line_marks r) c line) no-comment ∙ one-row
 
     -- the row that is read at the front is this one
-    first-row : row_at (line_marks o) line ≡ ended_row texts
+    first-row : row_at (line_marks r) line ≡ ended_row texts
     first-row =
-        let long : 0 < length line = omega (arith, ap length is.line_is, length-append (join_with_byte o.separator texts) (10 ∷ [])) in
-        let step = rows-step (line_marks o) None line apart long refl in
+        let long : 0 < length line = omega (arith, ap length is.line_is, length-append (join_with_byte r.separator texts) (10 ∷ [])) in
+        let step = rows-step (line_marks r) None line apart long refl in
         first-of (sym step ∙ one-row)
 
-    not-open : have_open_end (line_marks o) texts ≡ false
+    not-open : have_open_end (line_marks r) texts ≡ false
     not-open =
-        let m = line_marks o in
+        let m = line_marks r in
         let left : (length (drop (extent m line) line) == 0) ≡ false = ap (λ (row : Row). row.is_end) first-row in
         behind (drop (extent m line) line) refl left
       where
-        behind : (rest : List ℕ) → drop (extent (line_marks o) line) line ≡ rest → (length rest == 0) ≡ false → have_open_end (line_marks o) texts ≡ false
+        behind : (rest : List ℕ) → drop (extent (line_marks r) line) line ≡ rest → (length rest == 0) ≡ false → have_open_end (line_marks r) texts ≡ false
         behind [] left some = absurd (cc)
-        behind (x ∷ rest) left some = ap (λ (row : Row). have_open_end (line_marks o) row.fields) (sym first-row) ∙ have_open_end-closed (line_marks o) line x rest apart left
+        behind (x ∷ rest) left some = ap (λ (row : Row). have_open_end (line_marks r) row.fields) (sym first-row) ∙ have_open_end-closed (line_marks r) line x rest apart left
 
     closed : ends_open (marks_of plan.dialect) (comment_of plan.dialect) line ≡ false
     closed =
-        ap (λ m. ends_open m (comment_of plan.dialect) line) given.marks ∙ ap (λ c. ends_open (line_marks o) c line) no-comment
-        ∙ open_rows (line_marks o) None line apart ∙ ap (list_any (is_open_row (line_marks o))) one-row ∙ ap (λ t. t || false) not-open
+        ap (λ m. ends_open m (comment_of plan.dialect) line) given.marks ∙ ap (λ c. ends_open (line_marks r) c line) no-comment
+        ∙ open_rows (line_marks r) None line apart ∙ ap (list_any (is_open_row (line_marks r))) one-row ∙ ap (λ t. t || false) not-open
 
     last-is : (first : Option ℕ) (b : List ℕ) → last_or first (b ++ 10 ∷ []) ≡ Some 10
     last-is first [] = refl
@@ -235,7 +236,7 @@ module _ (plan : RangePlan) (schema : List Entry) (o : WriteOptions) (can : CanP
     ended : IsEnded plan.dialect.eol_char line
     ended =
         let eol : plan.dialect.eol_char ≡ 10 = ap (λ m. m.line_end) given.marks in
-        ap (last_or (Some plan.dialect.eol_char)) is.line_is ∙ last-is (Some plan.dialect.eol_char) (join_with_byte o.separator texts) ∙ ap (λ e. Some e) (sym eol)
+        ap (last_or (Some plan.dialect.eol_char)) is.line_is ∙ last-is (Some plan.dialect.eol_char) (join_with_byte r.separator texts) ∙ ap (λ e. Some e) (sym eol)
 
     ends : EndsItem plan.dialect line
     ends = record { ended = ended; closed = closed }
@@ -248,7 +249,7 @@ module _ (plan : RangePlan) (schema : List Entry) (o : WriteOptions) (can : CanP
 
     no-fault : first_fault (rules_of plan) (columns_in schema plan.projection.places.now) (ended_row texts) ≡ None
     no-fault =
-        let none = ap (filter_map (column_fault (rules_of plan) texts)) typed ∙ no-faults texts 0 schema texts is.written is.copies (λ k. ap (field_in texts) (let same : 0 + k ≡ k = omega arith in same)) in
+        let none = ap (filter_map (column_fault (rules_of plan) texts)) typed ∙ no-faults texts 0 schema texts is.written is.changes (λ k. ap (field_in texts) (let same : 0 + k ≡ k = omega arith in same)) in
         rw (none, no-excess) (none-past (passes_excess (rules_of plan) (columns_in schema plan.projection.places.now)) (is_forgiven (length schema) (ended_row texts)) (length schema, fault.Fields))
 
     sound : IsSoundText plan schema line
@@ -257,23 +258,36 @@ module _ (plan : RangePlan) (schema : List Entry) (o : WriteOptions) (can : CanP
       sound = subst (AllByRecursion (λ row. first_fault (rules_of plan) (columns_in schema plan.projection.places.now) row ≡ None)) (sym its-row) (no-fault, tt);
     }
 
-    frame : text_frame plan schema line ≡ cell_columns o schema texts is.written is.copies
+    frame : text_frame plan schema line ≡ cell_columns r o schema texts is.written is.changes
     frame =
         ap (frame_of_rows (rules_of plan) (entries_in schema plan.projection.places.now)) its-row
         ∙ ap (map (read_column (rules_of plan) (ended_row texts ∷ []))) (spread-is (λ k entry. (k, entry)) schema plan.projection.places.now given.places)
-        ∙ columns-are texts 0 schema texts is.written is.copies (λ k. ap (field_in texts) (let same : 0 + k ≡ k = omega arith in same))
+        ∙ columns-are texts 0 schema texts is.written is.changes (λ k. ap (field_in texts) (let same : 0 + k ≡ k = omega arith in same))
 
     lines : all_lines o (text_frame plan schema line) ≡ copy
     lines =
-        let columns = cell_columns o schema texts is.written is.copies in
+        let columns = cell_columns r o schema texts is.written is.changes in
         ap (all_lines o) frame
-        ∙ ap (λ n. flat_map (row_line o columns) (range_with_len 0 n)) (one-high o schema texts is.written is.copies given.some)
+        ∙ ap (λ n. flat_map (row_line o columns) (range_with_len 0 n)) (one-high r o schema texts is.written is.changes given.some)
         ∙ append-nil (row_line o columns 0)
-        ∙ (λ j. join_with_byte o.separator (written-columns o schema texts is.written is.copies j) ++ given.terminator j)
+        ∙ ap (λ l. join_with_byte o.separator l ++ o.terminator) (written-columns r o schema texts is.written is.changes)
         ∙ sym is.copy_is
 
-    pub copy-printed : IsTextPrinted plan schema o line 1 copy
-    copy-printed = record { sound = sound; count_is = sym (ap length its-row); lines_are = sym lines }
+    pub change-printed : IsTextPrinted plan schema o line 1 copy
+    change-printed = record { sound = sound; count_is = sym (ap length its-row); lines_are = sym lines }
+
+-- ---- a line that is copied
+
+pub copy-printed : (plan : RangePlan) (schema : List Entry) (o : WriteOptions) → CanPrint plan schema → IsWrittenAsRead plan schema o → RowsReturn → (line copy : List ℕ) → IsLineCopyOf o schema line copy
+    → IsTextPrinted plan schema o line 1 copy
+copy-printed plan schema o can given returns line copy is =
+    change-printed plan schema o o can given.read returns line copy (record {
+      fields = is.fields;
+      written = is.written;
+      changes = is.copies;
+      line_is = is.line_is;
+      copy_is = is.copy_is ∙ ap (λ l. join_with_byte o.separator is.written ++ l) (sym given.terminator);
+    })
 
 -- ---- a line that is written as it was read
 
@@ -291,7 +305,7 @@ line-printed plan schema o can given returns line is =
     copy-printed plan schema o can given returns line line (record {
       fields = is.fields;
       written = is.fields;
-      copies = written-copies o schema is.fields given.fits (nothing-written o given.style given.null) (are-readable schema plan.projection.places.now given.places can.readable) is.cells;
+      copies = written-copies o schema is.fields given.read.fits (nothing-written o given.style given.null) (are-readable schema plan.projection.places.now given.read.places can.readable) is.cells;
       line_is = is.line_is;
       copy_is = is.line_is;
     })

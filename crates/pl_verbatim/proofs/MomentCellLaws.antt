@@ -35,7 +35,7 @@ use Rattle.pl_round_trip.proofs.WrittenLaws.{written-field}
 use Rattle.pl_round_trip.proofs.MomentLaws.{second, rest}
 use Rattle.pl_verbatim.specs.declared.kinds.Kind.{Kind}
 use Rattle.pl_verbatim.specs.declared.kinds.Kind.TheVariants as kind
-use Rattle.pl_verbatim.specs.CellTexts.{IsSecondsText, IsMomentText, IsCellOptions, IsCellOf, IsCopyOf, zeros_text}
+use Rattle.pl_verbatim.specs.CellTexts.{IsSecondsText, IsMomentText, IsCellOptions, IsCellOf, IsChangeOf, IsCopyOf, zeros_text}
 use Rattle.pl_verbatim.specs.Kinds.{HoldsMoments, IsKindOf}
 use Rattle.pl_verbatim.proofs.CellLaws.{IsCellOfKind, value-fits}
 use Rattle.pl_verbatim.proofs.DateLaws.{padded-one}
@@ -229,9 +229,9 @@ plain-cell reading column q unit text value h some quote return =
     ∙ softened-ok reading.ignore_errors (Some value)
 
 -- A datetime without a fraction is read as the one whose fraction is zero, and written with it.
-pub seconds-copy : (o : WriteOptions) (separator quote places : ℕ) (type : DataType) (text : List ℕ) → FitsOptions o → IsCellOptions o separator quote → HoldsMoments places type → IsSecondsText text
-    → IsCopyOf o type text (text ++ zeros_text places)
-seconds-copy o separator quote places type text fits is holds w =
+pub seconds-change : (r o : WriteOptions) (places : ℕ) (type : DataType) (text : List ℕ) → FitsOptions r → HoldsMoments places type → IsSecondsText text
+    → IsChangeOf r o type text (written_value o false (text ++ zeros_text places))
+seconds-change r o places type text fits holds w =
     let u = units_in_second holds.unit in
     let own = dtype.Datetime holds.unit in
     let n = count u w.day w.second 0 in
@@ -243,16 +243,33 @@ seconds-copy o separator quote places type text fits is holds w =
     let printed-is = seconds-printed holds.unit w.day w.second w.few in
     let plain : are_plain plain_text ≡ true =
     front-plain plain_text zeros (ap are_plain (sym printed-is) ∙ (printed-plain own (Number n) refl (record { can = refl; held = within; counted = counted })).1) in
-    let special = plain-bare o plain_text fits plain in
-    let field : IsFieldText (line_marks o) plain_text = subst (IsFieldText (line_marks o)) (append-nil plain_text) (written-field o plain_text [] fits (inr special) (inl refl)) in
-    let copy : IsCopyOf o own plain_text (plain_text ++ zeros) = record {
+    let special = plain-bare r plain_text fits plain in
+    let field : IsFieldText (line_marks r) plain_text = subst (IsFieldText (line_marks r)) (append-nil plain_text) (written-field r plain_text [] fits (inr special) (inl refl)) in
+    let change : IsChangeOf r o own plain_text (written_value o false (plain_text ++ zeros)) = record {
       value = Some (Number n);
-      cell_is = λ reading column missing. plain-cell reading column o.quote holds.unit plain_text (Number n) value (some_text own plain_text (Number n) refl value) (lacks-plain o.quote plain_text fits.quote plain) (lacks-plain 13 plain_text refl plain);
+      cell_is = λ reading column missing. plain-cell reading column r.quote holds.unit plain_text (Number n) value (some_text own plain_text (Number n) refl value) (lacks-plain r.quote plain_text fits.quote plain) (lacks-plain 13 plain_text refl plain);
       field_text = field;
-      written_is = sym (bare o (datetime_text holds.unit n) is.style_is ∙ printed-is);
+      written_is = ap (written_value o false) (sym printed-is);
     } in
-    subst (λ t. IsCopyOf o t text (text ++ zeros_text places)) (sym holds.type_is)
-    (subst (λ (k : ℕ). IsCopyOf o own text (text ++ zeros_text k)) (sym holds.places_is) (subst (λ (l : List ℕ). IsCopyOf o own l (l ++ zeros)) (sym w.text_is) copy))
+    subst (λ t. IsChangeOf r o t text (written_value o false (text ++ zeros_text places))) (sym holds.type_is)
+    (subst (λ (k : ℕ). IsChangeOf r o own text (written_value o false (text ++ zeros_text k))) (sym holds.places_is)
+    (subst (λ (l : List ℕ). IsChangeOf r o own l (written_value o false (l ++ zeros))) (sym w.text_is) change))
+
+-- all that is written of it is plain
+pub seconds-plain : (places : ℕ) (type : DataType) (text : List ℕ) → HoldsMoments places type → IsSecondsText text → are_plain (text ++ zeros_text places) ≡ true
+seconds-plain places type text holds w =
+    let own = dtype.Datetime holds.unit in
+    let n = count (units_in_second holds.unit) w.day w.second 0 in
+    let within = count-within holds.unit w.day w.second 0 w.within w.few (some-units holds.unit) in
+    let counted = count-fits holds.unit n holds.fits within in
+    (λ j. are_plain (w.text_is j ++ zeros_text (holds.places_is j)))
+    ∙ ap are_plain (sym (seconds-printed holds.unit w.day w.second w.few))
+    ∙ (printed-plain own (Number n) refl (record { can = refl; held = within; counted = counted })).1
+
+seconds-copy : (o : WriteOptions) (separator quote places : ℕ) (type : DataType) (text : List ℕ) → FitsOptions o → IsCellOptions o separator quote → HoldsMoments places type → IsSecondsText text
+    → IsCopyOf o type text (text ++ zeros_text places)
+seconds-copy o separator quote places type text fits is holds w =
+    subst (IsCopyOf o type text) (bare o (text ++ zeros_text places) is.style_is) (seconds-change o o places type text fits holds w)
 
 pub seconds-kind : (separator quote : ℕ) (own : Kind) (places : ℕ) (text : List ℕ) → own ≡ kind.Datetime places → IsSecondsText text → (o : WriteOptions) (type : DataType) → FitsOptions o → IsCellOptions o separator quote
     → IsKindOf type own → IsCopyOf o type text (text ++ zeros_text places)

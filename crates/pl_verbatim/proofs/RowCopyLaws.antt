@@ -3,7 +3,6 @@ use Rattle.std.proofs.Common.{◌≡◌, ℕ, zero, suc, ◌+◌, ◌-◌, ◌<�
 use Rattle.std.specs.Prelude.{slice_index, slice_range}
 use Rattle.std.specs.Bool.{OnTrue}
 use Rattle.std.specs.List.{join_with_byte}
-use Rattle.std.proofs.lemmas.List.{drop_all}
 use Rattle.pl_frame.specs.Schema.{Entry}
 use Rattle.pl_text.specs.FrameText.{WriteOptions}
 use Rattle.pl_round_trip.specs.Fits.{FitsOptions}
@@ -14,22 +13,17 @@ use Rattle.pl_verbatim.specs.Verbatim.{AreCopiesOf, HasGrown, IsCellCopied, IsLi
 use Rattle.pl_verbatim.proofs.CellLaws.{IsCellOfKind}
 use Rattle.pl_verbatim.proofs.CopyLaws.{IsCopyOfKind, cell-kind_copy}
 use Rattle.pl_verbatim.proofs.NumberLaws.{slice-parts}
-use Rattle.pl_verbatim.proofs.RowLaws.{cut, nothing, from}
+use Rattle.pl_verbatim.proofs.RowLaws.{cut, nothing}
+use Rattle.pl_verbatim.proofs.RowStepLaws.{AreLinesBefore, line-step, line-last}
 
 -- a text is what is written of a line, for each schema of the kinds
 abbrev pub IsLineCopyOfKinds : ℕ → ℕ → List Kind → List ℕ → List ℕ → Type 0
 IsLineCopyOfKinds separator quote kinds line copy =
     (o : WriteOptions) (schema : List Entry) → FitsOptions o → IsCellOptions o separator quote → AreReadable schema → AreKindsOf schema kinds → IsLineCopyOf o schema line copy
 
--- Fields of the first kinds stand before a place, each with a separator behind it, and lines grew by what is written of their cells: a line of the
--- other kinds that stands there ends one of all, and what is written of it ends what is written of all.
-pub record AreCopiedBefore (text : List ℕ) (start : ℕ) (kinds : List Kind) (separator quote : ℕ) (index at : ℕ) (before now : List ℕ) : Type 0 where
-  pub after : start ≤ at
-  pub within : at ≤ length text
-  pub copy : List ℕ
-  pub now_is : now ≡ before ++ copy
-  pub line : (end : ℕ) (rest : List ℕ) → at ≤ end → IsLineCopyOfKinds separator quote (drop index kinds) (slice_range text at end) rest
-      → IsLineCopyOfKinds separator quote kinds (slice_range text start end) (copy ++ rest)
+-- the same of a row's first cells
+abbrev pub AreCopiedBefore : List ℕ → ℕ → List Kind → ℕ → ℕ → ℕ → ℕ → List ℕ → List ℕ → Type 0
+AreCopiedBefore text start kinds separator quote index at before now = AreLinesBefore (IsLineCopyOfKinds separator quote) text start kinds index at before now
 
 -- The first cells of a row are copied: lines grew, and they, and what is still to be appended to them from a place on, have what is written of the cells.
 pub record IsCopiedBefore (text : List ℕ) (start : ℕ) (kinds : List Kind) (separator quote : ℕ) (index from at : ℕ) (before now : List ℕ) : Type 0 where
@@ -138,24 +132,24 @@ cell-whole text from at end kind mark separator quote before low after within is
 -- ---- lines
 
 -- the last field, with a line feed behind it
-last : (separator quote : ℕ) (kind : Kind) (field written : List ℕ) → IsCopyOfKind separator quote kind field written
+last-line : (separator quote : ℕ) (kind : Kind) (field written : List ℕ) → IsCopyOfKind separator quote kind field written
     → IsLineCopyOfKinds separator quote (kind ∷ []) (field ++ 10 ∷ []) (written ++ 10 ∷ [])
-last separator quote kind field written cell o [] fits is can are = absurd are
-last separator quote kind field written cell o (entry ∷ []) fits is can are = record {
+last-line separator quote kind field written cell o [] fits is can are = absurd are
+last-line separator quote kind field written cell o (entry ∷ []) fits is can are = record {
   fields = field ∷ [];
   written = written ∷ [];
   copies = (cell o entry.1 fits is can.0 are.0, tt);
   line_is = refl;
   copy_is = refl;
 }
-last separator quote kind field written cell o (entry ∷ other ∷ schema) fits is can are = absurd are.1
+last-line separator quote kind field written cell o (entry ∷ other ∷ schema) fits is can are = absurd are.1
 
 -- a field, a separator, and a line of one kind or more
-more : (separator quote : ℕ) (kind second : Kind) (kinds : List Kind) (field written rest copy : List ℕ) → IsCopyOfKind separator quote kind field written
+more-line : (separator quote : ℕ) (kind second : Kind) (kinds : List Kind) (field written rest copy : List ℕ) → IsCopyOfKind separator quote kind field written
     → IsLineCopyOfKinds separator quote (second ∷ kinds) rest copy → IsLineCopyOfKinds separator quote (kind ∷ second ∷ kinds) (field ++ separator ∷ rest) (written ++ separator ∷ copy)
-more separator quote kind second kinds field written rest copy cell line o [] fits is can are = absurd are
-more separator quote kind second kinds field written rest copy cell line o (entry ∷ []) fits is can are = absurd are.1
-more separator quote kind second kinds field written rest copy cell line o (entry ∷ other ∷ schema) fits is can are =
+more-line separator quote kind second kinds field written rest copy cell line o [] fits is can are = absurd are
+more-line separator quote kind second kinds field written rest copy cell line o (entry ∷ []) fits is can are = absurd are.1
+more-line separator quote kind second kinds field written rest copy cell line o (entry ∷ other ∷ schema) fits is can are =
     let own = line o (other ∷ schema) fits is can.1 are.1 in
     by own.fields own.written own.copies own.line_is own.copy_is
   where
@@ -169,59 +163,6 @@ more separator quote kind second kinds field written rest copy cell line o (entr
       copies = (cell o entry.1 fits is can.0 are.0, copies);
       line_is = ap₂ (λ s r. field ++ s ∷ r) (sym is.separator_is) e ∙ sym (append_assoc field (o.separator ∷ join_with_byte o.separator (first ∷ fields)) (10 ∷ []));
       copy_is = ap₂ (λ s r. written ++ s ∷ r) (sym is.separator_is) f ∙ sym (append_assoc written (o.separator ∷ join_with_byte o.separator (next ∷ others)) (10 ∷ []));
-    }
-
--- ---- steps
-
--- behind one field more
-copied-step : (text : List ℕ) (start : ℕ) (kinds : List Kind) (separator quote index at end : ℕ) (any : Kind) (before now later written : List ℕ)
-    → AreCopiedBefore text start kinds separator quote index at before now → index + 1 < length kinds → at ≤ end → end < length text → slice_index text end ≡ separator
-    → IsCopyOfKind separator quote (get_or kinds index any) (slice_range text at end) written → later ≡ now ++ written ++ separator ∷ []
-    → AreCopiedBefore text start kinds separator quote (index + 1) (end + 1) before later
-copied-step text start kinds separator quote index at end any before now later written copied few after within is cell grown =
-    let own = get_or kinds index any in
-    let second = get_or kinds (index + 1) any in
-    let behind = drop (index + 1 + 1) kinds in
-    let others : drop (index + 1) kinds ≡ second ∷ behind = from kinds (index + 1) any few in
-    let all : drop index kinds ≡ own ∷ second ∷ behind = from kinds index any (omega arith) ∙ ap (λ ks. own ∷ ks) others in
-    let part = written ++ separator ∷ [] in
-    let done = copied.copy in
-    record {
-      after = omega (arith, copied.after);
-      within = omega arith;
-      copy = done ++ part;
-      now_is = grown ∙ append_assoc now written (separator ∷ []) ∙ ap (λ l. l ++ part) copied.now_is ∙ append_assoc before done part;
-      line = λ to rest room lines.
-          let line : IsLineCopyOfKinds separator quote (second ∷ behind) (slice_range text (end + 1) to) rest =
-          subst (λ ks. IsLineCopyOfKinds separator quote ks (slice_range text (end + 1) to) rest) others lines in
-          let both : IsLineCopyOfKinds separator quote (own ∷ second ∷ behind) (slice_range text at end ++ separator ∷ slice_range text (end + 1) to) (written ++ separator ∷ rest) =
-          more separator quote own second behind (slice_range text at end) written (slice_range text (end + 1) to) rest cell line in
-          let whole : IsLineCopyOfKinds separator quote (drop index kinds) (slice_range text at to) (written ++ separator ∷ rest) =
-          subst (λ ks. IsLineCopyOfKinds separator quote ks (slice_range text at to) (written ++ separator ∷ rest)) (sym all)
-          (subst (λ l. IsLineCopyOfKinds separator quote (own ∷ second ∷ behind) l (written ++ separator ∷ rest)) (sym (cut text at end to separator after within is room)) both) in
-          let joined : done ++ (written ++ separator ∷ rest) ≡ done ++ part ++ rest = sym (append_assoc done part rest ∙ ap (λ l. done ++ l) (append_assoc written (separator ∷ []) rest)) in
-          subst (IsLineCopyOfKinds separator quote kinds (slice_range text start to)) joined (copied.line to (written ++ separator ∷ rest) (omega arith) whole);
-    }
-
--- and behind the last
-copied-last : (text : List ℕ) (start : ℕ) (kinds : List Kind) (separator quote index at end : ℕ) (any : Kind) (before now later written : List ℕ)
-    → AreCopiedBefore text start kinds separator quote index at before now → index ≡ length kinds - 1 → 0 < length kinds → at ≤ end → end < length text → slice_index text end ≡ 10
-    → IsCopyOfKind separator quote (get_or kinds (length kinds - 1) any) (slice_range text at end) written → later ≡ now ++ written ++ 10 ∷ []
-    → IsRowCopied text start kinds separator quote before later (Some (end + 1))
-copied-last text start kinds separator quote index at end any before now later written copied last_is some after within is cell grown =
-    let own = get_or kinds index any in
-    let behind : drop (index + 1) kinds ≡ [] = drop_all (index + 1) kinds (omega arith) in
-    let only : drop index kinds ≡ own ∷ [] = from kinds index any (omega arith) ∙ ap (λ ks. own ∷ ks) behind in
-    let whole : slice_range text at (end + 1) ≡ slice_range text at end ++ 10 ∷ [] = cut text at end (end + 1) 10 after within is (omega arith) ∙ ap (λ l. slice_range text at end ++ 10 ∷ l) (nothing text (end + 1)) in
-    let field : IsCopyOfKind separator quote own (slice_range text at end) written = subst (λ n. IsCopyOfKind separator quote (get_or kinds n any) (slice_range text at end) written) (sym last_is) cell in
-    let part = written ++ 10 ∷ [] in
-    record {
-      copy = copied.copy ++ part;
-      now_is = grown ∙ append_assoc now written (10 ∷ []) ∙ ap (λ l. l ++ part) copied.now_is ∙ append_assoc before copied.copy part;
-      line =
-          copied.line (end + 1) part (omega arith)
-          (subst (λ ks. IsLineCopyOfKinds separator quote ks (slice_range text at (end + 1)) part) (sym only)
-          (subst (λ l. IsLineCopyOfKinds separator quote (own ∷ []) l part) (sym whole) (last separator quote own (slice_range text at end) written field)));
     }
 
 -- ---- what was copied of a cell
@@ -239,7 +180,8 @@ copied-cell text start kinds separator quote index from at from_now next any bef
       grown = grown-twice before now later row.grown more;
       copied =
           subst (λ n. AreCopiedBefore text start kinds separator quote (index + 1) n before others) (sym own.next_is)
-          (copied-step text start kinds separator quote index at own.end any before lines others own.written row.copied few own.after own.within own.mark_is own.cell
+          (line-step separator separator (10 ∷ []) (IsCopyOfKind separator quote) (IsLineCopyOfKinds separator quote) (last-line separator quote) (more-line separator quote)
+          text start kinds index at own.end any before lines others own.written row.copied few own.after own.within own.mark_is own.cell
           (one.now_is ∙ ap (λ l. lines ++ l) own.copy_is ∙ sym (append_assoc lines own.written (separator ∷ []))));
     }
 
@@ -251,6 +193,7 @@ pub copied-row : (text : List ℕ) (start : ℕ) (kinds : List Kind) (separator 
 copied-row text start kinds separator quote index from at from_now next any before now later all row last_is some one left =
     let own = one.cell in
     let lines = now ++ slice_range text from at in
-    subst (λ n. IsRowCopied text start kinds separator quote before all (Some n)) (sym own.next_is)
-    (copied-last text start kinds separator quote index at own.end any before lines all own.written row.copied last_is some own.after own.within own.mark_is own.cell
-    (left ∙ one.now_is ∙ ap (λ l. lines ++ l) own.copy_is ∙ sym (append_assoc lines own.written (10 ∷ []))))
+    let ended = line-last separator separator (10 ∷ []) (IsCopyOfKind separator quote) (IsLineCopyOfKinds separator quote) (last-line separator quote) (more-line separator quote)
+    text start kinds index at own.end any before lines all own.written row.copied last_is some own.after own.within own.mark_is own.cell
+    (left ∙ one.now_is ∙ ap (λ l. lines ++ l) own.copy_is ∙ sym (append_assoc lines own.written (10 ∷ []))) in
+    subst (λ n. IsRowCopied text start kinds separator quote before all (Some n)) (sym own.next_is) (record { copy = ended.copy; now_is = ended.now_is; line = ended.line })

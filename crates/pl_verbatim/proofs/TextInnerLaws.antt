@@ -11,15 +11,13 @@ use Rattle.std.specs.List.{list_any, prefix_len, slice_range}
 use Rattle.std.specs.Str.{IsUtf8, is_utf8}
 use Rattle.memchr.specs.Find.{Nowhere, NoneBefore, Passes, is_byte}
 use Rattle.pl_text.specs.FrameText.{is_special, needs_quotes, doubled, quoted}
-use Rattle.pl_verbatim.specs.CellTexts.{IsWrittenText}
+use Rattle.pl_verbatim.specs.CellTexts.{IsQuotedText}
 
--- bytes are a text with each quote doubled, and where the text is known to need quotes, it does
-pub record HasInner (s q : ℕ) (bytes : List ℕ) (is_needed : Bool) : Type 0 where
+-- bytes are a text with each quote doubled
+pub record HasInner (q : ℕ) (bytes : List ℕ) : Type 0 where
   pub inner : List ℕ
   pub utf8 : IsUtf8 inner
   pub bytes_are : bytes ≡ doubled q inner
-  pub few : length inner ≤ length bytes
-  pub needed : is_needed ≡ true → list_any (is_special s q) inner ≡ true
 
 -- ---- more bytes
 
@@ -34,88 +32,44 @@ doubled-none q (x ∷ xs) none =
     let here : (x == q) ≡ false = not_true (x == q) (none 0 (omega arith) (omega arith)) in
     rw here (ap (λ l. x ∷ l) (doubled-none q xs (λ k low high. none (suc k) (omega arith) (omega arith))))
 
-or_right : (a b : Bool) → b ≡ true → (a || b) ≡ true
-or_right true b e = refl
-or_right false b e = e
-
-or_left : (a b : Bool) → a ≡ true → (a || b) ≡ true
-or_left true b e = refl
-or_left false b e = absurd (cc)
-
--- some byte passes a test where not all stand before the first that does
-some_special : (p : ℕ → Bool) (xs : List ℕ) → prefix_len (λ x. not (p x)) xs < length xs → list_any p xs ≡ true
-some_special p [] h = absurd (omega arith)
-some_special p (x ∷ xs) h = by (p x) refl (some_special p xs)
-  where
-    by : (t : Bool) → p x ≡ t → (prefix_len (λ y. not (p y)) xs < length xs → list_any p xs ≡ true) → list_any p (x ∷ xs) ≡ true
-    by true e rest = rw e refl
-    by false e rest = rw e (rest (omega (arith, rw e at h)))
-
-with_part : (s q : ℕ) (bytes part : List ℕ) (b t : Bool) → HasInner s q bytes b → is_utf8 part ≡ true → Nowhere (Passes (is_byte q) part) 0 (length part)
-    → (t ≡ true → (b ≡ true) ⊎ (list_any (is_special s q) part ≡ true)) → HasInner s q (bytes ++ part) t
-with_part s q bytes part b t has utf8 none needed = record {
+with_part : (q : ℕ) (bytes part : List ℕ) → HasInner q bytes → is_utf8 part ≡ true → Nowhere (Passes (is_byte q) part) 0 (length part) → HasInner q (bytes ++ part)
+with_part q bytes part has utf8 none = record {
   inner = has.inner ++ part;
   utf8 = IsUtf8-append has.inner part has.utf8 (IsUtf8-from_is_utf8 part utf8);
   bytes_are = ap₂ (λ a b. a ++ b) has.bytes_are (sym (doubled-none q part none)) ∙ sym (flat_map-append (λ x. if x == q then q ∷ q ∷ [] else x ∷ []) has.inner part);
-  few = omega (arith, has.few, length-append has.inner part, length-append bytes part);
-  needed = λ e. list_any-append (is_special s q) has.inner part ∙ by (needed e);
 }
-  where
-    by : (b ≡ true) ⊎ (list_any (is_special s q) part ≡ true) → (list_any (is_special s q) has.inner || list_any (is_special s q) part) ≡ true
-    by (inl e) = or_left _ _ (has.needed e)
-    by (inr e) = or_right _ _ e
 
 same_byte : (q : ℕ) → (q == q) ≡ true
 same_byte q = grind (arith, nat_tests)
 
-quote_special : (s q : ℕ) → list_any (is_special s q) (q ∷ []) ≡ true
-quote_special s q = by (q == s) (q == 10) (q == 13) (q == q) (same_byte q)
-  where
-    by : (a b c d : Bool) → d ≡ true → ((a || b || c || d) || false) ≡ true
-    by true b c d e = refl
-    by false true c d e = refl
-    by false false true d e = refl
-    by false false false true e = refl
-    by false false false false e = absurd (cc)
-
 doubled-one : (q : ℕ) → doubled q (q ∷ []) ≡ q ∷ q ∷ []
 doubled-one q = rw (same_byte q) refl
 
-with_quote : (s q : ℕ) (bytes : List ℕ) (b : Bool) → q < 128 → HasInner s q bytes b → HasInner s q (bytes ++ (q ∷ q ∷ [])) true
-with_quote s q bytes b low has = record {
+with_quote : (q : ℕ) (bytes : List ℕ) → q < 128 → HasInner q bytes → HasInner q (bytes ++ (q ∷ q ∷ []))
+with_quote q bytes low has = record {
   inner = has.inner ++ q ∷ [];
   utf8 = IsUtf8-append has.inner (q ∷ []) has.utf8 (IsUtf8-from_ascii (q ∷ []) (IsAscii-cons q [] low IsAscii-nil));
   bytes_are = ap₂ (λ a b. a ++ b) has.bytes_are (sym (doubled-one q)) ∙ sym (flat_map-append (λ x. if x == q then q ∷ q ∷ [] else x ∷ []) has.inner (q ∷ []));
-  few = omega (arith, has.few, length-append has.inner (q ∷ []), length-append bytes (q ∷ q ∷ []));
-  needed = λ e. list_any-append (is_special s q) has.inner (q ∷ []) ∙ or_right _ _ (quote_special s q);
 }
 
 -- ---- the end
 
-empty_needs : (s q : ℕ) (text : List ℕ) → length text ≡ 0 → needs_quotes s q text ≡ true
-empty_needs s q [] e = refl
-empty_needs s q (x ∷ xs) e = absurd (omega arith)
-
-between_quotes : (s q : ℕ) (bytes text : List ℕ) (t : Bool) → HasInner s q bytes t → (t ≡ true) ⊎ (length bytes ≡ 0) → text ≡ q ∷ (bytes ++ q ∷ []) → IsWrittenText s q text
-between_quotes s q bytes text t has needed is = record {
+between_quotes : (q : ℕ) (bytes text : List ℕ) → HasInner q bytes → text ≡ q ∷ (bytes ++ q ∷ []) → IsQuotedText q text
+between_quotes q bytes text has is = record {
   inner = has.inner;
   utf8 = is_utf8-from_IsUtf8 has.inner has.utf8;
-  text_is = is ∙ ap (λ l. q ∷ (l ++ q ∷ [])) has.bytes_are ∙ sym (ap (λ b. if b then quoted q has.inner else has.inner) (by needed));
+  text_is = is ∙ ap (λ l. q ∷ (l ++ q ∷ [])) has.bytes_are;
 }
-  where
-    by : (t ≡ true) ⊎ (length bytes ≡ 0) → needs_quotes s q has.inner ≡ true
-    by (inl e) = or_right (length has.inner == 0) _ (has.needed e)
-    by (inr e) = empty_needs s q has.inner (omega (arith, has.few, e))
 
 -- ---- places
 
-slice_join : (xs : List ℕ) (a b c : ℕ) → a ≤ b → b ≤ c → slice_range xs a c ≡ slice_range xs a b ++ slice_range xs b c
+pub slice_join : (xs : List ℕ) (a b c : ℕ) → a ≤ b → b ≤ c → slice_range xs a c ≡ slice_range xs a b ++ slice_range xs b c
 slice_join xs a b c low high =
     let whole : c - a ≡ (b - a) + (c - b) = omega arith in
     let back : a + (b - a) ≡ b = omega arith in
     ap (λ n. take n (drop a xs)) whole ∙ take-add (b - a) (c - b) (drop a xs) ∙ ap (λ l. slice_range xs a b ++ take (c - b) l) (drop-drop (b - a) a xs ∙ ap (λ n. drop n xs) back)
 
-slice_one : (xs : List ℕ) (a x : ℕ) → a < length xs → get_or xs a 0 ≡ x → slice_range xs a (a + 1) ≡ x ∷ []
+pub slice_one : (xs : List ℕ) (a x : ℕ) → a < length xs → get_or xs a 0 ≡ x → slice_range xs a (a + 1) ≡ x ∷ []
 slice_one xs a x fits is =
     let one : a + 1 - a ≡ 1 = omega arith in
     ap (λ n. take n (drop a xs)) one ∙ ap (take 1) (drop_more xs a 0 fits) ∙ ap (λ y. y ∷ []) is
@@ -161,40 +115,24 @@ module _ (q : ℕ) (text : List ℕ) (from count : ℕ) (inside : from ≤ lengt
       let same : from + count - from ≡ count = omega arith in
       ap (λ n. length (take n (drop from text))) same ∙ length-take-le count (drop from text) (omega (arith, quote_room, length-drop from text))
 
-  -- a byte of those before it passes a test where not all of them stand before the first that does
-  pub some_in_part : (p : ℕ → Bool) (r : ℕ) → r ≡ prefix_len (λ x. not (p x)) (slice_range text from (from + count)) → nat_lt r count ≡ true → list_any p (slice_range text from (from + count)) ≡ true
-  some_in_part p r is fewer = some_special p (slice_range text from (from + count)) (omega (arith, is, part_length, less r count fewer))
-    where
-      less : (a b : ℕ) → nat_lt a b ≡ true → a < b
-      less a b e = grind (arith, nat_tests, e)
-
   -- the bytes before it are more of the text
-  pub part_read : (s at : ℕ) (b t : Bool) → at < from → HasInner s q (slice_range text (at + 1) from) b → is_utf8 (slice_range text from (from + count)) ≡ true
-      → (t ≡ true → (b ≡ true) ⊎ (list_any (is_special s q) (slice_range text from (from + count)) ≡ true)) → HasInner s q (slice_range text (at + 1) (from + count)) t
-  part_read s at b t before has utf8 needed =
-      subst (λ l. HasInner s q l t) (sym (slice_join text (at + 1) from (from + count) (omega arith) (omega arith)))
-      (with_part s q (slice_range text (at + 1) from) (slice_range text from (from + count)) b t has utf8 front_none needed)
+  pub part_read : (at : ℕ) → at < from → HasInner q (slice_range text (at + 1) from) → is_utf8 (slice_range text from (from + count)) ≡ true → HasInner q (slice_range text (at + 1) (from + count))
+  part_read at before has utf8 =
+      subst (HasInner q) (sym (slice_join text (at + 1) from (from + count) (omega arith) (omega arith)))
+      (with_part q (slice_range text (at + 1) from) (slice_range text from (from + count)) has utf8 front_none)
 
   -- and two quotes stand for one
-  pub quote_read : (s at : ℕ) (t : Bool) → q < 128 → at < from → HasInner s q (slice_range text (at + 1) (from + count)) t → from + count + 1 < length text → get_or text (from + count + 1) 0 ≡ q
-      → HasInner s q (slice_range text (at + 1) (from + count + 1 + 1)) true
-  quote_read s at t low before has room again =
-      subst (λ l. HasInner s q l true)
+  pub quote_read : (at : ℕ) → q < 128 → at < from → HasInner q (slice_range text (at + 1) (from + count)) → from + count + 1 < length text → get_or text (from + count + 1) 0 ≡ q
+      → HasInner q (slice_range text (at + 1) (from + count + 1 + 1))
+  quote_read at low before has room again =
+      subst (HasInner q)
       (sym (slice_join text (at + 1) (from + count) (from + count + 1 + 1) (omega arith) (omega arith) ∙ ap (λ l. slice_range text (at + 1) (from + count) ++ l) (slice_two text (from + count) q q room quote_at again)))
-      (with_quote s q (slice_range text (at + 1) (from + count)) t low has)
+      (with_quote q (slice_range text (at + 1) (from + count)) low has)
 
   -- or one ends it
-  pub text_read : (s at : ℕ) (t : Bool) → at < from → get_or text at 0 ≡ q → HasInner s q (slice_range text (at + 1) (from + count)) t → (t ≡ true) ⊎ (from + count + 1 ≡ at + 2)
-      → IsWrittenText s q (slice_range text at (from + count + 1))
-  text_read s at t before opens has needed =
-      between_quotes s q (slice_range text (at + 1) (from + count)) (slice_range text at (from + count + 1)) t has (by needed) whole
+  pub text_read : (at : ℕ) → at < from → get_or text at 0 ≡ q → HasInner q (slice_range text (at + 1) (from + count)) → IsQuotedText q (slice_range text at (from + count + 1))
+  text_read at before opens has = between_quotes q (slice_range text (at + 1) (from + count)) (slice_range text at (from + count + 1)) has whole
     where
-      by : (t ≡ true) ⊎ (from + count + 1 ≡ at + 2) → (t ≡ true) ⊎ (length (slice_range text (at + 1) (from + count)) ≡ 0)
-      by (inl e) = inl e
-      by (inr e) =
-          let none : from + count - (at + 1) ≡ 0 = omega arith in
-          inr (ap (λ n. length (take n (drop (at + 1) text))) none)
-
       whole : slice_range text at (from + count + 1) ≡ q ∷ (slice_range text (at + 1) (from + count) ++ q ∷ [])
       whole =
           slice_join text at (at + 1) (from + count + 1) (omega arith) (omega arith)

@@ -74,6 +74,12 @@ pub record IsWrittenText (separator quote : ℕ) (text : List ℕ) : Type 0 wher
   pub utf8 : is_utf8 inner ≡ true
   pub text_is : text ≡ written separator quote inner
 
+-- a text stands between quotes, each quote in it doubled, and is UTF-8
+pub record IsQuotedText (quote : ℕ) (text : List ℕ) : Type 0 where
+  pub inner : List ℕ
+  pub utf8 : is_utf8 inner ≡ true
+  pub text_is : text ≡ quoted quote inner
+
 -- a text that is UTF-8 and needs no quotes, and so is not empty
 pub record IsBareText (separator quote : ℕ) (text : List ℕ) : Type 0 where
   pub utf8 : is_utf8 text ≡ true
@@ -99,9 +105,19 @@ abbrev pub zeros_text : ℕ → List ℕ
 zeros_text zero = []
 zeros_text (suc n) = 46 ∷ replicate (suc n) 48
 
--- A field stands in a line, and is read as a cell of a type, of which another text is written, where no text means null but a missing one.
-pub record IsCopyOf (o : WriteOptions) (type : DataType) (field written : List ℕ) : Type 0 where
+-- how lines are written in which cells stand as in those that are read: by this separator, with nothing for a null, quoted where necessary, with a line
+-- feed behind each
+abbrev pub as_read : ℕ → WriteOptions → WriteOptions
+as_read separator o = record o { separator = separator; null = []; terminator = 10 ∷ []; style = 0 }
+
+-- A field stands in a line that is written by the first options, and is read as a cell of a type, where no text means null but a missing one; and
+-- another text is written of that cell by the second.
+pub record IsChangeOf (r o : WriteOptions) (type : DataType) (field written : List ℕ) : Type 0 where
   pub value : Option Scalar
-  pub cell_is : (reading : Reading) (column : ℕ) → reading.missing_is_null ≡ true → cell reading (means_null None column) (Some o.quote) type field ≡ Ok value
-  pub field_text : IsFieldText (line_marks o) field
+  pub cell_is : (reading : Reading) (column : ℕ) → reading.missing_is_null ≡ true → cell reading (means_null None column) (Some r.quote) type field ≡ Ok value
+  pub field_text : IsFieldText (line_marks r) field
   pub written_is : written ≡ written_cell o type value
+
+-- both are the same
+abbrev pub IsCopyOf : WriteOptions → DataType → List ℕ → List ℕ → Type 0
+IsCopyOf o type field written = IsChangeOf o o type field written

@@ -1,4 +1,5 @@
 pub mod PrintedTexts
 pub mod CellTexts
 pub mod Kinds
+pub mod Changes
 pub mod Verbatim

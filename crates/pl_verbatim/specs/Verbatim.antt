@@ -1,5 +1,5 @@
 -- Rows that are written as they were read.
-use Rattle.std.specs.Prelude.{◌≡◌, ℕ, ◌+◌, ◌<◌, ◌≤◌, true, List, [], ◌∷◌, ◌++◌, length, Option, None, IfSome, slice_index, slice_range}
+use Rattle.std.specs.Prelude.{◌≡◌, ℕ, ◌+◌, ◌<◌, ◌≤◌, true, List, [], ◌∷◌, ◌++◌, length, Option, None, Some, IfSome, slice_index, slice_range}
 use Rattle.std.specs.List.{join_with_byte, range_with_len}
 use Rattle.pl_frame.specs.declared.data_type.DataType.{DataType}
 use Rattle.pl_frame.specs.Schema.{Entry}
@@ -10,9 +10,11 @@ use Rattle.pl_rows.specs.declared.plan.RangePlan.{RangePlan}
 use Rattle.pl_round_trip.specs.Fits.{FitsOptions}
 use Rattle.pl_round_trip.specs.RoundTrip.{line_marks}
 use Rattle.pl_verbatim.specs.declared.verbatim.Verbatim.{Verbatim}
-use Rattle.pl_verbatim.specs.CellTexts.{IsCellOptions, IsCellOf, IsCopyOf}
+use Rattle.pl_verbatim.specs.CellTexts.{IsCellOptions, IsCellOf, IsCopyOf, as_read}
+use Rattle.pl_verbatim.specs.declared.form.Form.{Form}
 use Rattle.pl_verbatim.specs.declared.kinds.Kind.{Kind}
 use Rattle.pl_verbatim.specs.Kinds.{AreReadable, AreKindsOf, IsKindOf}
+use Rattle.pl_verbatim.specs.Changes.{AreChangesOf, IsFormOf}
 use Rattle.pl_verbatim.specs.PrintedTexts.{CanPrint, IsTextPrinted}
 
 -- ---- lines
@@ -31,9 +33,7 @@ pub record IsLineOf (o : WriteOptions) (schema : List Entry) (line : List ℕ) :
 
 -- fields of the columns of a schema, each once and in order, with what is written of their cells
 abbrev pub AreCopiesOf : WriteOptions → List Entry → List (List ℕ) → List (List ℕ) → Type 0
-AreCopiesOf o [] [] [] = Unit {0}
-AreCopiesOf o (entry ∷ schema) (field ∷ fields) (written ∷ others) = IsCopyOf o entry.1 field written × AreCopiesOf o schema fields others
-AreCopiesOf o schema fields written = ⊥
+AreCopiesOf o schema fields written = AreChangesOf o o schema fields written
 
 -- a line has such fields, with a separator between two of them and a line feed behind the last; and so does what is written of it
 pub record IsLineCopyOf (o : WriteOptions) (schema : List Entry) (line copy : List ℕ) : Type 0 where
@@ -45,19 +45,22 @@ pub record IsLineCopyOf (o : WriteOptions) (schema : List Entry) (line copy : Li
 
 -- ---- rows
 
--- rows are written by the marks by which they are read, quoted where necessary, with nothing for a null; all columns are read, and
--- what is missing is null
-pub record IsWrittenAsRead (plan : RangePlan) (schema : List Entry) (o : WriteOptions) : Type 0 where
+-- Rows are read by the marks of these options, where no text means null but a missing one. All columns are read.
+pub record IsReadSo (plan : RangePlan) (schema : List Entry) (o : WriteOptions) : Type 0 where
   pub marks : marks_of plan.dialect ≡ line_marks o
   pub comments : plan.dialect.comment_prefix ≡ None
   pub fits : FitsOptions o
-  pub terminator : o.terminator ≡ 10 ∷ []
-  pub null : o.null ≡ []
-  pub style : o.style ≡ 0
   pub nulls : plan.options.null_values ≡ None
   pub missing : plan.options.missing_is_null ≡ true
   pub places : plan.projection.places.now ≡ range_with_len 0 (length schema)
   pub some : 0 < length schema
+
+-- and they are written by the same marks, quoted where necessary, with nothing for a null
+pub record IsWrittenAsRead (plan : RangePlan) (schema : List Entry) (o : WriteOptions) : Type 0 where
+  pub read : IsReadSo plan schema o
+  pub terminator : o.terminator ≡ 10 ∷ []
+  pub null : o.null ≡ []
+  pub style : o.style ≡ 0
 
 -- these are the kinds and the marks of such rows
 pub record AreRowsOf (plan : RangePlan) (schema : List Entry) (o : WriteOptions) (verbatim : Verbatim) : Type 0 where
@@ -65,9 +68,16 @@ pub record AreRowsOf (plan : RangePlan) (schema : List Entry) (o : WriteOptions)
   pub cells : IsCellOptions o verbatim.separator verbatim.quote_char
   pub kinds : AreKindsOf schema verbatim.kinds.items
 
+-- these are the kinds and the marks of rows that are written by a form
+pub record AreChangedRowsOf (plan : RangePlan) (schema : List Entry) (o : WriteOptions) (verbatim : Verbatim) (form : Form) : Type 0 where
+  pub rows : IsReadSo plan schema (as_read verbatim.separator o)
+  pub written : IsFormOf o verbatim.quote_char form
+  pub kinds : AreKindsOf schema verbatim.kinds.items
+
 -- and so they are, where there are kinds
-abbrev pub IsVerbatimOf : RangePlan → List Entry → WriteOptions → Verbatim → Type 0
-IsVerbatimOf plan schema o verbatim = 0 < length verbatim.kinds.items → AreRowsOf plan schema o verbatim
+pub record IsVerbatimOf (plan : RangePlan) (schema : List Entry) (o : WriteOptions) (verbatim : Verbatim) : Type 0 where
+  pub same : verbatim.form ≡ None → 0 < length verbatim.kinds.items → AreRowsOf plan schema o verbatim
+  pub changed : (form : Form) → verbatim.form ≡ Some form → 0 < length verbatim.kinds.items → AreChangedRowsOf plan schema o verbatim form
 
 -- ---- rows that are copied
 

@@ -13,9 +13,9 @@ use crate::moments::moment_end;
 use crate::texts::text_end;
 use crate::wholes::whole_end;
 
-// The place behind the cell that stands at a place as a value of a kind.
+/// The place behind the cell that stands at a place as a value of a kind. `CALLER` is that of `cell_end`.
 #[inline(always)]
-fn value_end<const CALLER: usize>(
+pub(crate) fn value_end<const CALLER: usize>(
     text: &[u8],
     at: usize,
     kind: Kind,

@@ -1,5 +1,5 @@
 //! The rows at the front of a text that are written as they were read, by a test that is made for a reading and a way of writing.
-ghost use Rattle.std.specs.Prelude.{◌≡◌, ◌<◌, ◌≤◌, List, true, false, length, take, IfOk, IfSome};
+ghost use Rattle.std.specs.Prelude.{◌≡◌, ◌<◌, ◌≤◌, List, None, Some, true, false, length, take, IfOk, IfSome};
 ghost use Rattle.std.specs.Bool.{OnTrue};
 ghost use Rattle.std.specs.List.{All, range_with_len};
 ghost use Rattle.pl_frame.specs.Schema.{Entry};
@@ -9,8 +9,11 @@ ghost use Rattle.pl_round_trip.specs.RoundTrip.{is_printed_byte};
 ghost use Rattle.pl_write.specs.Options.{cell_options};
 ghost use Rattle.pl_verbatim.specs.Kinds.{AreReadable, AreKindsOf, is_sound_kind};
 ghost use Rattle.pl_verbatim.specs.PrintedTexts.{CanPrint, IsFrontPrinted};
-ghost use Rattle.pl_verbatim.specs.Verbatim.{IsWrittenAsRead, IsVerbatimOf, AreRowsCopied};
+ghost use Rattle.pl_verbatim.specs.CellTexts.{as_read};
+ghost use Rattle.pl_verbatim.specs.Verbatim.{IsReadSo, IsVerbatimOf, AreRowsCopied};
 
+use crate::changes::put_row;
+use crate::form::Form;
 use crate::kinds::{Kind, kind_of};
 use crate::marks::Marks;
 use crate::rows::{copy_row, row_end};
@@ -20,6 +23,10 @@ use pl_round_trip::laws::rows_return;
 use pl_rows::plan::RangePlan;
 use pl_write::options::{QuoteStyle, SerializeOptions};
 use std::alloc::{AllocError, Global};
+
+// What is written of rows is put together in so many bytes, and is appended when it has so many.
+const BLOCK: usize = 1 << 16;
+const FULL: usize = 1 << 15;
 
 // Whether these places are all of so many, in order.
 fn are_all(places: &[usize], width: usize) -> bool
@@ -40,26 +47,31 @@ fn is_apart(byte: u8) -> bool
     !(byte.is_ascii_alphanumeric() || byte == b'-' || byte == b'.' || byte == b':')
 }
 
-// Whether rows are written by the marks by which they are read, quoted where necessary, with nothing for a null, and all columns are
-// read.
-fn is_written_as_read(schema: &Schema, plan: &RangePlan<'_>, options: &SerializeOptions) -> bool
+// Whether rows are read by the quote by which they are written, and no text means null but a missing one; all columns are read.
+fn is_read_so(schema: &Schema, plan: &RangePlan<'_>, options: &SerializeOptions) -> bool
     requires { CanPrint plan.now schema.now }
-    ensures { OnTrue result (IsWrittenAsRead plan.now schema.now (cell_options options.now)) }
+    ensures { OnTrue result (IsReadSo plan.now schema.now (as_read plan.now.dialect.separator (cell_options options.now))) }
 {
     let dialect = plan.dialect;
-    dialect.separator == options.separator
-        && dialect.quote_char == Some(options.quote_char)
+    dialect.quote_char == Some(options.quote_char)
         && dialect.eol_char == b'\n'
         && dialect.comment_prefix.is_none()
-        && is_apart(options.separator)
+        && is_apart(dialect.separator)
         && is_apart(options.quote_char)
-        && matches!(options.line_terminator.as_str().as_bytes(), [b'\n'])
-        && options.null.as_str().is_empty()
-        && options.quote_style == QuoteStyle::Necessary
         && plan.options.null_values.is_none()
         && plan.options.missing_is_null
         && schema.len() > 0
         && are_all(plan.projection.places, schema.len())
+}
+
+// Whether cells are written by this separator, quoted where necessary, with nothing for a null and a line feed behind a line.
+fn is_same(separator: u8, options: &SerializeOptions) -> bool
+    ensures { OnTrue result (cell_options options.now ≡ as_read separator (cell_options options.now)) }
+{
+    separator == options.separator
+        && matches!(options.line_terminator.as_str().as_bytes(), [b'\n'])
+        && options.null.as_str().is_empty()
+        && options.quote_style == QuoteStyle::Necessary
 }
 
 // The kinds of the columns of a schema; none where one of them has none.
@@ -80,8 +92,7 @@ fn kinds_of(alloc: Global, schema: &Schema) -> Result<Vec<Kind>, AllocError>
 }
 
 impl Verbatim {
-    /// How rows stand that are read by a plan into columns of a schema, and written by these options as they were read. Refuses only
-    /// want of memory.
+    /// How rows stand that are read by a plan into columns of a schema, and written by these options. Refuses only want of memory.
     pub fn of(
         alloc: Global,
         schema: &Schema,
@@ -91,19 +102,38 @@ impl Verbatim {
         requires { CanPrint plan.now schema.now }
         ensures { IfOk result (IsVerbatimOf plan.now schema.now (cell_options options.now)) }
     {
-        if !is_written_as_read(schema, plan, options) {
+        if options.quote_style == QuoteStyle::Never || !is_read_so(schema, plan, options) {
             return Ok(Verbatim::none(alloc));
         }
+        let separator = plan.dialect.separator;
+        let form = if is_same(separator, options) {
+            None
+        } else {
+            Some(Form::of(alloc, options)?)
+        };
         Ok(Verbatim {
             kinds: kinds_of(alloc, schema)?,
-            separator: options.separator,
+            separator,
             quote_char: options.quote_char,
+            form,
         })
     }
 
     /// The rows at the front of a text that are written as they were read, as far as they are found. The text ends where the last of
     /// them does.
     pub fn front(&self, text: &[u8]) -> VerbatimFront
+        ensures { (plan : RangePlan) (schema : List Entry) (o : WriteOptions) → CanPrint plan schema → IsVerbatimOf plan schema o self.now
+            → IsFrontPrinted plan schema o text.now result.end result.rows (take result.end text.now) }
+    {
+        match &self.form {
+            Some(_) => VerbatimFront { end: 0, rows: 0 },
+            None => self.front_same(text),
+        }
+    }
+
+    // What `front` does of rows that are read and written by the same marks.
+    fn front_same(&self, text: &[u8]) -> VerbatimFront
+        requires { self.now.form ≡ None }
         ensures { (plan : RangePlan) (schema : List Entry) (o : WriteOptions) → CanPrint plan schema → IsVerbatimOf plan schema o self.now
             → IsFrontPrinted plan schema o text.now result.end result.rows (take result.end text.now) }
     {
@@ -129,11 +159,11 @@ impl Verbatim {
         VerbatimFront { end, rows }
     }
 
-    /// The rows of a text from a place on whose cells stand as they are written, or between quotes that they do not need, or are datetimes
-    /// without a fraction: appends what is written of them to lines, as far as they are found and memory suffices, and answers where they
-    /// end, and how many they are.
-    pub fn copy(&self, text: &[u8], from: usize, lines: &mut Vec<u8>) -> VerbatimFront
-        requires { from ≤ length text.now }
+    // What `copy` does of rows that are read and written by the same marks: it copies what stands in a line in one go, as far as it is written as it
+    // was read.
+    fn copy_same(&self, text: &[u8], from: usize, lines: &mut Vec<u8>) -> VerbatimFront
+        requires inside { from ≤ length text.now }
+        requires same { self.now.form ≡ None }
         ensures { AreRowsCopied self.now text.now from result.end result.rows lines.old.items lines.new.items }
     {
         rows_return();
@@ -160,5 +190,63 @@ impl Verbatim {
             rows += 1;
         }
         VerbatimFront { end, rows }
+    }
+
+    // What `copy` does of rows that are written by a form.
+    fn change(&self, text: &[u8], from: usize, form: &Form, lines: &mut Vec<u8>) -> VerbatimFront
+        requires inside { from ≤ length text.now }
+        requires form { self.now.form ≡ Some form.now }
+        ensures { AreRowsCopied self.now text.now from result.end result.rows lines.old.items lines.new.items }
+    {
+        rows_return();
+        let mut block = [0u8; BLOCK];
+        let mut place = 0;
+        let mut kept = VerbatimFront { end: from, rows: 0 };
+        let mut end = from;
+        let mut rows = 0;
+        let mut marks = Marks::later(end);
+        while end < text.len() {
+            match put_row(
+                text,
+                end,
+                &self.kinds,
+                self.separator,
+                self.quote_char,
+                form,
+                &mut marks,
+                &mut block,
+                place,
+            ) {
+                Some((next, behind)) => {
+                    end = next;
+                    place = behind;
+                }
+                None => break,
+            }
+            rows += 1;
+            if place >= FULL {
+                if lines.extend_from_slice(&block[..place]).is_err() {
+                    return kept;
+                }
+                place = 0;
+                kept = VerbatimFront { end, rows };
+            }
+        }
+        if lines.extend_from_slice(&block[..place]).is_err() {
+            return kept;
+        }
+        VerbatimFront { end, rows }
+    }
+
+    /// The rows of a text from a place on whose cells stand as they are printed, between quotes or without, or are datetimes without a fraction: appends
+    /// what is written of them to lines, as far as they are found and memory suffices, and answers where they end, and how many they are.
+    pub fn copy(&self, text: &[u8], from: usize, lines: &mut Vec<u8>) -> VerbatimFront
+        requires { from ≤ length text.now }
+        ensures { AreRowsCopied self.now text.now from result.end result.rows lines.old.items lines.new.items }
+    {
+        match &self.form {
+            Some(form) => self.change(text, from, form, lines),
+            None => self.copy_same(text, from, lines),
+        }
     }
 }

@@ -3,14 +3,19 @@
 
 mod booleans;
 mod cells;
+mod changes;
 mod copies;
 mod dates;
 mod decimals;
 mod digits;
+mod form;
+mod found;
 mod front;
 pub mod kinds;
 mod marks;
 mod moments;
+mod needing;
+mod puts;
 mod rows;
 mod texts;
 pub mod verbatim;

@@ -1,11 +1,12 @@
 //! Texts that stand as they are written.
-ghost use Rattle.std.specs.Prelude.{◌≡◌, ◌<◌, ◌≤◌, ◌||◌, not, nat_le, length, slice_range, slice_index, IfSome};
+ghost use Rattle.std.specs.Prelude.{◌≡◌, ◌+◌, ◌<◌, ◌≤◌, ◌||◌, not, nat_le, length, slice_range, slice_index, IfSome};
 ghost use Rattle.std.specs.List.{prefix_len};
 ghost use Rattle.pl_text.specs.FrameText.{is_special};
-ghost use Rattle.pl_verbatim.specs.CellTexts.{IsWrittenText, IsBareText};
+ghost use Rattle.pl_verbatim.specs.CellTexts.{IsWrittenText, IsQuotedText, IsBareText};
 
 use memchr::memchr;
 use pl_cells::utf8::validate_utf8;
+use crate::needing::is_quoting_needed;
 use std::simd::prelude::*;
 
 // How many of 32 bytes stand before the first that only a quoted text may hold, or that is not ASCII.
@@ -51,6 +52,7 @@ fn count_before_special(bytes: &[u8], separator: u8, quote: u8) -> usize
 // The place behind the text at a place that is not quoted: any text, found byte by byte.
 fn bare_end(text: &[u8], at: usize, separator: u8, quote: u8) -> Option<usize>
     requires { at ≤ length text.now }
+    ensures after { IfSome result (λ end. at ≤ end) }
     ensures within { IfSome result (λ end. end ≤ length text.now) }
     ensures bare { IfSome result (λ end. IsBareText separator quote (slice_range text.now at end)) }
     ensures written { IfSome result (λ end. IsWrittenText separator quote (slice_range text.now at end)) }
@@ -63,6 +65,30 @@ fn bare_end(text: &[u8], at: usize, separator: u8, quote: u8) -> Option<usize>
     }
 }
 
+/// The place behind the text between quotes that begins at a place.
+pub(crate) fn quoted_text_end(text: &[u8], at: usize, quote: u8) -> Option<usize>
+    requires inside { at < length text.now }
+    requires quote { slice_index text.now at ≡ quote }
+    requires ascii { quote < 128 }
+    ensures after { IfSome result (λ end. at + 2 ≤ end) }
+    ensures within { IfSome result (λ end. end ≤ length text.now) }
+    ensures text { IfSome result (λ end. IsQuotedText quote (slice_range text.now at end)) }
+{
+    let mut from = at + 1;
+    while from < text.len() {
+        let count = memchr(quote, &text[from..])?;
+        if !validate_utf8(&text[from..from + count]) {
+            return None;
+        }
+        let end = from + count + 1;
+        if end >= text.len() || text[end] != quote {
+            return Some(end);
+        }
+        from = end + 1;
+    }
+    None
+}
+
 // The place behind the text between quotes that begins at a place. None where it needs no quotes.
 fn quoted_end(text: &[u8], at: usize, separator: u8, quote: u8) -> Option<usize>
     requires inside { at < length text.now }
@@ -71,33 +97,19 @@ fn quoted_end(text: &[u8], at: usize, separator: u8, quote: u8) -> Option<usize>
     ensures within { IfSome result (λ end. end ≤ length text.now) }
     ensures written { IfSome result (λ end. IsWrittenText separator quote (slice_range text.now at end)) }
 {
-    let mut from = at + 1;
-    let mut is_needed = false;
-    while from < text.len() {
-        let count = memchr(quote, &text[from..])?;
-        let part = &text[from..from + count];
-        if !validate_utf8(part) {
-            return None;
-        }
-        is_needed = is_needed || count_before_special(part, separator, quote) < count;
-        let end = from + count + 1;
-        if end >= text.len() || text[end] != quote {
-            return if is_needed || end == at + 2 {
-                Some(end)
-            } else {
-                None
-            };
-        }
-        is_needed = true;
-        from = end + 1;
+    let end = quoted_text_end(text, at, quote)?;
+    if is_quoting_needed(&text[at + 1..end - 1], separator, quote) {
+        Some(end)
+    } else {
+        None
     }
-    None
 }
 
 /// The place behind the text that stands at a place without quotes.
 #[inline(always)]
 pub(crate) fn bare_text_end(text: &[u8], at: usize, separator: u8, quote: u8) -> Option<usize>
     requires { at < length text.now }
+    ensures after { IfSome result (λ end. at ≤ end) }
     ensures within { IfSome result (λ end. end ≤ length text.now) }
     ensures bare { IfSome result (λ end. IsBareText separator quote (slice_range text.now at end)) }
 {

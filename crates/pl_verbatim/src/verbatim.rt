@@ -1,18 +1,21 @@
-//! A test of rows: whether they are written as they were read.
+//! A test of rows: whether they are written as they were read, or what is written of them stands in their fields.
 ghost use Rattle.std.specs.Prelude.{◌≡◌, ◌<◌, [], true};
 ghost use Rattle.std.specs.List.{All};
 ghost use Rattle.pl_verbatim.specs.Kinds.{is_sound_kind};
 
+use crate::form::Form;
 use crate::kinds::Kind;
 use std::alloc::Global;
 
-/// How rows stand that are written as they were read, where such rows are looked for.
+/// How rows stand that are written as they were read, or otherwise by a form, where such rows are looked for.
 #[derive(Drop)]
 pub struct Verbatim {
     // One for each column; none where no rows are looked for.
     pub(crate) kinds: Vec<Kind>,
     pub(crate) separator: u8,
     pub(crate) quote_char: u8,
+    // How they are written, unless they are written as they were read.
+    pub(crate) form: Option<Form>,
     ghost sound: { All (λ kind. is_sound_kind kind ≡ true) kinds.items },
     ghost ascii: { quote_char < 128 },
 }
@@ -33,6 +36,7 @@ impl Verbatim {
             kinds: Vec::new(alloc),
             separator: b',',
             quote_char: b'"',
+            form: None,
         }
     }
 }

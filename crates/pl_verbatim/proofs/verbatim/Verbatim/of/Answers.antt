@@ -1,13 +1,38 @@
-use Rattle.std.proofs.Common.{refl}
+use Rattle.std.proofs.Common.{◌≡◌, None, Some, refl, sym, ap, ◌∙◌, subst}
+use Rattle.pl_write.specs.Options.{cell_options}
+use Rattle.pl_verbatim.specs.CellTexts.{as_read}
+use Rattle.pl_verbatim.specs.Changes.{IsFormOf}
+use Rattle.pl_verbatim.specs.Verbatim.{IsReadSo}
 use Rattle.pl_verbatim.proofs.LineLaws.{are-readable}
 use Rattle.pl_verbatim.proofs.verbatim.Verbatim.of.Goals as goal
+use Rattle.pl_verbatim.proofs.verbatim.Verbatim.of.Goals.{then-is_same, else-is_same+in_ok-of}
 
 pub kinds_of-requires : goal.kinds_of-requires
-kinds_of-requires c = are-readable c.args.schema.now c.args.plan.now.projection.places.now c.if-not-is_written_as_read.ensures.places c.requires.readable
+kinds_of-requires c = are-readable c.args.schema.now c.args.plan.now.projection.places.now c.if-not-is_read_so.ensures.places c.requires.readable
 
 pub returns : goal.returns
-returns c = λ some. record {
-  rows = c.if-not-is_written_as_read.ensures;
-  cells = record { separator_is = refl; quote_is = refl; style_is = c.if-not-is_written_as_read.ensures.style; null_is = c.if-not-is_written_as_read.ensures.null };
-  kinds = c.in_ok-kinds_of.ensures.kinds some;
-}
+returns c =
+    let o = cell_options c.args.options.now in
+    let separator = c.args.plan.now.dialect.separator in
+    record {
+      same = λ none some.
+          let alike : o ≡ as_read separator o = elim c.if-is_same.branch [ then-is_same w ↦ w.if-is_same.ensures | else-is_same+in_ok-of w ↦ let other = sym w.form-is ∙ none in absurd (cc) ] in
+          record {
+            rows = record {
+              read = subst (IsReadSo c.args.plan.now c.args.schema.now) (sym alike) c.if-not-is_read_so.ensures;
+              terminator = ap (λ o. o.terminator) alike;
+              null = ap (λ o. o.null) alike;
+              style = ap (λ o. o.style) alike;
+            };
+            cells = record { separator_is = ap (λ o. o.separator) alike; quote_is = refl; style_is = ap (λ o. o.style) alike; null_is = ap (λ o. o.null) alike };
+            kinds = c.in_ok-kinds_of.ensures.kinds some;
+          };
+      changed = λ form has some. record {
+        rows = c.if-not-is_read_so.ensures;
+        written = elim c.if-is_same.branch [
+          | then-is_same w ↦ let other = sym w.form-is ∙ has in absurd (cc)
+          | else-is_same+in_ok-of w ↦ let same : w.in_ok-of.field-0 ≡ form = let both = sym w.form-is ∙ has in cc in subst (IsFormOf o c.args.options.now.quote_char) same w.in_ok-of.ensures
+        ];
+        kinds = c.in_ok-kinds_of.ensures.kinds some;
+      };
+    }

@@ -1,13 +1,13 @@
 use Rattle.std.proofs.Common.{length, ◌-◌, ◌<◌, ◌≤◌, ◌+◌}
 use Rattle.std.specs.List.{slice_range}
 use Rattle.pl_verbatim.proofs.TextInnerLaws.{HasInner}
-use Rattle.pl_verbatim.proofs.texts.quoted_end.Given as goal
+use Rattle.pl_verbatim.proofs.texts.quoted_text_end.Given as goal
 
 abbrev pub invariant-loop-from : goal.invariant-loop-from
 invariant-loop-from l = record {
   behind : l.at < l.from;
   within : l.from ≤ length l.text;
-  read : HasInner l.separator l.quote (slice_range l.text (l.at + 1) l.from) l.is_needed;
+  read : HasInner l.quote (slice_range l.text (l.at + 1) l.from);
 }
 
 abbrev pub decreases-loop-from : goal.decreases-loop-from

@@ -1,6 +1,6 @@
 use Rattle.std.proofs.Common.{length, ◌-◌, ◌≤◌}
 use Rattle.pl_verbatim.specs.Verbatim.{AreRowsCopied}
-use Rattle.pl_verbatim.proofs.verbatim.Verbatim.copy.Given as goal
+use Rattle.pl_verbatim.proofs.verbatim.Verbatim.copy_same.Given as goal
 
 abbrev pub invariant-loop-end : goal.invariant-loop-end
 invariant-loop-end l = record {

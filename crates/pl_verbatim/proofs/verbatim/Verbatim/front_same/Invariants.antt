@@ -4,7 +4,7 @@ use Rattle.pl_text.specs.FrameText.{WriteOptions}
 use Rattle.pl_rows.specs.declared.plan.RangePlan.{RangePlan}
 use Rattle.pl_verbatim.specs.PrintedTexts.{CanPrint, IsFrontPrinted}
 use Rattle.pl_verbatim.specs.Verbatim.{IsVerbatimOf}
-use Rattle.pl_verbatim.proofs.verbatim.Verbatim.front.Given as goal
+use Rattle.pl_verbatim.proofs.verbatim.Verbatim.front_same.Given as goal
 
 abbrev pub invariant-loop-end : goal.invariant-loop-end
 invariant-loop-end l = record {

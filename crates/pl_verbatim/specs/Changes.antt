@@ -1,0 +1,88 @@
+-- Rows that are written otherwise than they were read.
+use Rattle.std.specs.Prelude.{◌≡◌, ℕ, ◌+◌, ◌<◌, ◌≤◌, Bool, true, false, not, if◌then◌else◌, List, [], ◌∷◌, ◌++◌, length, slice_index, slice_range}
+use Rattle.std.specs.List.{join_with_byte}
+use Rattle.pl_frame.specs.declared.data_type.DataType.{DataType}
+use Rattle.pl_frame.specs.Schema.{Entry}
+use Rattle.pl_frame.specs.Types.{is_readable}
+use Rattle.pl_text.specs.FrameText.{WriteOptions, is_bare, written_null}
+use Rattle.pl_round_trip.specs.Fits.{FitsOptions}
+use Rattle.pl_verbatim.specs.declared.form.Form.{Form}
+use Rattle.pl_verbatim.specs.declared.found.Found.{Found}
+use Rattle.pl_verbatim.specs.declared.kinds.Kind.{Kind}
+use Rattle.pl_verbatim.specs.CellTexts.{as_read, zeros_text, IsChangeOf}
+use Rattle.pl_verbatim.specs.Kinds.{AreReadable, AreKindsOf, IsKindOf}
+
+-- ---- options
+
+-- cells are written with this quote and by this form, not without any quotes
+pub record IsFormOf (o : WriteOptions) (quote : ℕ) (form : Form) : Type 0 where
+  pub quote_is : o.quote ≡ quote
+  pub separator_is : o.separator ≡ form.separator
+  pub few : o.style < 3
+  pub numbers_are : form.quotes_numbers ≡ not (is_bare o.style true)
+  pub values_are : form.quotes_values ≡ not (is_bare o.style false)
+  pub null_is : form.null.items ≡ written_null o
+  pub terminator_is : form.terminator.items ≡ o.terminator
+
+-- ---- cells
+
+-- a text between quotes, or without
+abbrev pub framed : Bool → ℕ → List ℕ → List ℕ
+framed is_quoted quote text = if is_quoted then quote ∷ (text ++ quote ∷ []) else text
+
+-- a text is what is written of a field's cell, for each type of the kind
+abbrev pub IsChangeOfKind : ℕ → ℕ → Form → Kind → List ℕ → List ℕ → Type 0
+IsChangeOfKind separator quote form kind field written =
+    (o : WriteOptions) (type : DataType) → FitsOptions (as_read separator o) → IsFormOf o quote form → is_readable type ≡ true → IsKindOf type kind → IsChangeOf (as_read separator o) o type field written
+
+-- what was found in a text
+abbrev pub found_text : List ℕ → ℕ → Found → List ℕ
+found_text text quote found = framed found.is_quoted quote (slice_range text found.start found.stop ++ zeros_text found.zeros)
+
+-- the field of a cell of a kind stands at a place, with a mark behind it, and what is written of the cell was found
+pub record IsFound (text : List ℕ) (at : ℕ) (kind : Kind) (mark separator quote : ℕ) (form : Form) (found : Found) : Type 0 where
+  pub after : at ≤ found.end
+  pub within : found.end < length text
+  pub mark_is : slice_index text found.end ≡ mark
+  pub ordered : found.start ≤ found.stop
+  pub inside : found.stop ≤ length text
+  pub few : found.zeros ≤ 9
+  pub cell : IsChangeOfKind separator quote form kind (slice_range text at found.end) (found_text text quote found)
+
+-- The field of a cell of a kind stands at a place, with a mark behind it, which ends at another place, and lines grew by what is written of the cell.
+pub record IsCellPut (text : List ℕ) (at next : ℕ) (kind : Kind) (mark separator quote : ℕ) (form : Form) (before now : List ℕ) : Type 0 where
+  pub end : ℕ
+  pub next_is : next ≡ end + 1
+  pub after : at ≤ end
+  pub within : end < length text
+  pub mark_is : slice_index text end ≡ mark
+  pub written : List ℕ
+  pub now_is : now ≡ before ++ written
+  pub cell : IsChangeOfKind separator quote form kind (slice_range text at end) written
+
+-- ---- lines
+
+-- fields of the columns of a schema, each once and in order, with what is written of their cells
+abbrev pub AreChangesOf : WriteOptions → WriteOptions → List Entry → List (List ℕ) → List (List ℕ) → Type 0
+AreChangesOf r o [] [] [] = Unit {0}
+AreChangesOf r o (entry ∷ schema) (field ∷ fields) (written ∷ others) = IsChangeOf r o entry.1 field written × AreChangesOf r o schema fields others
+AreChangesOf r o schema fields written = ⊥
+
+-- a line has such fields, with a separator between two of them and a line feed behind the last; and what is written of it has what is written of them
+pub record IsLineChangeOf (r o : WriteOptions) (schema : List Entry) (line copy : List ℕ) : Type 0 where
+  pub fields : List (List ℕ)
+  pub written : List (List ℕ)
+  pub changes : AreChangesOf r o schema fields written
+  pub line_is : line ≡ join_with_byte r.separator fields ++ 10 ∷ []
+  pub copy_is : copy ≡ join_with_byte o.separator written ++ o.terminator
+
+-- what is written of a line, for each schema of the kinds
+abbrev pub IsLineChangeOfKinds : ℕ → ℕ → Form → List Kind → List ℕ → List ℕ → Type 0
+IsLineChangeOfKinds separator quote form kinds line copy =
+    (o : WriteOptions) (schema : List Entry) → FitsOptions (as_read separator o) → IsFormOf o quote form → AreReadable schema → AreKindsOf schema kinds → IsLineChangeOf (as_read separator o) o schema line copy
+
+-- the line of a row ends at a place, and lines grew by what is written of it
+pub record IsRowPut (text : List ℕ) (start : ℕ) (kinds : List Kind) (separator quote : ℕ) (form : Form) (before now : List ℕ) (end : ℕ) : Type 0 where
+  pub copy : List ℕ
+  pub now_is : now ≡ before ++ copy
+  pub line : IsLineChangeOfKinds separator quote form kinds (slice_range text start end) copy

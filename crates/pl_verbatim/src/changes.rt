@@ -1,0 +1,192 @@
+//! Rows that are written otherwise than they were read: what is written of them is put into a block.
+ghost use Rattle.std.specs.Prelude.{◌≡◌, ◌+◌, ◌-◌, ◌<◌, ◌≤◌, ◌∷◌, [], ◌++◌, true, length, take, slice_range, IfSome, IfNone};
+ghost use Rattle.std.specs.List.{All};
+ghost use Rattle.pl_verbatim.specs.Changes.{found_text, IsCellPut, IsRowPut};
+ghost use Rattle.pl_verbatim.specs.CellTexts.{zeros_text};
+ghost use Rattle.pl_verbatim.specs.Kinds.{is_sound_kind};
+
+use crate::form::Form;
+use crate::found::{Found, find};
+use crate::kinds::Kind;
+use crate::marks::Marks;
+use crate::puts::{put_byte, put_byte_if, put_bytes};
+
+// What is written of a cell needs no more room beside its text: two quotes, a point and zeros, a mark, and what a copy of fixed size puts behind it.
+const ROOM: usize = 64;
+
+// Puts what stands from one place to another. A short text goes there with what stands behind it.
+#[inline(always)]
+fn put_part(text: &[u8], from: usize, to: usize, out: &mut [u8], place: usize) -> usize
+    requires ordered { from ≤ to }
+    requires inside { to ≤ length text.now }
+    requires room { place + (to - from) + 32 ≤ length out.old }
+    ensures text { take result out.new ≡ take place out.old ++ slice_range text.now from to }
+    ensures end { result ≡ place + (to - from) }
+{
+    let count = to - from;
+    if count <= 16 && text.len() - from >= 16 {
+        put_bytes(out, place, &text[from..from + 16]);
+        return place + count;
+    }
+    if count <= 32 && text.len() - from >= 32 {
+        put_bytes(out, place, &text[from..from + 32]);
+        return place + count;
+    }
+    put_bytes(out, place, &text[from..to])
+}
+
+// Puts a point and so many zeros, where there are such.
+#[inline(always)]
+fn put_zeros(zeros: usize, out: &mut [u8], place: usize) -> usize
+    requires few { zeros ≤ 9 }
+    requires room { place + 10 ≤ length out.old }
+    ensures text { take result out.new ≡ take place out.old ++ zeros_text zeros }
+    ensures end { result ≤ place + 10 }
+{
+    if zeros == 0 {
+        return place;
+    }
+    put_bytes(out, place, &b".000000000"[..zeros + 1])
+}
+
+// Puts what was found, where there is room.
+#[inline(always)]
+fn put_found(text: &[u8], found: Found, quote: u8, out: &mut [u8], place: usize) -> Option<usize>
+    requires ordered { found.start ≤ found.stop }
+    requires inside { found.stop ≤ length text.now }
+    requires few { found.zeros ≤ 9 }
+    requires place { place ≤ length out.old }
+    ensures text { IfSome result (λ end. take end out.new ≡ take place out.old ++ found_text text.now quote found) }
+    ensures within { IfSome result (λ end. end < length out.new) }
+    ensures long { length out.new ≡ length out.old }
+    ensures unchanged { IfNone result (out.new ≡ out.old) }
+{
+    let room = out.len() - place;
+    if room < ROOM || found.stop - found.start > room - ROOM {
+        return None;
+    }
+    let opened = put_byte_if(out, place, quote, found.is_quoted);
+    let behind = put_part(text, found.start, found.stop, out, opened);
+    let closing = put_zeros(found.zeros, out, behind);
+    Some(put_byte_if(out, closing, quote, found.is_quoted))
+}
+
+// Puts a text, most often an empty one or one byte, where there is room.
+#[inline(always)]
+fn put_text(text: &[u8], out: &mut [u8], place: usize) -> Option<usize>
+    requires place { place ≤ length out.old }
+    ensures text { IfSome result (λ end. take end out.new ≡ take place out.old ++ text.now) }
+    ensures within { IfSome result (λ end. end < length out.new) }
+    ensures long { length out.new ≡ length out.old }
+    ensures unchanged { IfNone result (out.new ≡ out.old) }
+{
+    if text.len() >= out.len() - place {
+        return None;
+    }
+    match text {
+        [] => Some(place),
+        [byte] => Some(put_byte(out, place, *byte)),
+        _ => Some(put_bytes(out, place, text)),
+    }
+}
+
+// Puts what is written of the cell at a place, where there is room, and answers the place behind the mark that ends its field, and the place behind
+// what was put. `CALLER` is that of `cell_end`.
+#[inline(always)]
+fn put_cell<const CALLER: usize>(
+    text: &[u8],
+    at: usize,
+    kind: Kind,
+    mark: u8,
+    separator: u8,
+    quote: u8,
+    form: &Form,
+    marks: &mut Marks,
+    out: &mut [u8],
+    place: usize,
+) -> Option<(usize, usize)>
+    requires inside { at ≤ length text.now }
+    requires sound { is_sound_kind kind ≡ true }
+    requires ascii { quote < 128 }
+    requires place { place ≤ length out.old }
+    ensures put { IfSome result (λ put. IsCellPut text.now at put.0 kind mark separator quote form.now (take place out.old) (take put.1 out.new)) }
+    ensures within { IfSome result (λ put. put.1 < length out.new) }
+    ensures long { length out.new ≡ length out.old }
+    ensures kept { take place out.new ≡ take place out.old }
+{
+    if at >= text.len() {
+        return None;
+    }
+    let ahead = marks.next(text, separator);
+    if text[at] == mark {
+        let end = put_text(&form.null, out, place)?;
+        return Some((marks.pass(ahead, text, at, separator), end));
+    }
+    let found = find::<CALLER>(text, at, kind, mark, separator, quote, form)?;
+    let end = put_found(text, found, quote, out, place)?;
+    Some((marks.pass(ahead, text, found.end, separator), end))
+}
+
+/// Puts what is written of the row at a place, where there is room, and answers the place behind its own line, and the place behind what was put.
+/// None also where no such row is found; what stands in front stays.
+#[inline]
+pub(crate) fn put_row(
+    text: &[u8],
+    start: usize,
+    kinds: &[Kind],
+    separator: u8,
+    quote: u8,
+    form: &Form,
+    marks: &mut Marks,
+    out: &mut [u8],
+    from: usize,
+) -> Option<(usize, usize)>
+    requires inside { start ≤ length text.now }
+    requires sound { All (λ kind. is_sound_kind kind ≡ true) kinds.now }
+    requires ascii { quote < 128 }
+    requires place { from ≤ length out.old }
+    ensures some { IfSome result (λ put. 0 < length kinds.now) }
+    ensures after { IfSome result (λ put. start < put.0) }
+    ensures within { IfSome result (λ put. put.0 ≤ length text.now) }
+    ensures room { IfSome result (λ put. put.1 ≤ length out.new) }
+    ensures long { length out.new ≡ length out.old }
+    ensures kept { take from out.new ≡ take from out.old }
+    ensures put { IfSome result (λ put. IsRowPut text.now start kinds.now separator quote form.now (take from out.old) (take put.1 out.new) put.0) }
+{
+    if kinds.is_empty() {
+        return None;
+    }
+    let last = kinds.len() - 1;
+    let mut at = start;
+    let mut place = from;
+    for index in 0..last {
+        let (next, end) = put_cell::<5>(
+            text,
+            at,
+            kinds[index],
+            separator,
+            separator,
+            quote,
+            form,
+            marks,
+            out,
+            place,
+        )?;
+        place = put_byte(out, end, form.separator);
+        at = next;
+    }
+    let (next, end) = put_cell::<6>(
+        text,
+        at,
+        kinds[last],
+        b'\n',
+        separator,
+        quote,
+        form,
+        marks,
+        out,
+        place,
+    )?;
+    let behind = put_text(&form.terminator, out, end)?;
+    Some((next, behind))
+}

@@ -1,11 +1,13 @@
 -- Texts between quotes, and what stands between them.
-use Rattle.std.proofs.Common.{◌≡◌, ℕ, suc, ◌+◌, ◌-◌, ◌<◌, ◌≤◌, Bool, true, false, ◌||◌, ◌==◌, if◌then◌else◌, List, [], ◌∷◌, ◌++◌, length, take, drop, get_or, refl, sym, ◌∙◌, ap, arith, length-append}
+use Rattle.std.proofs.Common.{◌≡◌, ℕ, suc, ◌+◌, ◌-◌, ◌<◌, ◌≤◌, Bool, true, false, not, ◌||◌, ◌==◌, if◌then◌else◌, List, [], ◌∷◌, ◌++◌, length, take, drop, get_or, refl, sym, ◌∙◌, ap, arith, length-append}
 use Rattle.std.proofs.Math.Seq.{take-append_seam}
 use Rattle.std.proofs.lemmas.Bool.Decides.{nat_tests}
-use Rattle.std.specs.List.{list_any, slice_range}
+use Rattle.std.specs.List.{list_any, prefix_len, slice_range}
 use Rattle.pl_text.specs.FrameText.{is_special, needs_quotes, doubled, quoted}
 use Rattle.pl_round_trip.proofs.FieldLaws.{bare-lacks, doubled-lacks, neither}
-use Rattle.pl_verbatim.specs.CellTexts.{IsQuotedText, IsWrittenText}
+use Rattle.pl_verbatim.specs.CellTexts.{IsQuotedText, IsWrittenText, IsBareText}
+use Rattle.pl_verbatim.proofs.CopyLaws.{quotes-at}
+use Rattle.pl_verbatim.proofs.TextLaws.{is_stop, front-bare}
 use Rattle.pl_verbatim.proofs.TextInnerLaws.{slice_join, slice_one}
 
 or-twice : (a b : Bool) → (a || (a || b)) ≡ (a || b)
@@ -80,3 +82,16 @@ pub inside-parts : (text : List ℕ) (at end q : ℕ) → at + 2 ≤ end → end
     → slice_range text at end ≡ q ∷ (slice_range text (at + 1) (end - 1) ++ q ∷ [])
 inside-parts text at end q long inside is =
     is.text_is ∙ ap (λ l. q ∷ (l ++ q ∷ [])) (sym (inside-slice text at end q (doubled q is.inner) long inside is.text_is))
+
+-- a text without quotes in it, between quotes
+pub bare-quoted : (q : ℕ) (text : List ℕ) (at count : ℕ) → at + 1 + 32 ≤ length text → count ≡ prefix_len (λ x. not (is_stop q q x)) (slice_range text (at + 1) (at + 1 + 32)) → 0 < count → count < 32
+    → get_or text at 0 ≡ q → get_or text (at + 1 + count) 0 ≡ q → IsQuotedText q (slice_range text at (at + 1 + count + 1))
+bare-quoted q text at count room is some few opens closes =
+    let inner = slice_range text (at + 1) (at + 1 + count) in
+    let bare : IsBareText q q inner = front-bare q q text (at + 1) 32 count room is some few in
+    let none = (neither (length inner == 0) (list_any (is_special q q) inner) bare.bare).1 in
+    record {
+      inner = inner;
+      utf8 = bare.utf8;
+      text_is = quotes-at text at (at + 1 + count) q (omega arith) (omega (arith, room, few)) opens closes ∙ ap (λ l. q ∷ (l ++ q ∷ [])) (sym (doubled-lacks q inner (bare-lacks q q inner none).0));
+    }

@@ -46,7 +46,7 @@ five_tests a b c d e =
     ∙ in_order a b c d e
 
 -- a byte at which the front of a text that needs no quotes stops
-abbrev is_stop : ℕ → ℕ → ℕ → Bool
+abbrev pub is_stop : ℕ → ℕ → ℕ → Bool
 is_stop s q x = is_special s q x || nat_le 128 x
 
 abbrev hit : ℕ → ℕ → ℕ

@@ -9,7 +9,7 @@ use crate::form::Form;
 use crate::found::{Found, find};
 use crate::kinds::Kind;
 use crate::marks::Marks;
-use crate::puts::{put_byte, put_byte_if, put_bytes};
+use pl_write::puts::{put_byte, put_byte_if, put_bytes};
 
 // What is written of a cell needs no more room beside its text: two quotes, a point and zeros, a mark, and what a copy of fixed size puts behind it.
 const ROOM: usize = 64;

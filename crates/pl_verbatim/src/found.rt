@@ -9,7 +9,7 @@ use crate::form::Form;
 use crate::kinds::Kind;
 use crate::moments::{fraction_end, seconds_end};
 use crate::texts::{bare_text_end, quoted_text_end};
-use crate::needing::is_quoting_needed;
+use pl_write::texts::is_quoting_needed;
 
 /// The end of a field, and what is written of its cell: what stands from one place to another, with so many zeros behind a point, where there
 /// are such, and between quotes or not.

@@ -14,8 +14,6 @@ mod front;
 pub mod kinds;
 mod marks;
 mod moments;
-mod needing;
-mod puts;
 mod rows;
 mod texts;
 pub mod verbatim;

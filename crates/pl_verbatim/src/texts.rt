@@ -6,7 +6,7 @@ ghost use Rattle.pl_verbatim.specs.CellTexts.{IsWrittenText, IsQuotedText, IsBar
 
 use memchr::memchr;
 use pl_cells::utf8::validate_utf8;
-use crate::needing::is_quoting_needed;
+use pl_write::texts::is_quoting_needed;
 use std::simd::prelude::*;
 
 // How many of 32 bytes stand before the first that only a quoted text may hold, or that is not ASCII.
@@ -65,7 +65,8 @@ fn bare_end(text: &[u8], at: usize, separator: u8, quote: u8) -> Option<usize>
     }
 }
 
-/// The place behind the text between quotes that begins at a place.
+/// The place behind the text between quotes that begins at a place. A short one that is ASCII is seen at once.
+#[inline]
 pub(crate) fn quoted_text_end(text: &[u8], at: usize, quote: u8) -> Option<usize>
     requires inside { at < length text.now }
     requires quote { slice_index text.now at ≡ quote }
@@ -74,7 +75,20 @@ pub(crate) fn quoted_text_end(text: &[u8], at: usize, quote: u8) -> Option<usize
     ensures within { IfSome result (λ end. end ≤ length text.now) }
     ensures text { IfSome result (λ end. IsQuotedText quote (slice_range text.now at end)) }
 {
-    let mut from = at + 1;
+    let inner = at + 1;
+    if text.len() - inner >= 32 {
+        let count = count_before_stop(&text[inner..inner + 32], quote, quote);
+        let end = inner + count + 1;
+        if 0 < count
+            && count < 32
+            && text[inner + count] == quote
+            && end < text.len()
+            && text[end] != quote
+        {
+            return Some(end);
+        }
+    }
+    let mut from = inner;
     while from < text.len() {
         let count = memchr(quote, &text[from..])?;
         if !validate_utf8(&text[from..from + count]) {

@@ -4,7 +4,7 @@ ghost use Rattle.std.specs.Prelude.{◌≡◌, ◌++◌, ◌∷◌, [], ◌+◌,
 
 /// Puts a byte.
 #[inline(always)]
-pub(crate) fn put_byte(to: &mut [u8], at: usize, byte: u8) -> usize
+pub fn put_byte(to: &mut [u8], at: usize, byte: u8) -> usize
     requires room { at < length to.old }
     ensures text { take result to.new ≡ take at to.old ++ byte ∷ [] }
     ensures end { result ≡ at + 1 }
@@ -15,7 +15,7 @@ pub(crate) fn put_byte(to: &mut [u8], at: usize, byte: u8) -> usize
 
 /// Puts a byte where it is wanted, without a branch.
 #[inline(always)]
-pub(crate) fn put_byte_if(to: &mut [u8], at: usize, byte: u8, wanted: bool) -> usize
+pub fn put_byte_if(to: &mut [u8], at: usize, byte: u8, wanted: bool) -> usize
     requires room { at < length to.old }
     ensures text { take result to.new ≡ take at to.old ++ (if wanted then byte ∷ [] else []) }
     ensures end { result ≤ at + 1 }
@@ -26,7 +26,7 @@ pub(crate) fn put_byte_if(to: &mut [u8], at: usize, byte: u8, wanted: bool) -> u
 
 /// Puts the first bytes of eight.
 #[inline(always)]
-pub(crate) fn put_front(to: &mut [u8], at: usize, bytes: [u8; 8], count: usize) -> usize
+pub fn put_front(to: &mut [u8], at: usize, bytes: [u8; 8], count: usize) -> usize
     requires room { at + 8 ≤ length to.old }
     requires few { count ≤ 8 }
     ensures text { take result to.new ≡ take at to.old ++ take count bytes }
@@ -38,7 +38,7 @@ pub(crate) fn put_front(to: &mut [u8], at: usize, bytes: [u8; 8], count: usize) 
 
 /// Puts bytes.
 #[inline(always)]
-pub(crate) fn put_bytes(to: &mut [u8], at: usize, bytes: &[u8]) -> usize
+pub fn put_bytes(to: &mut [u8], at: usize, bytes: &[u8]) -> usize
     requires room { at + length bytes.now ≤ length to.old }
     ensures text { take result to.new ≡ take at to.old ++ bytes.now }
     ensures end { result ≡ at + length bytes.now }

@@ -9,9 +9,9 @@ use crate::special::holds_special;
 use memchr::memchr;
 use std::alloc::AllocError;
 
-// Whether a text is quoted where quotes are written only if necessary.
+/// Whether a text is quoted where quotes are written only if necessary.
 #[inline]
-pub(crate) fn is_quoting_needed(text: &[u8], separator: u8, quote: u8) -> bool
+pub fn is_quoting_needed(text: &[u8], separator: u8, quote: u8) -> bool
     ensures { result ≡ needs_quotes separator quote text.now }
 {
     text.is_empty() || holds_special(text, separator, quote)

@@ -29,3 +29,6 @@ returns-then-end-text-clause-text c =
     let utf8 : is_utf8 (slice_range text from (from + count)) ≡ true = sym c.validate_utf8.ensures ∙ c.if-not-validate_utf8.false in
     let has = part_read c.args.quote text from count inside found c.args.at c.loop-from.invariant.behind c.loop-from.invariant.read utf8 in
     text_read c.args.quote text from count inside found c.args.at c.loop-from.invariant.behind c.requires.quote has
+
+pub returns-then-text-end-clause-text : goal.returns-then-text-end-clause-text
+returns-then-text-end-clause-text c = ?

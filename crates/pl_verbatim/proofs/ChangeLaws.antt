@@ -1,5 +1,5 @@
 -- Cells that are written otherwise than they were read: what is written of each, by what is written of it where it is written as it was read.
-use Rattle.std.proofs.Common.{◌≡◌, ℕ, ◌+◌, ◌-◌, ◌<◌, ◌≤◌, Bool, true, false, not, ◌||◌, ◌==◌, cond, if◌then◌else◌, List, [], ◌∷◌, ◌++◌, length, Option, None, Some, refl, sym, ◌∙◌, ap, ap₂, subst, inl, arith, take, drop, length-append, append-nil, zero, suc, Ok}
+use Rattle.std.proofs.Common.{◌≡◌, ℕ, ◌+◌, ◌-◌, ◌<◌, ◌≤◌, Bool, true, false, not, ◌||◌, ◌==◌, cond, if◌then◌else◌, List, [], ◌∷◌, ◌++◌, length, Option, None, Some, refl, sym, ◌∙◌, ap, ap₂, subst, inl, inr, arith, take, drop, length-append, append-nil, zero, suc, Ok}
 use Rattle.std.specs.List.{list_any, slice_range}
 use Rattle.std.proofs.lemmas.List.{length-take-le, length-drop}
 use Rattle.pl_frame.specs.declared.data_type.DataType.{DataType}
@@ -9,7 +9,9 @@ use Rattle.pl_frame.specs.Types.{is_numeric, is_text, is_readable, is_whole_numb
 use Rattle.pl_text.specs.ValueText.{printed}
 use Rattle.pl_text.specs.FrameText.{WriteOptions, is_bare, is_special, needs_quotes, doubled, quoted, written_text, written_value, written_null, written_cell}
 use Rattle.pl_cells.specs.Cells.{cell}
-use Rattle.pl_cells.specs.NullValues.{means_null}
+use Rattle.pl_cells.specs.NullTest.{nothing_is_null}
+use Rattle.pl_cells.specs.NullValues.{means_null, is_null_text}
+use Rattle.pl_cells.specs.declared.null_values.NullValuesCompiled.{NullValuesCompiled}
 use Rattle.pl_round_trip.specs.RoundTrip.{IsFieldText, line_marks}
 use Rattle.pl_round_trip.specs.Fits.{FitsOptions, FitsValue, FitsCell}
 use Rattle.pl_round_trip.proofs.FieldLaws.{lacks, lacks-plain, bare-lacks, doubled-lacks, neither, text_type}
@@ -19,7 +21,8 @@ use Rattle.pl_verbatim.specs.declared.form.Form.{Form}
 use Rattle.pl_verbatim.specs.declared.kinds.Kind.{Kind}
 use Rattle.pl_verbatim.specs.declared.kinds.Kind.TheVariants as kind
 use Rattle.pl_verbatim.specs.CellTexts.{as_read, IsQuotedText, IsBareText, IsSecondsText, IsCellOptions, IsCellOf, IsChangeOf, zeros_text}
-use Rattle.pl_verbatim.specs.Changes.{IsFormOf, framed, IsChangeOfKind}
+use Rattle.pl_verbatim.specs.Changes.{IsFormOf, framed, null_test_of, IsNullField, IsOtherField, IsChangeOfKind}
+use Rattle.pl_verbatim.proofs.NullLaws.{cell-missing}
 use Rattle.pl_verbatim.specs.Kinds.{IsKindOf, HoldsMoments}
 use Rattle.pl_verbatim.proofs.CellLaws.{IsCellOfKind, value-fits, no-written_null}
 use Rattle.pl_verbatim.proofs.CopyLaws.{whole-other, cell-read, cell-field, quoted-read}
@@ -50,12 +53,63 @@ slice-some text at end less inside = omega (arith, less, inside, length-take-le 
 
 -- ---- nulls
 
-pub null-change : (separator quote : ℕ) (form : Form) (own : Kind) → IsChangeOfKind separator quote form own [] form.null.items
-null-change separator quote form own o type fits is can holds =
+-- a field that means null is written as a null
+pub null-change : (separator quote : ℕ) (form : Form) (own : Kind) (field : List ℕ) → IsNullField (null_test_of form) quote field
+    → ((o : WriteOptions) → FitsOptions (as_read separator o) → IsFormOf o quote form → (type : DataType) → is_readable type ≡ true → IsKindOf type own → IsFieldText (line_marks (as_read separator o)) field)
+    → IsChangeOfKind separator quote form (null_test_of form) own field form.null.items
+null-change separator quote form own field null stands o type fits is can holds = record {
+  value = None;
+  cell_is = λ reading missing. ap (λ q. cell reading (null_test_of form) (Some q) type field) is.quote_is ∙ null reading type;
+  field_text = stands o fits is type can holds;
+  written_is = is.null_is;
+}
+
+-- a text without special bytes stands in a line
+pub bare-stands : (separator quote : ℕ) (form : Form) (own : Kind) (field : List ℕ) → list_any (is_special separator quote) field ≡ false
+    → (o : WriteOptions) → FitsOptions (as_read separator o) → IsFormOf o quote form → (type : DataType) → is_readable type ≡ true → IsKindOf type own → IsFieldText (line_marks (as_read separator o)) field
+bare-stands separator quote form own field bare o fits is type can holds =
+    subst (IsFieldText (line_marks (as_read separator o))) (append-nil field)
+    (written-field (as_read separator o) field [] fits (inr (ap (λ q. list_any (is_special separator q) field) is.quote_is ∙ bare)) (inl refl))
+
+-- the same of the form of these texts
+pub null-of : (form : Form) (nulls : NullValuesCompiled) (quote : ℕ) (field : List ℕ) → form.nulls ≡ Some nulls → IsNullField (is_null_text nulls 0) quote field → IsNullField (null_test_of form) quote field
+null-of form nulls quote field is null reading type = ap (λ n. cell reading (means_null n 0) (Some quote) type field) is ∙ null reading type
+
+pub other-of : (form : Form) (nulls : NullValuesCompiled) (quote : ℕ) (field : List ℕ) → form.nulls ≡ Some nulls → IsOtherField (is_null_text nulls 0) quote field → IsOtherField (null_test_of form) quote field
+other-of form nulls quote field is other reading type = ap (λ n. cell reading (means_null n 0) (Some quote) type field) is ∙ other reading type
+
+-- a field that does not mean null is written as where no text does
+pub other-change : (separator quote : ℕ) (form : Form) (own : Kind) (field written : List ℕ) → IsOtherField (null_test_of form) quote field → IsChangeOfKind separator quote form nothing_is_null own field written
+    → IsChangeOfKind separator quote form (null_test_of form) own field written
+other-change separator quote form own field written other change o type fits is can holds =
+    let own_change = change o type fits is can holds in
+    record {
+      value = own_change.value;
+      cell_is = λ reading missing.
+          ap (λ q. cell reading (null_test_of form) (Some q) type field) is.quote_is
+          ∙ other reading type
+          ∙ ap (λ q. cell reading nothing_is_null (Some q) type field) (sym is.quote_is)
+          ∙ own_change.cell_is reading missing;
+      field_text = own_change.field_text;
+      written_is = own_change.written_is;
+    }
+
+-- where no texts mean null, each field is such a one
+pub other-none : (form : Form) (quote : ℕ) (field : List ℕ) → form.nulls ≡ None → IsOtherField (null_test_of form) quote field
+other-none form quote field none reading type = ap (λ n. cell reading (means_null n 0) (Some quote) type field) none
+
+-- nothing is missing: a null
+pub missing-change : (separator quote : ℕ) (form : Form) (own : Kind) → IsChangeOfKind separator quote form (null_test_of form) own [] form.null.items
+missing-change separator quote form own o type fits is can holds =
     let r = as_read separator o in
     let here : IsCellOf r type [] = record { value = None; fits = tt; text_is = refl } in
     let null = no-written_null r separator quote (read-options separator quote form o is) in
-    record { value = None; cell_is = cell-read r type [] fits null can here; field_text = cell-field r type [] fits can here; written_is = is.null_is }
+    record {
+      value = None;
+      cell_is = λ reading missing. cell-missing reading (null_test_of form) o.quote type ∙ cell-read r type [] fits null can here reading missing;
+      field_text = cell-field r type [] fits can here;
+      written_is = is.null_is;
+    }
 
 -- ---- values that are no texts
 
@@ -85,7 +139,7 @@ restyled s o type (Some (Truth b)) text fits can other held some is =
 -- a value that is no text, as it stands
 pub value-change : (separator quote : ℕ) (form : Form) (own : Kind) (text : List ℕ) (is_quoted : Bool) → ((type : DataType) → IsKindOf type own → is_text type ≡ false) → 0 < length text
     → IsCellOfKind separator quote own text → ((o : WriteOptions) (q : ℕ) (type : DataType) → IsFormOf o q form → IsKindOf type own → is_quoted ≡ not (is_bare o.style (is_numeric type)))
-    → IsChangeOfKind separator quote form own text (framed is_quoted quote (text ++ []))
+    → IsChangeOfKind separator quote form nothing_is_null own text (framed is_quoted quote (text ++ []))
 value-change separator quote form own text is_quoted other some cells quotes o type fits is can holds =
     let r = as_read separator o in
     let options = read-options separator quote form o is in
@@ -100,19 +154,19 @@ value-change separator quote form own text is_quoted other some cells quotes o t
 -- a value that is no text, between quotes
 pub quoted-value_change : (separator quote : ℕ) (form : Form) (own : Kind) (text : List ℕ) (is_quoted : Bool) → ((type : DataType) → IsKindOf type own → is_text type ≡ false) → 0 < length text
     → IsCellOfKind separator quote own text → ((o : WriteOptions) (q : ℕ) (type : DataType) → IsFormOf o q form → IsKindOf type own → is_quoted ≡ not (is_bare o.style (is_numeric type)))
-    → IsChangeOfKind separator quote form own (quote ∷ (text ++ quote ∷ [])) (framed is_quoted quote (text ++ []))
+    → IsChangeOfKind separator quote form nothing_is_null own (quote ∷ (text ++ quote ∷ [])) (framed is_quoted quote (text ++ []))
 quoted-value_change separator quote form own text is_quoted other some cells quotes o type fits is can holds =
     let options = read-options separator quote form o is in
     let here : IsCellOf (as_read separator o) type text = cells (as_read separator o) type options holds in
-    subst (λ q. IsChangeOf (as_read separator o) o type (q ∷ (text ++ q ∷ [])) (framed is_quoted quote (text ++ []))) is.quote_is
+    subst (λ q. IsChangeOf (as_read separator o) o nothing_is_null type (q ∷ (text ++ q ∷ [])) (framed is_quoted quote (text ++ []))) is.quote_is
     (by here.value here.fits here.text_is (other type holds)
     (λ value held written. (λ j. framed (quotes o quote type is holds j) (sym is.quote_is j) (append-nil text j)) ∙ restyled separator o type value text fits can (other type holds) held some written))
   where
     between : (value : Scalar) → FitsValue (as_read separator o) type value → framed is_quoted quote (text ++ []) ≡ written_cell o type (Some value)
-        → o.quote ∷ (text ++ o.quote ∷ []) ≡ quoted o.quote (printed type value) → IsChangeOf (as_read separator o) o type (o.quote ∷ (text ++ o.quote ∷ [])) (framed is_quoted quote (text ++ []))
+        → o.quote ∷ (text ++ o.quote ∷ []) ≡ quoted o.quote (printed type value) → IsChangeOf (as_read separator o) o nothing_is_null type (o.quote ∷ (text ++ o.quote ∷ [])) (framed is_quoted quote (text ++ []))
     between value held written same = record {
       value = Some value;
-      cell_is = λ reading column missing. ap (cell reading (means_null None column) (Some o.quote) type) same ∙ quoted-read (as_read separator o) type value fits can held reading column;
+      cell_is = λ reading missing. ap (cell reading nothing_is_null (Some o.quote) type) same ∙ quoted-read (as_read separator o) type value fits can held reading;
       field_text = subst (IsFieldText (line_marks (as_read separator o))) (append-nil (quoted o.quote (printed type value)) ∙ sym same)
           (written-field (as_read separator o) (quoted o.quote (printed type value)) [] fits (inl (printed type value, refl)) (inl refl));
       written_is = written;
@@ -120,7 +174,7 @@ quoted-value_change separator quote form own text is_quoted other some cells quo
 
     by : (value : Option Scalar) → FitsCell (as_read separator o) type value → text ≡ written_cell (as_read separator o) type value → is_text type ≡ false
         → ((value : Option Scalar) → FitsCell (as_read separator o) type value → text ≡ written_cell (as_read separator o) type value → framed is_quoted quote (text ++ []) ≡ written_cell o type value)
-        → IsChangeOf (as_read separator o) o type (o.quote ∷ (text ++ o.quote ∷ [])) (framed is_quoted quote (text ++ []))
+        → IsChangeOf (as_read separator o) o nothing_is_null type (o.quote ∷ (text ++ o.quote ∷ [])) (framed is_quoted quote (text ++ []))
     by None held written no_text all = absurd (omega (arith, some, ap length written))
     by (Some (Letters letters)) held written no_text all =
         let text_is : is_text type ≡ true = text_type type letters (readable (as_read separator o) type (Letters letters) can held) in absurd (cc)
@@ -135,10 +189,10 @@ quoted-value_change separator quote form own text is_quoted other some cells quo
 
 -- a datetime without a fraction
 pub moment-change : (separator quote : ℕ) (form : Form) (places : ℕ) (text : List ℕ) → IsSecondsText text
-    → IsChangeOfKind separator quote form (kind.Datetime places) text (framed form.quotes_values quote (text ++ zeros_text places))
+    → IsChangeOfKind separator quote form nothing_is_null (kind.Datetime places) text (framed form.quotes_values quote (text ++ zeros_text places))
 moment-change separator quote form places text w o type fits is can holds =
     let lack = lacks-plain o.quote (text ++ zeros_text places) fits.quote (seconds-plain places type text holds w) in
-    subst (IsChangeOf (as_read separator o) o type text)
+    subst (IsChangeOf (as_read separator o) o nothing_is_null type text)
     (sym ((λ j. framed (is.values_are j) (sym is.quote_is j) (text ++ zeros_text places)) ∙ framed-value o false (text ++ zeros_text places) lack))
     (seconds-change (as_read separator o) o places type text fits holds w)
 
@@ -165,11 +219,11 @@ bare-framed true quote text lack = ap (λ l. quote ∷ (l ++ quote ∷ [])) (app
 bare-framed false quote text lack = append-nil text
 
 pub bare-change : (separator quote : ℕ) (form : Form) (own : Kind) (text : List ℕ) (is_quoted : Bool) → own ≡ kind.Text → IsBareText separator quote text
-    → is_quoted ≡ (form.quotes_values || needs_quotes form.separator quote text) → IsChangeOfKind separator quote form own text (framed is_quoted quote (text ++ []))
+    → is_quoted ≡ (form.quotes_values || needs_quotes form.separator quote text) → IsChangeOfKind separator quote form nothing_is_null own text (framed is_quoted quote (text ++ []))
 bare-change separator quote form own text is_quoted same b given =
-    subst (λ k. IsChangeOfKind separator quote form k text (framed is_quoted quote (text ++ []))) (sym same)
+    subst (λ k. IsChangeOfKind separator quote form nothing_is_null k text (framed is_quoted quote (text ++ []))) (sym same)
     (λ o type fits is can holds.
-    subst (λ t. IsChangeOf (as_read separator o) o t text (framed is_quoted quote (text ++ []))) (sym holds)
+    subst (λ t. IsChangeOf (as_read separator o) o nothing_is_null t text (framed is_quoted quote (text ++ []))) (sym holds)
     (let r = as_read separator o in
     let options = read-options separator quote form o is in
     let none = (neither (length text == 0) (list_any (is_special separator quote) text) b.bare).1 in
@@ -190,11 +244,11 @@ bare-change separator quote form own text is_quoted same b given =
 
 -- what is written of a text between quotes: it stays, or is what stands between them
 pub quoted-change : (separator quote : ℕ) (form : Form) (own : Kind) (field inside written : List ℕ) (stays : Bool) → own ≡ kind.Text → IsQuotedText quote field → field ≡ quote ∷ (inside ++ quote ∷ [])
-    → stays ≡ (form.quotes_values || needs_quotes form.separator quote inside) → written ≡ cond stays field inside → IsChangeOfKind separator quote form own field written
+    → stays ≡ (form.quotes_values || needs_quotes form.separator quote inside) → written ≡ cond stays field inside → IsChangeOfKind separator quote form nothing_is_null own field written
 quoted-change separator quote form own field inside written stays same text parts given is_written =
-    subst (λ k. IsChangeOfKind separator quote form k field written) (sym same)
+    subst (λ k. IsChangeOfKind separator quote form nothing_is_null k field written) (sym same)
     (λ o type fits is can holds.
-    subst (λ t. IsChangeOf (as_read separator o) o t field written) (sym holds)
+    subst (λ t. IsChangeOf (as_read separator o) o nothing_is_null t field written) (sym holds)
     (let r = as_read separator o in
     let options = read-options separator quote form o is in
     let inner = text.inner in
@@ -204,7 +258,7 @@ quoted-change separator quote form own field inside written stays same text part
     let needs : needs_quotes form.separator quote inside ≡ needs_quotes form.separator quote inner = ap (needs_quotes form.separator quote) here ∙ needs-doubled form.separator quote inner in
     record {
       value = Some (Letters inner);
-      cell_is = λ reading column missing. ap (cell reading (means_null None column) (Some o.quote) dtype.String) field_is ∙ quoted-read r dtype.String (Letters inner) fits refl held reading column;
+      cell_is = λ reading missing. ap (cell reading nothing_is_null (Some o.quote) dtype.String) field_is ∙ quoted-read r dtype.String (Letters inner) fits refl held reading;
       field_text = subst (IsFieldText (line_marks r)) (append-nil (quoted o.quote inner) ∙ sym field_is) (written-field r (quoted o.quote inner) [] fits (inl (inner, refl)) (inl refl));
       written_is =
           is_written

@@ -9,6 +9,7 @@ use Rattle.pl_text.specs.ValueText.{padded, date_text, clock_text, printed}
 use Rattle.pl_text.specs.FrameText.{WriteOptions, is_special, needs_quotes, quoted, written_text, written_value, written_null, written_cell}
 use Rattle.pl_frame.specs.Types.{is_numeric, is_text, is_readable, is_whole_number}
 use Rattle.pl_cells.specs.Cells.{Reading, cell}
+use Rattle.pl_cells.specs.NullTest.{nothing_is_null}
 use Rattle.pl_cells.specs.NullValues.{means_null}
 use Rattle.pl_round_trip.specs.RoundTrip.{IsFieldText, line_marks}
 use Rattle.pl_round_trip.specs.Fits.{FitsOptions, FitsValue, FitsCell}
@@ -30,11 +31,11 @@ use Rattle.pl_verbatim.proofs.NumberLaws.{slice-cons, slice-parts}
 
 -- it is read as the cell
 pub cell-read : (o : WriteOptions) (type : DataType) (field : List ℕ) → FitsOptions o → written_null o ≡ [] → is_readable type ≡ true → (here : IsCellOf o type field)
-    → (reading : Reading) (column : ℕ) → reading.missing_is_null ≡ true → cell reading (means_null None column) (Some o.quote) type field ≡ Ok here.value
-cell-read o type field fits null can here reading column missing =
-    ap (λ n. cell reading (means_null n column) (Some o.quote) type field) (sym (ap nulls_of null))
-    ∙ ap (cell reading (means_null (nulls_of (written_null o)) column) (Some o.quote) type) (here.text_is ∙ sym (append-nil (written_cell o type here.value)))
-    ∙ cell-returns o reading column type here.value [] fits can here.fits missing (inl refl)
+    → (reading : Reading) → reading.missing_is_null ≡ true → cell reading nothing_is_null (Some o.quote) type field ≡ Ok here.value
+cell-read o type field fits null can here reading missing =
+    ap (λ n. cell reading (means_null n 0) (Some o.quote) type field) (sym (ap nulls_of null))
+    ∙ ap (cell reading (means_null (nulls_of (written_null o)) 0) (Some o.quote) type) (here.text_is ∙ sym (append-nil (written_cell o type here.value)))
+    ∙ cell-returns o reading 0 type here.value [] fits can here.fits missing (inl refl)
 
 -- and it is the text of a field
 pub cell-field : (o : WriteOptions) (type : DataType) (field : List ℕ) → FitsOptions o → is_readable type ≡ true → IsCellOf o type field → IsFieldText (line_marks o) field
@@ -72,10 +73,10 @@ always-written o type (Truth b) = refl
 
 -- so it is read as the value, where no text means null
 pub quoted-read : (o : WriteOptions) (type : DataType) (value : Scalar) → FitsOptions o → is_readable type ≡ true → FitsValue o type value
-    → (reading : Reading) (column : ℕ) → cell reading (means_null None column) (Some o.quote) type (quoted o.quote (printed type value)) ≡ Ok (Some value)
-quoted-read o type value fits can held reading column =
-    ap (cell reading (means_null None column) (Some o.quote) type) (always-written o type value)
-    ∙ field-returns reading (means_null None column) (always o) type value (record {
+    → (reading : Reading) → cell reading nothing_is_null (Some o.quote) type (quoted o.quote (printed type value)) ≡ Ok (Some value)
+quoted-read o type value fits can held reading =
+    ap (cell reading nothing_is_null (Some o.quote) type) (always-written o type value)
+    ∙ field-returns reading nothing_is_null (always o) type value (record {
       readable = readable o type value can held;
       mark = fits.quote;
       no_return = fits.dialect.quote.1;
@@ -91,7 +92,7 @@ quotes-copy o type value text fits can held is written lack =
     ap (λ (l : List ℕ). o.quote ∷ (l ++ o.quote ∷ [])) (is ∙ sym (doubled-lacks o.quote (printed type value) lack)) in
     record {
       value = Some value;
-      cell_is = λ reading column missing. ap (cell reading (means_null None column) (Some o.quote) type) same ∙ quoted-read o type value fits can held reading column;
+      cell_is = λ reading missing. ap (cell reading nothing_is_null (Some o.quote) type) same ∙ quoted-read o type value fits can held reading;
       field_text = subst (IsFieldText (line_marks o)) (append-nil (quoted o.quote (printed type value)) ∙ sym same)
           (written-field o (quoted o.quote (printed type value)) [] fits (inl (printed type value, refl)) (inl refl));
       written_is = written;

@@ -8,7 +8,7 @@ use Rattle.pl_verbatim.specs.declared.verbatim.Verbatim.{Verbatim}
 use Rattle.pl_verbatim.specs.PrintedTexts.{IsTextPrinted}
 use Rattle.pl_verbatim.specs.Kinds.{AreKindsOf}
 use Rattle.pl_verbatim.specs.CellTexts.{as_read}
-use Rattle.pl_verbatim.specs.Changes.{IsRowPut}
+use Rattle.pl_verbatim.specs.Changes.{IsRowPut, null_test_of}
 use Rattle.pl_verbatim.specs.Verbatim.{IsRowCopied, AreRowsCopied}
 use Rattle.pl_verbatim.proofs.LineLaws.{are-readable, copy-printed, change-printed}
 use Rattle.pl_verbatim.proofs.NumberLaws.{slice-parts}
@@ -56,7 +56,7 @@ changed-more verbatim form text from end next rows kinds before lines now copied
       let line =
       row.line o schema given.rows.fits given.written (are-readable schema plan.projection.places.now given.rows.places can.readable) (subst (AreKindsOf schema) (sym same) given.kinds) in
       let both = IsTextPrinted-append plan schema o (slice_range text from end) (slice_range text end next) rows 1 copied.copy row.copy can.dialect (copied.printed plan schema o can is)
-      (change-printed plan schema (as_read verbatim.separator o) o can given.rows returns (slice_range text end next) row.copy line) in
+      (change-printed plan schema (as_read verbatim.separator o) o (null_test_of form) can given.rows given.nulls returns (slice_range text end next) row.copy line) in
       subst (λ t. IsTextPrinted plan schema o t (rows + 1) (copied.copy ++ row.copy)) (sym (slice-parts text from end next copied.after (omega (arith, after)))) both;
 }
 

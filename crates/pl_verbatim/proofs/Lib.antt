@@ -20,5 +20,6 @@ mod RowStepLaws
 mod RowCopyLaws
 mod MomentTextLaws
 mod MomentCellLaws
+mod NullLaws
 mod ChangeLaws
 mod RowChangeLaws

@@ -23,7 +23,7 @@ use Rattle.pl_table.specs.Rows.{Row, rows, row_at, ended_row}
 use Rattle.pl_cells.specs.Cells.{fault_of, value_of}
 use Rattle.pl_cells.specs.Cells as cells
 use Rattle.pl_cells.specs.InitBuffers.{entry_at, first_unreadable}
-use Rattle.pl_cells.specs.NullValues.{means_null}
+use Rattle.pl_cells.specs.NullTest.{NullTest, nothing_is_null}
 use Rattle.pl_rows.specs.declared.plan.RangePlan.{RangePlan}
 use Rattle.pl_rows.specs.Cells.{cell}
 use Rattle.pl_rows.specs.Columns.{read_column, frame_of_rows, entries_in, columns_in}
@@ -42,7 +42,7 @@ use Rattle.pl_verbatim.specs.Changes.{AreChangesOf, IsLineChangeOf}
 use Rattle.pl_verbatim.specs.Kinds.{AreReadable}
 use Rattle.pl_verbatim.specs.PrintedTexts.{CanPrint, IsTextPrinted}
 use Rattle.pl_verbatim.proofs.CopyLaws.{cell-copy}
-use Rattle.pl_verbatim.specs.Verbatim.{AreCellsOf, AreCopiesOf, IsLineOf, IsLineCopyOf, IsReadSo, IsWrittenAsRead}
+use Rattle.pl_verbatim.specs.Verbatim.{AreCellsOf, AreCopiesOf, IsLineOf, IsLineCopyOf, AreNulls, IsReadSo, IsWrittenAsRead}
 
 -- no fault for fields past the columns
 none-past : (p q : Bool) (found : ℕ × FaultKind) → cond (not p && (false && q)) (Some found) None ≡ None
@@ -101,45 +101,45 @@ are-readable schema places all none =
 -- ---- fields
 
 -- there is one for each column
-pub count-fields : (r o : WriteOptions) (schema : List Entry) (texts written : List (List ℕ)) → AreChangesOf r o schema texts written → length texts ≡ length schema
-count-fields r o [] [] [] are = refl
-count-fields r o [] [] (one ∷ others) are = absurd are
-count-fields r o [] (text ∷ texts) written are = absurd are
-count-fields r o (entry ∷ schema) [] written are = absurd are
-count-fields r o (entry ∷ schema) (text ∷ texts) [] are = absurd are
-count-fields r o (entry ∷ schema) (text ∷ texts) (one ∷ others) are = omega (arith, count-fields r o schema texts others are.1)
+pub count-fields : (r o : WriteOptions) (is_null : NullTest) (schema : List Entry) (texts written : List (List ℕ)) → AreChangesOf r o is_null schema texts written → length texts ≡ length schema
+count-fields r o is_null [] [] [] are = refl
+count-fields r o is_null [] [] (one ∷ others) are = absurd are
+count-fields r o is_null [] (text ∷ texts) written are = absurd are
+count-fields r o is_null (entry ∷ schema) [] written are = absurd are
+count-fields r o is_null (entry ∷ schema) (text ∷ texts) [] are = absurd are
+count-fields r o is_null (entry ∷ schema) (text ∷ texts) (one ∷ others) are = omega (arith, count-fields r o is_null schema texts others are.1)
 
 -- each stands in a line
-pub field-texts : (r o : WriteOptions) (schema : List Entry) (texts written : List (List ℕ)) → AreChangesOf r o schema texts written → AllByRecursion (IsFieldText (line_marks r)) texts
-field-texts r o [] [] [] are = tt
-field-texts r o [] [] (one ∷ others) are = absurd are
-field-texts r o [] (text ∷ texts) written are = absurd are
-field-texts r o (entry ∷ schema) [] written are = absurd are
-field-texts r o (entry ∷ schema) (text ∷ texts) [] are = absurd are
-field-texts r o (entry ∷ schema) (text ∷ texts) (one ∷ others) are = (are.0.field_text, field-texts r o schema texts others are.1)
+pub field-texts : (r o : WriteOptions) (is_null : NullTest) (schema : List Entry) (texts written : List (List ℕ)) → AreChangesOf r o is_null schema texts written → AllByRecursion (IsFieldText (line_marks r)) texts
+field-texts r o is_null [] [] [] are = tt
+field-texts r o is_null [] [] (one ∷ others) are = absurd are
+field-texts r o is_null [] (text ∷ texts) written are = absurd are
+field-texts r o is_null (entry ∷ schema) [] written are = absurd are
+field-texts r o is_null (entry ∷ schema) (text ∷ texts) [] are = absurd are
+field-texts r o is_null (entry ∷ schema) (text ∷ texts) (one ∷ others) are = (are.0.field_text, field-texts r o is_null schema texts others are.1)
 
 -- the columns of one row with their cells
-abbrev pub cell_columns : (r o : WriteOptions) (schema : List Entry) (texts written : List (List ℕ)) → AreChangesOf r o schema texts written → List ColumnValue
-cell_columns r o (entry ∷ schema) (text ∷ texts) (one ∷ others) are = record { name = entry.0; dtype = entry.1; values = are.0.value ∷ [] } ∷ cell_columns r o schema texts others are.1
-cell_columns r o schema texts written are = []
+abbrev pub cell_columns : (r o : WriteOptions) (is_null : NullTest) (schema : List Entry) (texts written : List (List ℕ)) → AreChangesOf r o is_null schema texts written → List ColumnValue
+cell_columns r o is_null (entry ∷ schema) (text ∷ texts) (one ∷ others) are = record { name = entry.0; dtype = entry.1; values = are.0.value ∷ [] } ∷ cell_columns r o is_null schema texts others are.1
+cell_columns r o is_null schema texts written are = []
 
 -- what is written of them
-pub written-columns : (r o : WriteOptions) (schema : List Entry) (texts written : List (List ℕ)) (are : AreChangesOf r o schema texts written)
-    → map (λ column. written_cell o column.dtype (cell_at column 0)) (cell_columns r o schema texts written are) ≡ written
-written-columns r o [] [] [] are = refl
-written-columns r o [] [] (one ∷ others) are = absurd are
-written-columns r o [] (text ∷ texts) written are = absurd are
-written-columns r o (entry ∷ schema) [] written are = absurd are
-written-columns r o (entry ∷ schema) (text ∷ texts) [] are = absurd are
-written-columns r o (entry ∷ schema) (text ∷ texts) (one ∷ others) are = (λ j. sym are.0.written_is j ∷ written-columns r o schema texts others are.1 j)
+pub written-columns : (r o : WriteOptions) (is_null : NullTest) (schema : List Entry) (texts written : List (List ℕ)) (are : AreChangesOf r o is_null schema texts written)
+    → map (λ column. written_cell o column.dtype (cell_at column 0)) (cell_columns r o is_null schema texts written are) ≡ written
+written-columns r o is_null [] [] [] are = refl
+written-columns r o is_null [] [] (one ∷ others) are = absurd are
+written-columns r o is_null [] (text ∷ texts) written are = absurd are
+written-columns r o is_null (entry ∷ schema) [] written are = absurd are
+written-columns r o is_null (entry ∷ schema) (text ∷ texts) [] are = absurd are
+written-columns r o is_null (entry ∷ schema) (text ∷ texts) (one ∷ others) are = (λ j. sym are.0.written_is j ∷ written-columns r o is_null schema texts others are.1 j)
 
-one-high : (r o : WriteOptions) (schema : List Entry) (texts written : List (List ℕ)) (are : AreChangesOf r o schema texts written) → 0 < length schema → height_of (cell_columns r o schema texts written are) ≡ 1
-one-high r o [] texts written are some = absurd (omega (arith, some))
-one-high r o (entry ∷ schema) [] written are some = absurd are
-one-high r o (entry ∷ schema) (text ∷ texts) [] are some = absurd are
-one-high r o (entry ∷ schema) (text ∷ texts) (one ∷ others) are some = refl
+one-high : (r o : WriteOptions) (is_null : NullTest) (schema : List Entry) (texts written : List (List ℕ)) (are : AreChangesOf r o is_null schema texts written) → 0 < length schema → height_of (cell_columns r o is_null schema texts written are) ≡ 1
+one-high r o is_null [] texts written are some = absurd (omega (arith, some))
+one-high r o is_null (entry ∷ schema) [] written are some = absurd are
+one-high r o is_null (entry ∷ schema) (text ∷ texts) [] are some = absurd are
+one-high r o is_null (entry ∷ schema) (text ∷ texts) (one ∷ others) are some = refl
 
-module _ (plan : RangePlan) (schema : List Entry) (r o : WriteOptions) (can : CanPrint plan schema) (given : IsReadSo plan schema r) (returns : RowsReturn) where
+module _ (plan : RangePlan) (schema : List Entry) (r o : WriteOptions) (is_null : NullTest) (can : CanPrint plan schema) (given : IsReadSo plan schema r) (nulls : AreNulls plan is_null) (returns : RowsReturn) where
   quote-is : plan.dialect.quote_char ≡ Some r.quote
   quote-is = ap (λ m. m.quote) given.marks
 
@@ -149,19 +149,16 @@ module _ (plan : RangePlan) (schema : List Entry) (r o : WriteOptions) (can : Ca
   apart : AreDistinct (line_marks r)
   apart = given.fits.dialect.distinct
 
-  nulls-are : (rules_of plan).nulls ≡ None
-  nulls-are = ap (option_map (λ nulls. nulls.now)) given.nulls
-
   -- the cell of a field
-  cell-is : (column : ℕ) (type : DataType) (text written : List ℕ) (here : IsChangeOf r o type text written) → cell (rules_of plan) column type text ≡ Ok here.value
+  cell-is : (column : ℕ) (type : DataType) (text written : List ℕ) (here : IsChangeOf r o is_null type text written) → cell (rules_of plan) column type text ≡ Ok here.value
   cell-is column type text written here =
       let reading = (rules_of plan).reading in
-      ap (λ n. cells.cell reading (means_null n column) plan.dialect.quote_char type text) nulls-are
-      ∙ ap (λ q. cells.cell reading (means_null None column) q type text) quote-is
-      ∙ here.cell_is reading column given.missing
+      ap (λ n. cells.cell reading n plan.dialect.quote_char type text) (nulls column)
+      ∙ ap (λ q. cells.cell reading is_null q type text) quote-is
+      ∙ here.cell_is reading given.missing
 
   -- cells without a fault, from a column on
-  no-faults : (all : List (List ℕ)) (a : ℕ) (rest : List Entry) (texts written : List (List ℕ)) → AreChangesOf r o rest texts written → ((k : ℕ) → field_in all (a + k) ≡ field_in texts k)
+  no-faults : (all : List (List ℕ)) (a : ℕ) (rest : List Entry) (texts written : List (List ℕ)) → AreChangesOf r o is_null rest texts written → ((k : ℕ) → field_in all (a + k) ≡ field_in texts k)
       → filter_map (column_fault (rules_of plan) all) (spread (λ k entry. (k, entry.1)) a rest) ≡ []
   no-faults all a [] texts written are same = refl
   no-faults all a (entry ∷ rest) [] written are same = absurd are
@@ -174,8 +171,8 @@ module _ (plan : RangePlan) (schema : List Entry) (r o : WriteOptions) (can : Ca
       rw sound later
 
   -- their columns
-  columns-are : (all : List (List ℕ)) (a : ℕ) (rest : List Entry) (texts written : List (List ℕ)) (are : AreChangesOf r o rest texts written) → ((k : ℕ) → field_in all (a + k) ≡ field_in texts k)
-      → map (read_column (rules_of plan) (ended_row all ∷ [])) (spread (λ k entry. (k, entry)) a rest) ≡ cell_columns r o rest texts written are
+  columns-are : (all : List (List ℕ)) (a : ℕ) (rest : List Entry) (texts written : List (List ℕ)) (are : AreChangesOf r o is_null rest texts written) → ((k : ℕ) → field_in all (a + k) ≡ field_in texts k)
+      → map (read_column (rules_of plan) (ended_row all ∷ [])) (spread (λ k entry. (k, entry)) a rest) ≡ cell_columns r o is_null rest texts written are
   columns-are all a [] texts written are same = refl
   columns-are all a (entry ∷ rest) [] written are same = absurd are
   columns-are all a (entry ∷ rest) (text ∷ texts) [] are same = absurd are
@@ -186,18 +183,18 @@ module _ (plan : RangePlan) (schema : List Entry) (r o : WriteOptions) (can : Ca
       let later = columns-are all (a + 1) rest texts others are.1 (λ k. ap (field_in all) (let next : a + 1 + k ≡ a + suc k = omega arith in next) ∙ same (suc k)) in
       (λ j. record { name = entry.0; dtype = entry.1; values = value j ∷ [] } ∷ later j)
 
-  module _ (line copy : List ℕ) (is : IsLineChangeOf r o schema line copy) where
+  module _ (line copy : List ℕ) (is : IsLineChangeOf r o is_null schema line copy) where
     abbrev texts : List (List ℕ)
     texts = is.fields
 
     count : length texts ≡ length schema
-    count = count-fields r o schema texts is.written is.changes
+    count = count-fields r o is_null schema texts is.written is.changes
 
     some : 0 < length texts
     some = omega (arith, count, given.some)
 
     are-fields : AllByRecursion (IsFieldText (line_marks r)) texts
-    are-fields = field-texts r o schema texts is.written is.changes
+    are-fields = field-texts r o is_null schema texts is.written is.changes
 
     one-row : rows (line_marks r) None line ≡ ended_row texts ∷ []
     one-row =
@@ -258,7 +255,7 @@ module _ (plan : RangePlan) (schema : List Entry) (r o : WriteOptions) (can : Ca
       sound = subst (AllByRecursion (λ row. first_fault (rules_of plan) (columns_in schema plan.projection.places.now) row ≡ None)) (sym its-row) (no-fault, tt);
     }
 
-    frame : text_frame plan schema line ≡ cell_columns r o schema texts is.written is.changes
+    frame : text_frame plan schema line ≡ cell_columns r o is_null schema texts is.written is.changes
     frame =
         ap (frame_of_rows (rules_of plan) (entries_in schema plan.projection.places.now)) its-row
         ∙ ap (map (read_column (rules_of plan) (ended_row texts ∷ []))) (spread-is (λ k entry. (k, entry)) schema plan.projection.places.now given.places)
@@ -266,11 +263,11 @@ module _ (plan : RangePlan) (schema : List Entry) (r o : WriteOptions) (can : Ca
 
     lines : all_lines o (text_frame plan schema line) ≡ copy
     lines =
-        let columns = cell_columns r o schema texts is.written is.changes in
+        let columns = cell_columns r o is_null schema texts is.written is.changes in
         ap (all_lines o) frame
-        ∙ ap (λ n. flat_map (row_line o columns) (range_with_len 0 n)) (one-high r o schema texts is.written is.changes given.some)
+        ∙ ap (λ n. flat_map (row_line o columns) (range_with_len 0 n)) (one-high r o is_null schema texts is.written is.changes given.some)
         ∙ append-nil (row_line o columns 0)
-        ∙ ap (λ l. join_with_byte o.separator l ++ o.terminator) (written-columns r o schema texts is.written is.changes)
+        ∙ ap (λ l. join_with_byte o.separator l ++ o.terminator) (written-columns r o is_null schema texts is.written is.changes)
         ∙ sym is.copy_is
 
     pub change-printed : IsTextPrinted plan schema o line 1 copy
@@ -281,7 +278,7 @@ module _ (plan : RangePlan) (schema : List Entry) (r o : WriteOptions) (can : Ca
 pub copy-printed : (plan : RangePlan) (schema : List Entry) (o : WriteOptions) → CanPrint plan schema → IsWrittenAsRead plan schema o → RowsReturn → (line copy : List ℕ) → IsLineCopyOf o schema line copy
     → IsTextPrinted plan schema o line 1 copy
 copy-printed plan schema o can given returns line copy is =
-    change-printed plan schema o o can given.read returns line copy (record {
+    change-printed plan schema o o nothing_is_null can given.read given.nulls returns line copy (record {
       fields = is.fields;
       written = is.written;
       changes = is.copies;

@@ -18,7 +18,7 @@ use Rattle.pl_cells.specs.Cells.{Reading, Cell, value_or_null, text_cell, plain_
 use Rattle.pl_cells.specs.Dates.{date_value}
 use Rattle.pl_cells.specs.Faults as fault
 use Rattle.pl_cells.specs.Integers.{only_within}
-use Rattle.pl_cells.specs.NullValues.{means_null}
+use Rattle.pl_cells.specs.NullTest.{nothing_is_null}
 use Rattle.pl_cells.specs.Quoting.{quote_of}
 use Rattle.pl_cells.specs.Times.{clock_value, fraction_value, in_nanoseconds, time_value, count_of_units, datetime_of, datetime_value}
 use Rattle.pl_cells.specs.Values.{value_of_text}
@@ -219,18 +219,18 @@ plain-text reading type [] h = absurd (omega (arith, h))
 plain-text reading type (x ∷ p) h = refl
 
 -- a plain text that has a value is read as it
-plain-cell : (reading : Reading) (column q : ℕ) (unit : TimeUnit) (text : List ℕ) (value : Scalar) → value_of_text (dtype.Datetime unit) text ≡ Some value → 0 < length text → lacks q text ≡ true → lacks 13 text ≡ true
-    → cell reading (means_null None column) (Some q) (dtype.Datetime unit) text ≡ Ok (Some value)
-plain-cell reading column q unit text value h some quote return =
+plain-cell : (reading : Reading) (q : ℕ) (unit : TimeUnit) (text : List ℕ) (value : Scalar) → value_of_text (dtype.Datetime unit) text ≡ Some value → 0 < length text → lacks q text ≡ true → lacks 13 text ≡ true
+    → cell reading nothing_is_null (Some q) (dtype.Datetime unit) text ≡ Ok (Some value)
+plain-cell reading q unit text value h some quote return =
     let type = dtype.Datetime unit in
-    ap (stripped_cell reading (means_null None column) (quote_of (Some q) text) type) (stripped text (no_end 13 (length text - 1) text return))
-    ∙ ap (λ (t : Bool). stripped_cell reading (means_null None column) (if t then Some q else None) type text) (not_quoted q text quote)
+    ap (stripped_cell reading nothing_is_null (quote_of (Some q) text) type) (stripped text (no_end 13 (length text - 1) text return))
+    ∙ ap (λ (t : Bool). stripped_cell reading nothing_is_null (if t then Some q else None) type text) (not_quoted q text quote)
     ∙ ap (softened reading.ignore_errors) (plain-text reading type text some ∙ filled type text value h some)
     ∙ softened-ok reading.ignore_errors (Some value)
 
 -- A datetime without a fraction is read as the one whose fraction is zero, and written with it.
 pub seconds-change : (r o : WriteOptions) (places : ℕ) (type : DataType) (text : List ℕ) → FitsOptions r → HoldsMoments places type → IsSecondsText text
-    → IsChangeOf r o type text (written_value o false (text ++ zeros_text places))
+    → IsChangeOf r o nothing_is_null type text (written_value o false (text ++ zeros_text places))
 seconds-change r o places type text fits holds w =
     let u = units_in_second holds.unit in
     let own = dtype.Datetime holds.unit in
@@ -245,15 +245,15 @@ seconds-change r o places type text fits holds w =
     front-plain plain_text zeros (ap are_plain (sym printed-is) ∙ (printed-plain own (Number n) refl (record { can = refl; held = within; counted = counted })).1) in
     let special = plain-bare r plain_text fits plain in
     let field : IsFieldText (line_marks r) plain_text = subst (IsFieldText (line_marks r)) (append-nil plain_text) (written-field r plain_text [] fits (inr special) (inl refl)) in
-    let change : IsChangeOf r o own plain_text (written_value o false (plain_text ++ zeros)) = record {
+    let change : IsChangeOf r o nothing_is_null own plain_text (written_value o false (plain_text ++ zeros)) = record {
       value = Some (Number n);
-      cell_is = λ reading column missing. plain-cell reading column r.quote holds.unit plain_text (Number n) value (some_text own plain_text (Number n) refl value) (lacks-plain r.quote plain_text fits.quote plain) (lacks-plain 13 plain_text refl plain);
+      cell_is = λ reading missing. plain-cell reading r.quote holds.unit plain_text (Number n) value (some_text own plain_text (Number n) refl value) (lacks-plain r.quote plain_text fits.quote plain) (lacks-plain 13 plain_text refl plain);
       field_text = field;
       written_is = ap (written_value o false) (sym printed-is);
     } in
-    subst (λ t. IsChangeOf r o t text (written_value o false (text ++ zeros_text places))) (sym holds.type_is)
-    (subst (λ (k : ℕ). IsChangeOf r o own text (written_value o false (text ++ zeros_text k))) (sym holds.places_is)
-    (subst (λ (l : List ℕ). IsChangeOf r o own l (written_value o false (l ++ zeros))) (sym w.text_is) change))
+    subst (λ t. IsChangeOf r o nothing_is_null t text (written_value o false (text ++ zeros_text places))) (sym holds.type_is)
+    (subst (λ (k : ℕ). IsChangeOf r o nothing_is_null own text (written_value o false (text ++ zeros_text k))) (sym holds.places_is)
+    (subst (λ (l : List ℕ). IsChangeOf r o nothing_is_null own l (written_value o false (l ++ zeros))) (sym w.text_is) change))
 
 -- all that is written of it is plain
 pub seconds-plain : (places : ℕ) (type : DataType) (text : List ℕ) → HoldsMoments places type → IsSecondsText text → are_plain (text ++ zeros_text places) ≡ true

@@ -179,3 +179,11 @@ special_front-bare s q text at count room is some utf8 =
 
     none : list_any (is_special s q) (take count (drop at text)) ≡ false
     none = none_in_front (is_special s q) (drop at text) count clear
+
+-- none of the bytes before the first special one is special
+pub special_front-none : (s q : ℕ) (text : List ℕ) (at count : ℕ) → count ≡ prefix_len (λ x. not (is_special s q x)) (slice_range text at (length text))
+    → list_any (is_special s q) (slice_range text at (at + count)) ≡ false
+special_front-none s q text at count is =
+    ap (list_any (is_special s q)) (front_is text at count)
+    ∙ none_in_front (is_special s q) (drop at text) count
+    (λ k h. ap (λ l. is_special s q (get_or l k 0)) (sym (take_rest text at)) ∙ none_before (is_special s q) (slice_range text at (length text)) k (omega (arith, is, h)))

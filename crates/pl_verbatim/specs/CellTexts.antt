@@ -1,5 +1,5 @@
 -- Texts of cells, as they are written (docs/types.md, "Printed"; docs/quoting.md).
-use Rattle.std.specs.Prelude.{◌≡◌, ℕ, zero, suc, ◌<◌, ◌^◌, ℤ, unsigned_abs, Bool, true, false, if◌then◌else◌, List, [], ◌∷◌, ◌++◌, replicate, Option, None, Some, Ok}
+use Rattle.std.specs.Prelude.{◌≡◌, ℕ, zero, suc, ◌<◌, ◌^◌, ℤ, unsigned_abs, Bool, true, false, if◌then◌else◌, List, [], ◌∷◌, ◌++◌, replicate, Option, Some, Ok}
 use Rattle.std.specs.Fmt.{signed_decimal}
 use Rattle.std.specs.Int.{is_negative}
 use Rattle.std.specs.Str.{is_utf8}
@@ -10,7 +10,7 @@ use Rattle.pl_text.specs.ValueText.{padded, date_text, clock_text, decimal_text,
 use Rattle.pl_text.specs.FrameText.{WriteOptions, needs_quotes, quoted, written_cell}
 use Rattle.pl_frame.specs.Types.{is_within, day_range}
 use Rattle.pl_cells.specs.Cells.{Reading, cell}
-use Rattle.pl_cells.specs.NullValues.{means_null}
+use Rattle.pl_cells.specs.NullTest.{NullTest, nothing_is_null}
 use Rattle.pl_round_trip.specs.Fits.{FitsCell}
 use Rattle.pl_round_trip.specs.RoundTrip.{IsFieldText, line_marks}
 
@@ -110,14 +110,14 @@ zeros_text (suc n) = 46 ∷ replicate (suc n) 48
 abbrev pub as_read : ℕ → WriteOptions → WriteOptions
 as_read separator o = record o { separator = separator; null = []; terminator = 10 ∷ []; style = 0 }
 
--- A field stands in a line that is written by the first options, and is read as a cell of a type, where no text means null but a missing one; and
+-- A field stands in a line that is written by the first options, and is read as a cell of a type, where these texts mean null and a missing one; and
 -- another text is written of that cell by the second.
-pub record IsChangeOf (r o : WriteOptions) (type : DataType) (field written : List ℕ) : Type 0 where
+pub record IsChangeOf (r o : WriteOptions) (is_null : NullTest) (type : DataType) (field written : List ℕ) : Type 0 where
   pub value : Option Scalar
-  pub cell_is : (reading : Reading) (column : ℕ) → reading.missing_is_null ≡ true → cell reading (means_null None column) (Some r.quote) type field ≡ Ok value
+  pub cell_is : (reading : Reading) → reading.missing_is_null ≡ true → cell reading is_null (Some r.quote) type field ≡ Ok value
   pub field_text : IsFieldText (line_marks r) field
   pub written_is : written ≡ written_cell o type value
 
--- both are the same
+-- both are the same, and no text means null but a missing one
 abbrev pub IsCopyOf : WriteOptions → DataType → List ℕ → List ℕ → Type 0
-IsCopyOf o type field written = IsChangeOf o o type field written
+IsCopyOf o type field written = IsChangeOf o o nothing_is_null type field written

@@ -1,10 +1,13 @@
 -- Rows that are written otherwise than they were read.
-use Rattle.std.specs.Prelude.{◌≡◌, ℕ, ◌+◌, ◌<◌, ◌≤◌, Bool, true, false, not, if◌then◌else◌, List, [], ◌∷◌, ◌++◌, length, slice_index, slice_range}
+use Rattle.std.specs.Prelude.{◌≡◌, ℕ, ◌+◌, ◌<◌, ◌≤◌, Bool, true, false, not, if◌then◌else◌, List, [], ◌∷◌, ◌++◌, length, Ok, None, Some, slice_index, slice_range}
 use Rattle.std.specs.List.{join_with_byte}
 use Rattle.pl_frame.specs.declared.data_type.DataType.{DataType}
 use Rattle.pl_frame.specs.Schema.{Entry}
 use Rattle.pl_frame.specs.Types.{is_readable}
 use Rattle.pl_text.specs.FrameText.{WriteOptions, is_bare, written_null}
+use Rattle.pl_cells.specs.Cells.{Reading, cell}
+use Rattle.pl_cells.specs.NullTest.{NullTest, nothing_is_null}
+use Rattle.pl_cells.specs.NullValues.{means_null}
 use Rattle.pl_round_trip.specs.Fits.{FitsOptions}
 use Rattle.pl_verbatim.specs.declared.form.Form.{Form}
 use Rattle.pl_verbatim.specs.declared.found.Found.{Found}
@@ -24,22 +27,36 @@ pub record IsFormOf (o : WriteOptions) (quote : ℕ) (form : Form) : Type 0 wher
   pub null_is : form.null.items ≡ written_null o
   pub terminator_is : form.terminator.items ≡ o.terminator
 
+-- ---- texts that mean null
+
+-- a field is null, whatever the type of its column
+abbrev pub IsNullField : NullTest → ℕ → List ℕ → Type 0
+IsNullField is_null quote field = (reading : Reading) (type : DataType) → cell reading is_null (Some quote) type field ≡ Ok None
+
+-- a field is what it is where no text means null but a missing one
+abbrev pub IsOtherField : NullTest → ℕ → List ℕ → Type 0
+IsOtherField is_null quote field = (reading : Reading) (type : DataType) → cell reading is_null (Some quote) type field ≡ cell reading nothing_is_null (Some quote) type field
+
 -- ---- cells
 
 -- a text between quotes, or without
 abbrev pub framed : Bool → ℕ → List ℕ → List ℕ
 framed is_quoted quote text = if is_quoted then quote ∷ (text ++ quote ∷ []) else text
 
+-- the texts that mean null in each column
+abbrev pub null_test_of : Form → NullTest
+null_test_of form = means_null form.nulls 0
+
 -- a text is what is written of a field's cell, for each type of the kind
-abbrev pub IsChangeOfKind : ℕ → ℕ → Form → Kind → List ℕ → List ℕ → Type 0
-IsChangeOfKind separator quote form kind field written =
-    (o : WriteOptions) (type : DataType) → FitsOptions (as_read separator o) → IsFormOf o quote form → is_readable type ≡ true → IsKindOf type kind → IsChangeOf (as_read separator o) o type field written
+abbrev pub IsChangeOfKind : ℕ → ℕ → Form → NullTest → Kind → List ℕ → List ℕ → Type 0
+IsChangeOfKind separator quote form is_null kind field written =
+    (o : WriteOptions) (type : DataType) → FitsOptions (as_read separator o) → IsFormOf o quote form → is_readable type ≡ true → IsKindOf type kind → IsChangeOf (as_read separator o) o is_null type field written
 
 -- what was found in a text
 abbrev pub found_text : List ℕ → ℕ → Found → List ℕ
 found_text text quote found = framed found.is_quoted quote (slice_range text found.start found.stop ++ zeros_text found.zeros)
 
--- the field of a cell of a kind stands at a place, with a mark behind it, and what is written of the cell was found
+-- the field of a cell of a kind stands at a place, with a mark behind it, and what is written of the cell was found, where no text means null
 pub record IsFound (text : List ℕ) (at : ℕ) (kind : Kind) (mark separator quote : ℕ) (form : Form) (found : Found) : Type 0 where
   pub after : at ≤ found.end
   pub within : found.end < length text
@@ -47,7 +64,7 @@ pub record IsFound (text : List ℕ) (at : ℕ) (kind : Kind) (mark separator qu
   pub ordered : found.start ≤ found.stop
   pub inside : found.stop ≤ length text
   pub few : found.zeros ≤ 9
-  pub cell : IsChangeOfKind separator quote form kind (slice_range text at found.end) (found_text text quote found)
+  pub cell : IsChangeOfKind separator quote form nothing_is_null kind (slice_range text at found.end) (found_text text quote found)
 
 -- The field of a cell of a kind stands at a place, with a mark behind it, which ends at another place, and lines grew by what is written of the cell.
 pub record IsCellPut (text : List ℕ) (at next : ℕ) (kind : Kind) (mark separator quote : ℕ) (form : Form) (before now : List ℕ) : Type 0 where
@@ -58,28 +75,28 @@ pub record IsCellPut (text : List ℕ) (at next : ℕ) (kind : Kind) (mark separ
   pub mark_is : slice_index text end ≡ mark
   pub written : List ℕ
   pub now_is : now ≡ before ++ written
-  pub cell : IsChangeOfKind separator quote form kind (slice_range text at end) written
+  pub cell : IsChangeOfKind separator quote form (null_test_of form) kind (slice_range text at end) written
 
 -- ---- lines
 
 -- fields of the columns of a schema, each once and in order, with what is written of their cells
-abbrev pub AreChangesOf : WriteOptions → WriteOptions → List Entry → List (List ℕ) → List (List ℕ) → Type 0
-AreChangesOf r o [] [] [] = Unit {0}
-AreChangesOf r o (entry ∷ schema) (field ∷ fields) (written ∷ others) = IsChangeOf r o entry.1 field written × AreChangesOf r o schema fields others
-AreChangesOf r o schema fields written = ⊥
+abbrev pub AreChangesOf : WriteOptions → WriteOptions → NullTest → List Entry → List (List ℕ) → List (List ℕ) → Type 0
+AreChangesOf r o is_null [] [] [] = Unit {0}
+AreChangesOf r o is_null (entry ∷ schema) (field ∷ fields) (written ∷ others) = IsChangeOf r o is_null entry.1 field written × AreChangesOf r o is_null schema fields others
+AreChangesOf r o is_null schema fields written = ⊥
 
 -- a line has such fields, with a separator between two of them and a line feed behind the last; and what is written of it has what is written of them
-pub record IsLineChangeOf (r o : WriteOptions) (schema : List Entry) (line copy : List ℕ) : Type 0 where
+pub record IsLineChangeOf (r o : WriteOptions) (is_null : NullTest) (schema : List Entry) (line copy : List ℕ) : Type 0 where
   pub fields : List (List ℕ)
   pub written : List (List ℕ)
-  pub changes : AreChangesOf r o schema fields written
+  pub changes : AreChangesOf r o is_null schema fields written
   pub line_is : line ≡ join_with_byte r.separator fields ++ 10 ∷ []
   pub copy_is : copy ≡ join_with_byte o.separator written ++ o.terminator
 
 -- what is written of a line, for each schema of the kinds
 abbrev pub IsLineChangeOfKinds : ℕ → ℕ → Form → List Kind → List ℕ → List ℕ → Type 0
 IsLineChangeOfKinds separator quote form kinds line copy =
-    (o : WriteOptions) (schema : List Entry) → FitsOptions (as_read separator o) → IsFormOf o quote form → AreReadable schema → AreKindsOf schema kinds → IsLineChangeOf (as_read separator o) o schema line copy
+    (o : WriteOptions) (schema : List Entry) → FitsOptions (as_read separator o) → IsFormOf o quote form → AreReadable schema → AreKindsOf schema kinds → IsLineChangeOf (as_read separator o) o (null_test_of form) schema line copy
 
 -- the line of a row ends at a place, and lines grew by what is written of it
 pub record IsRowPut (text : List ℕ) (start : ℕ) (kinds : List Kind) (separator quote : ℕ) (form : Form) (before now : List ℕ) (end : ℕ) : Type 0 where

@@ -1,5 +1,6 @@
 pub mod PrintedTexts
 pub mod CellTexts
 pub mod Kinds
+pub mod Nulls
 pub mod Changes
 pub mod Verbatim

@@ -1,6 +1,9 @@
 -- Rows that are written as they were read.
 use Rattle.std.specs.Prelude.{◌≡◌, ℕ, ◌+◌, ◌<◌, ◌≤◌, true, List, [], ◌∷◌, ◌++◌, length, Option, None, Some, IfSome, slice_index, slice_range}
 use Rattle.std.specs.List.{join_with_byte, range_with_len}
+use Rattle.std.specs.Option.{option_map}
+use Rattle.pl_cells.specs.NullTest.{NullTest, nothing_is_null}
+use Rattle.pl_cells.specs.NullValues.{means_null}
 use Rattle.pl_frame.specs.declared.data_type.DataType.{DataType}
 use Rattle.pl_frame.specs.Schema.{Entry}
 use Rattle.pl_text.specs.FrameText.{WriteOptions}
@@ -14,7 +17,7 @@ use Rattle.pl_verbatim.specs.CellTexts.{IsCellOptions, IsCellOf, IsCopyOf, as_re
 use Rattle.pl_verbatim.specs.declared.form.Form.{Form}
 use Rattle.pl_verbatim.specs.declared.kinds.Kind.{Kind}
 use Rattle.pl_verbatim.specs.Kinds.{AreReadable, AreKindsOf, IsKindOf}
-use Rattle.pl_verbatim.specs.Changes.{AreChangesOf, IsFormOf}
+use Rattle.pl_verbatim.specs.Changes.{AreChangesOf, IsFormOf, null_test_of}
 use Rattle.pl_verbatim.specs.PrintedTexts.{CanPrint, IsTextPrinted}
 
 -- ---- lines
@@ -33,7 +36,7 @@ pub record IsLineOf (o : WriteOptions) (schema : List Entry) (line : List ℕ) :
 
 -- fields of the columns of a schema, each once and in order, with what is written of their cells
 abbrev pub AreCopiesOf : WriteOptions → List Entry → List (List ℕ) → List (List ℕ) → Type 0
-AreCopiesOf o schema fields written = AreChangesOf o o schema fields written
+AreCopiesOf o schema fields written = AreChangesOf o o nothing_is_null schema fields written
 
 -- a line has such fields, with a separator between two of them and a line feed behind the last; and so does what is written of it
 pub record IsLineCopyOf (o : WriteOptions) (schema : List Entry) (line copy : List ℕ) : Type 0 where
@@ -45,19 +48,23 @@ pub record IsLineCopyOf (o : WriteOptions) (schema : List Entry) (line copy : Li
 
 -- ---- rows
 
--- Rows are read by the marks of these options, where no text means null but a missing one. All columns are read.
+-- Rows are read by the marks of these options, and what is missing is null. All columns are read.
 pub record IsReadSo (plan : RangePlan) (schema : List Entry) (o : WriteOptions) : Type 0 where
   pub marks : marks_of plan.dialect ≡ line_marks o
   pub comments : plan.dialect.comment_prefix ≡ None
   pub fits : FitsOptions o
-  pub nulls : plan.options.null_values ≡ None
   pub missing : plan.options.missing_is_null ≡ true
   pub places : plan.projection.places.now ≡ range_with_len 0 (length schema)
   pub some : 0 < length schema
 
--- and they are written by the same marks, quoted where necessary, with nothing for a null
+-- these texts mean null in each column
+abbrev pub AreNulls : RangePlan → NullTest → Type 0
+AreNulls plan is_null = (column : ℕ) → means_null (option_map (λ nulls. nulls.now) plan.options.null_values) column ≡ is_null
+
+-- Rows are read so, no text means null but a missing one, and they are written by the same marks, quoted where necessary, with nothing for a null
 pub record IsWrittenAsRead (plan : RangePlan) (schema : List Entry) (o : WriteOptions) : Type 0 where
   pub read : IsReadSo plan schema o
+  pub nulls : AreNulls plan nothing_is_null
   pub terminator : o.terminator ≡ 10 ∷ []
   pub null : o.null ≡ []
   pub style : o.style ≡ 0
@@ -71,6 +78,7 @@ pub record AreRowsOf (plan : RangePlan) (schema : List Entry) (o : WriteOptions)
 -- these are the kinds and the marks of rows that are written by a form
 pub record AreChangedRowsOf (plan : RangePlan) (schema : List Entry) (o : WriteOptions) (verbatim : Verbatim) (form : Form) : Type 0 where
   pub rows : IsReadSo plan schema (as_read verbatim.separator o)
+  pub nulls : AreNulls plan (null_test_of form)
   pub written : IsFormOf o verbatim.quote_char form
   pub kinds : AreKindsOf schema verbatim.kinds.items
 

@@ -1,6 +1,7 @@
 //! Rows that are written otherwise than they were read: what is written of them is put into a block.
-ghost use Rattle.std.specs.Prelude.{◌≡◌, ◌+◌, ◌-◌, ◌<◌, ◌≤◌, ◌∷◌, [], ◌++◌, true, length, take, slice_range, IfSome, IfNone};
+ghost use Rattle.std.specs.Prelude.{◌≡◌, ◌+◌, ◌-◌, None, Some, ◌<◌, ◌≤◌, ◌∷◌, [], ◌++◌, true, length, take, slice_range, IfSome, IfNone};
 ghost use Rattle.std.specs.List.{All};
+ghost use Rattle.pl_verbatim.specs.Nulls.{are_alike};
 ghost use Rattle.pl_verbatim.specs.Changes.{found_text, IsCellPut, IsRowPut};
 ghost use Rattle.pl_verbatim.specs.CellTexts.{zeros_text};
 ghost use Rattle.pl_verbatim.specs.Kinds.{is_sound_kind};
@@ -9,6 +10,8 @@ use crate::form::Form;
 use crate::found::{Found, find};
 use crate::kinds::Kind;
 use crate::marks::Marks;
+use crate::nulls::{means_null, null_end};
+use pl_cells::null_values::NullValuesCompiled;
 use pl_write::puts::{put_byte, put_byte_if, put_bytes};
 
 // What is written of a cell needs no more room beside its text: two quotes, a point and zeros, a mark, and what a copy of fixed size puts behind it.
@@ -90,6 +93,79 @@ fn put_text(text: &[u8], out: &mut [u8], place: usize) -> Option<usize>
     }
 }
 
+// Puts what is written of the cell at a place that is not empty, where there is room and no text means null, and answers the end of its field, and the
+// place behind what was put. `CALLER` is that of `cell_end`.
+#[inline(always)]
+fn put_value<const CALLER: usize>(
+    text: &[u8],
+    at: usize,
+    kind: Kind,
+    mark: u8,
+    separator: u8,
+    quote: u8,
+    form: &Form,
+    out: &mut [u8],
+    place: usize,
+) -> Option<(usize, usize)>
+    requires inside { at < length text.now }
+    requires sound { is_sound_kind kind ≡ true }
+    requires ascii { quote < 128 }
+    requires place { place ≤ length out.old }
+    requires none { form.now.nulls ≡ None }
+    ensures put { IfSome result (λ put. IsCellPut text.now at (put.0 + 1) kind mark separator quote form.now (take place out.old) (take put.1 out.new)) }
+    ensures inside { IfSome result (λ put. put.0 < length text.now) }
+    ensures within { IfSome result (λ put. put.1 < length out.new) }
+    ensures long { length out.new ≡ length out.old }
+    ensures unchanged { IfNone result (out.new ≡ out.old) }
+{
+    let found = find::<CALLER>(text, at, kind, mark, separator, quote, form)?;
+    let end = put_found(text, found, quote, out, place)?;
+    Some((found.end, end))
+}
+
+// The same where texts mean null.
+#[inline]
+fn put_unless_null<const CALLER: usize>(
+    text: &[u8],
+    at: usize,
+    kind: Kind,
+    mark: u8,
+    separator: u8,
+    quote: u8,
+    form: &Form,
+    nulls: &NullValuesCompiled,
+    out: &mut [u8],
+    place: usize,
+) -> Option<(usize, usize)>
+    requires inside { at < length text.now }
+    requires sound { is_sound_kind kind ≡ true }
+    requires ascii { quote < 128 }
+    requires place { place ≤ length out.old }
+    requires nulls { form.now.nulls ≡ Some nulls.now }
+    requires alike { are_alike (Some nulls.now) ≡ true }
+    ensures put { IfSome result (λ put. IsCellPut text.now at (put.0 + 1) kind mark separator quote form.now (take place out.old) (take put.1 out.new)) }
+    ensures inside { IfSome result (λ put. put.0 < length text.now) }
+    ensures within { IfSome result (λ put. put.1 < length out.new) }
+    ensures long { length out.new ≡ length out.old }
+    ensures unchanged { IfNone result (out.new ≡ out.old) }
+{
+    match find::<CALLER>(text, at, kind, mark, separator, quote, form) {
+        Some(found) => {
+            if means_null(nulls, &text[at..found.end], quote)? {
+                let end = put_text(&form.null, out, place)?;
+                return Some((found.end, end));
+            }
+            let end = put_found(text, found, quote, out, place)?;
+            Some((found.end, end))
+        }
+        None => {
+            let next = null_end(text, at, mark, separator, quote, nulls)?;
+            let end = put_text(&form.null, out, place)?;
+            Some((next, end))
+        }
+    }
+}
+
 // Puts what is written of the cell at a place, where there is room, and answers the place behind the mark that ends its field, and the place behind
 // what was put. `CALLER` is that of `cell_end`.
 #[inline(always)]
@@ -109,6 +185,7 @@ fn put_cell<const CALLER: usize>(
     requires sound { is_sound_kind kind ≡ true }
     requires ascii { quote < 128 }
     requires place { place ≤ length out.old }
+    requires alike { are_alike form.now.nulls ≡ true }
     ensures put { IfSome result (λ put. IsCellPut text.now at put.0 kind mark separator quote form.now (take place out.old) (take put.1 out.new)) }
     ensures within { IfSome result (λ put. put.1 < length out.new) }
     ensures long { length out.new ≡ length out.old }
@@ -122,9 +199,14 @@ fn put_cell<const CALLER: usize>(
         let end = put_text(&form.null, out, place)?;
         return Some((marks.pass(ahead, text, at, separator), end));
     }
-    let found = find::<CALLER>(text, at, kind, mark, separator, quote, form)?;
-    let end = put_found(text, found, quote, out, place)?;
-    Some((marks.pass(ahead, text, found.end, separator), end))
+    let put = match &form.nulls {
+        Some(nulls) => put_unless_null::<CALLER>(
+            text, at, kind, mark, separator, quote, form, nulls, out, place,
+        ),
+        None => put_value::<CALLER>(text, at, kind, mark, separator, quote, form, out, place),
+    };
+    let (field_end, end) = put?;
+    Some((marks.pass(ahead, text, field_end, separator), end))
 }
 
 /// Puts what is written of the row at a place, where there is room, and answers the place behind its own line, and the place behind what was put.
@@ -145,6 +227,7 @@ pub(crate) fn put_row(
     requires sound { All (λ kind. is_sound_kind kind ≡ true) kinds.now }
     requires ascii { quote < 128 }
     requires place { from ≤ length out.old }
+    requires alike { are_alike form.now.nulls ≡ true }
     ensures some { IfSome result (λ put. 0 < length kinds.now) }
     ensures after { IfSome result (λ put. start < put.0) }
     ensures within { IfSome result (λ put. put.0 ≤ length text.now) }

@@ -1,8 +1,10 @@
 //! The rows at the front of a text that are written as they were read, by a test that is made for a reading and a way of writing.
-ghost use Rattle.std.specs.Prelude.{◌≡◌, ◌<◌, ◌≤◌, List, None, Some, true, false, length, take, IfOk, IfSome};
+ghost use Rattle.std.specs.Prelude.{◌≡◌, ◌<◌, ◌≤◌, true, List, None, Some, false, length, take, IfOk, IfSome};
 ghost use Rattle.std.specs.Bool.{OnTrue};
 ghost use Rattle.std.specs.List.{All, range_with_len};
+ghost use Rattle.std.specs.Option.{option_map};
 ghost use Rattle.pl_frame.specs.Schema.{Entry};
+ghost use Rattle.pl_verbatim.specs.Nulls.{are_alike};
 ghost use Rattle.pl_text.specs.FrameText.{WriteOptions};
 ghost use Rattle.pl_rows.specs.declared.plan.RangePlan.{RangePlan};
 ghost use Rattle.pl_round_trip.specs.RoundTrip.{is_printed_byte};
@@ -18,6 +20,7 @@ use crate::kinds::{Kind, kind_of};
 use crate::marks::Marks;
 use crate::rows::{copy_row, row_end};
 use crate::verbatim::{Verbatim, VerbatimFront};
+use pl_cells::null_values::NullValuesCompiled;
 use pl_frame::schema::Schema;
 use pl_round_trip::laws::rows_return;
 use pl_rows::plan::RangePlan;
@@ -47,7 +50,7 @@ fn is_apart(byte: u8) -> bool
     !(byte.is_ascii_alphanumeric() || byte == b'-' || byte == b'.' || byte == b':')
 }
 
-// Whether rows are read by the quote by which they are written, and no text means null but a missing one; all columns are read.
+// Whether rows are read by the quote by which they are written, and what is missing is null; all columns are read.
 fn is_read_so(schema: &Schema, plan: &RangePlan<'_>, options: &SerializeOptions) -> bool
     requires { CanPrint plan.now schema.now }
     ensures { OnTrue result (IsReadSo plan.now schema.now (as_read plan.now.dialect.separator (cell_options options.now))) }
@@ -58,17 +61,32 @@ fn is_read_so(schema: &Schema, plan: &RangePlan<'_>, options: &SerializeOptions)
         && dialect.comment_prefix.is_none()
         && is_apart(dialect.separator)
         && is_apart(options.quote_char)
-        && plan.options.null_values.is_none()
         && plan.options.missing_is_null
         && schema.len() > 0
         && are_all(plan.projection.places, schema.len())
 }
 
-// Whether cells are written by this separator, quoted where necessary, with nothing for a null and a line feed behind a line.
-fn is_same(separator: u8, options: &SerializeOptions) -> bool
-    ensures { OnTrue result (cell_options options.now ≡ as_read separator (cell_options options.now)) }
+// Whether the texts that mean null are the same in each column.
+fn are_nulls_alike(nulls: Option<&NullValuesCompiled>) -> bool
+    ensures { OnTrue result (are_alike (option_map (λ nulls. nulls.now) nulls.entry) ≡ true) }
 {
-    separator == options.separator
+    match nulls {
+        None => true,
+        Some(nulls) => !matches!(nulls, NullValuesCompiled::Columns(_)),
+    }
+}
+
+// Whether cells are written by this separator, quoted where necessary, with nothing for a null and a line feed behind a line, and no text means null.
+fn is_same(
+    separator: u8,
+    nulls: Option<&NullValuesCompiled>,
+    options: &SerializeOptions,
+) -> bool
+    ensures same { OnTrue result (cell_options options.now ≡ as_read separator (cell_options options.now)) }
+    ensures none { OnTrue result (nulls.entry ≡ None) }
+{
+    nulls.is_none()
+        && separator == options.separator
         && matches!(options.line_terminator.as_str().as_bytes(), [b'\n'])
         && options.null.as_str().is_empty()
         && options.quote_style == QuoteStyle::Necessary
@@ -102,14 +120,18 @@ impl Verbatim {
         requires { CanPrint plan.now schema.now }
         ensures { IfOk result (IsVerbatimOf plan.now schema.now (cell_options options.now)) }
     {
-        if options.quote_style == QuoteStyle::Never || !is_read_so(schema, plan, options) {
+        let nulls = plan.options.null_values;
+        if options.quote_style == QuoteStyle::Never
+            || !is_read_so(schema, plan, options)
+            || !are_nulls_alike(nulls)
+        {
             return Ok(Verbatim::none(alloc));
         }
         let separator = plan.dialect.separator;
-        let form = if is_same(separator, options) {
+        let form = if is_same(separator, nulls, options) {
             None
         } else {
-            Some(Form::of(alloc, options)?)
+            Some(Form::of(alloc, options, nulls)?)
         };
         Ok(Verbatim {
             kinds: kinds_of(alloc, schema)?,

@@ -36,8 +36,8 @@ fn is_special_byte(byte: u8, separator: u8, quote: u8) -> bool
     byte == separator || byte == b'\n' || byte == b'\r' || byte == quote
 }
 
-// How many bytes stand before the first that only a quoted text may hold.
-fn count_before_special(bytes: &[u8], separator: u8, quote: u8) -> usize
+/// How many bytes stand before the first that only a quoted text may hold.
+pub(crate) fn count_before_special(bytes: &[u8], separator: u8, quote: u8) -> usize
     ensures value { result ≡ prefix_len (λ x. not (is_special separator quote x)) bytes.now }
     ensures within { result ≤ length bytes.now }
 {
@@ -65,9 +65,29 @@ fn bare_end(text: &[u8], at: usize, separator: u8, quote: u8) -> Option<usize>
     }
 }
 
-/// The place behind the text between quotes that begins at a place. A short one that is ASCII is seen at once.
-#[inline]
-pub(crate) fn quoted_text_end(text: &[u8], at: usize, quote: u8) -> Option<usize>
+// The place behind the text between quotes that begins at a place, where it is short, ASCII, and holds no quote and no line end.
+#[inline(always)]
+fn short_quoted_end(text: &[u8], at: usize, quote: u8) -> Option<usize>
+    requires inside { at < length text.now }
+    requires quote { slice_index text.now at ≡ quote }
+    ensures after { IfSome result (λ end. at + 2 ≤ end) }
+    ensures within { IfSome result (λ end. end ≤ length text.now) }
+    ensures text { IfSome result (λ end. IsQuotedText quote (slice_range text.now at end)) }
+{
+    let inner = at + 1;
+    if text.len() - inner < 34 {
+        return None;
+    }
+    let count = count_before_stop(&text[inner..inner + 32], quote, quote);
+    if 0 < count && count < 32 && text[inner + count] == quote && text[inner + count + 1] != quote {
+        Some(inner + count + 1)
+    } else {
+        None
+    }
+}
+
+// The same of any text, part by part between its quotes.
+fn long_quoted_end(text: &[u8], at: usize, quote: u8) -> Option<usize>
     requires inside { at < length text.now }
     requires quote { slice_index text.now at ≡ quote }
     requires ascii { quote < 128 }
@@ -75,20 +95,7 @@ pub(crate) fn quoted_text_end(text: &[u8], at: usize, quote: u8) -> Option<usize
     ensures within { IfSome result (λ end. end ≤ length text.now) }
     ensures text { IfSome result (λ end. IsQuotedText quote (slice_range text.now at end)) }
 {
-    let inner = at + 1;
-    if text.len() - inner >= 32 {
-        let count = count_before_stop(&text[inner..inner + 32], quote, quote);
-        let end = inner + count + 1;
-        if 0 < count
-            && count < 32
-            && text[inner + count] == quote
-            && end < text.len()
-            && text[end] != quote
-        {
-            return Some(end);
-        }
-    }
-    let mut from = inner;
+    let mut from = at + 1;
     while from < text.len() {
         let count = memchr(quote, &text[from..])?;
         if !validate_utf8(&text[from..from + count]) {
@@ -101,6 +108,22 @@ pub(crate) fn quoted_text_end(text: &[u8], at: usize, quote: u8) -> Option<usize
         from = end + 1;
     }
     None
+}
+
+/// The place behind the text between quotes that begins at a place.
+#[inline]
+pub(crate) fn quoted_text_end(text: &[u8], at: usize, quote: u8) -> Option<usize>
+    requires inside { at < length text.now }
+    requires quote { slice_index text.now at ≡ quote }
+    requires ascii { quote < 128 }
+    ensures after { IfSome result (λ end. at + 2 ≤ end) }
+    ensures within { IfSome result (λ end. end ≤ length text.now) }
+    ensures text { IfSome result (λ end. IsQuotedText quote (slice_range text.now at end)) }
+{
+    if let Some(end) = short_quoted_end(text, at, quote) {
+        return Some(end);
+    }
+    long_quoted_end(text, at, quote)
 }
 
 // The place behind the text between quotes that begins at a place. None where it needs no quotes.

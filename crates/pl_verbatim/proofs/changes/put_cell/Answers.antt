@@ -1,7 +1,7 @@
 -- What is put of a cell is what is written of it.
 use Rattle.std.proofs.Common.{◌++◌, take, ap, sym, subst, ◌∙◌, arith}
-use Rattle.pl_verbatim.specs.Changes.{IsChangeOfKind}
-use Rattle.pl_verbatim.proofs.ChangeLaws.{null-change}
+use Rattle.pl_verbatim.specs.Changes.{IsChangeOfKind, null_test_of}
+use Rattle.pl_verbatim.proofs.ChangeLaws.{missing-change}
 use Rattle.pl_verbatim.proofs.FrontKeptLaws.{front-kept}
 use Rattle.pl_verbatim.proofs.RowLaws.{nothing}
 use Rattle.pl_verbatim.proofs.changes.put_cell.Goals as goal
@@ -16,10 +16,6 @@ returns-then-text-at-clause-put g c = record {
   written = c.args.form.now.null.items;
   now_is = c.in_ok-end.ensures.text ∙ ap (λ l. take c.args.place c.args.out.now ++ l) c.deref.ensures.value;
   cell =
-      subst (λ l. IsChangeOfKind c.args.separator c.args.quote c.args.form.now c.args.kind l c.args.form.now.null.items) (sym (nothing c.args.text.now c.args.at))
-      (null-change c.args.separator c.args.quote c.args.form.now c.args.kind);
+      subst (λ l. IsChangeOfKind c.args.separator c.args.quote c.args.form.now (null_test_of c.args.form.now) c.args.kind l c.args.form.now.null.items) (sym (nothing c.args.text.now c.args.at))
+      (missing-change c.args.separator c.args.quote c.args.form.now c.args.kind);
 }
-
-pub returns-clause-kept : goal.returns-clause-kept
-returns-clause-kept g c =
-    front-kept c.args.place c.in_ok-end-2.end c.args.out.now c.put_found.new.out _ c.requires.place (omega (arith, c.in_ok-end-2.ensures.within)) c.in_ok-end-2.ensures.text

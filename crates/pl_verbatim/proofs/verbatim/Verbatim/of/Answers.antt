@@ -3,7 +3,10 @@ use Rattle.pl_write.specs.Options.{cell_options}
 use Rattle.pl_verbatim.specs.CellTexts.{as_read}
 use Rattle.pl_verbatim.specs.Changes.{IsFormOf}
 use Rattle.pl_verbatim.specs.Verbatim.{IsReadSo}
+use Rattle.std.specs.Option.{option_map}
+use Rattle.pl_cells.specs.NullValues.{means_null}
 use Rattle.pl_verbatim.proofs.LineLaws.{are-readable}
+use Rattle.pl_verbatim.proofs.NullLaws.{alike-nulls}
 use Rattle.pl_verbatim.proofs.verbatim.Verbatim.of.Goals as goal
 use Rattle.pl_verbatim.proofs.verbatim.Verbatim.of.Goals.{then-is_same, else-is_same+in_ok-of}
 
@@ -16,9 +19,12 @@ returns c =
     let separator = c.args.plan.now.dialect.separator in
     record {
       same = λ none some.
-          let alike : o ≡ as_read separator o = elim c.if-is_same.branch [ then-is_same w ↦ w.if-is_same.ensures | else-is_same+in_ok-of w ↦ let other = sym w.form-is ∙ none in absurd (cc) ] in
+          let alike : o ≡ as_read separator o = elim c.if-is_same.branch [ then-is_same w ↦ w.if-is_same.ensures.same | else-is_same+in_ok-of w ↦ let other = sym w.form-is ∙ none in absurd (cc) ] in
+          let none_null : c.args.plan.now.options.null_values ≡ None =
+          elim c.if-is_same.branch [ then-is_same w ↦ w.if-is_same.ensures.none | else-is_same+in_ok-of w ↦ let other = sym w.form-is ∙ none in absurd (cc) ] in
           record {
             rows = record {
+              nulls = λ column. ap (λ nulls. means_null (option_map (λ nulls. nulls.now) nulls) column) none_null;
               read = subst (IsReadSo c.args.plan.now c.args.schema.now) (sym alike) c.if-not-is_read_so.ensures;
               terminator = ap (λ o. o.terminator) alike;
               null = ap (λ o. o.null) alike;
@@ -28,10 +34,16 @@ returns c =
             kinds = c.in_ok-kinds_of.ensures.kinds some;
           };
       changed = λ form has some. record {
+        nulls =
+            let nulls_are : form.nulls ≡ option_map (λ nulls. nulls.now) c.args.plan.now.options.null_values = elim c.if-is_same.branch [
+              | then-is_same w ↦ let other = sym w.form-is ∙ has in absurd (cc)
+              | else-is_same+in_ok-of w ↦ let same : w.in_ok-of.field-0 ≡ form = let both = sym w.form-is ∙ has in cc in ap (λ f. f.nulls) (sym same) ∙ w.in_ok-of.ensures.nulls
+            ] in
+            λ column. alike-nulls (option_map (λ nulls. nulls.now) c.args.plan.now.options.null_values) column c.if-not-are_nulls_alike.ensures ∙ ap (λ n. means_null n 0) (sym nulls_are);
         rows = c.if-not-is_read_so.ensures;
         written = elim c.if-is_same.branch [
           | then-is_same w ↦ let other = sym w.form-is ∙ has in absurd (cc)
-          | else-is_same+in_ok-of w ↦ let same : w.in_ok-of.field-0 ≡ form = let both = sym w.form-is ∙ has in cc in subst (IsFormOf o c.args.options.now.quote_char) same w.in_ok-of.ensures
+          | else-is_same+in_ok-of w ↦ let same : w.in_ok-of.field-0 ≡ form = let both = sym w.form-is ∙ has in cc in subst (IsFormOf o c.args.options.now.quote_char) same w.in_ok-of.ensures.form
         ];
         kinds = c.in_ok-kinds_of.ensures.kinds some;
       };

@@ -1,7 +1,7 @@
 use Rattle.std.proofs.Common.{length, ◌-◌, ◌<◌, ◌≤◌, ◌+◌}
 use Rattle.std.specs.List.{slice_range}
 use Rattle.pl_verbatim.proofs.TextInnerLaws.{HasInner}
-use Rattle.pl_verbatim.proofs.texts.quoted_text_end.Given as goal
+use Rattle.pl_verbatim.proofs.texts.long_quoted_end.Given as goal
 
 abbrev pub invariant-loop-from : goal.invariant-loop-from
 invariant-loop-from l = record {

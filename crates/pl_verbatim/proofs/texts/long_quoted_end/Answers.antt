@@ -2,7 +2,7 @@ use Rattle.std.proofs.Common.{◌≡◌, ◌+◌, true, ◌∙◌, sym, arith}
 use Rattle.std.specs.List.{slice_range}
 use Rattle.std.specs.Str.{is_utf8}
 use Rattle.pl_verbatim.proofs.TextInnerLaws.{IsNextQuote, part_read, quote_read, text_read}
-use Rattle.pl_verbatim.proofs.texts.quoted_text_end.Goals as goal
+use Rattle.pl_verbatim.proofs.texts.long_quoted_end.Goals as goal
 
 pub loop-from-preserved : goal.loop-from-preserved
 loop-from-preserved c =
@@ -29,6 +29,3 @@ returns-then-end-text-clause-text c =
     let utf8 : is_utf8 (slice_range text from (from + count)) ≡ true = sym c.validate_utf8.ensures ∙ c.if-not-validate_utf8.false in
     let has = part_read c.args.quote text from count inside found c.args.at c.loop-from.invariant.behind c.loop-from.invariant.read utf8 in
     text_read c.args.quote text from count inside found c.args.at c.loop-from.invariant.behind c.requires.quote has
-
-pub returns-then-text-end-clause-text : goal.returns-then-text-end-clause-text
-returns-then-text-end-clause-text c = ?

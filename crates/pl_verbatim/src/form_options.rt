@@ -1,0 +1,98 @@
+//! The form of rows that are written otherwise than they were read, by the options.
+ghost use Rattle.std.specs.Prelude.{◌≡◌, ◌<◌, ℕ, true, not, IfOk};
+ghost use Rattle.pl_frame.specs.declared.data_type.DataType.{DataType};
+ghost use Rattle.pl_frame.specs.Types.{is_numeric};
+ghost use Rattle.pl_text.specs.FrameText.{WriteOptions, is_bare, written_null};
+ghost use Rattle.std.specs.Option.{option_map};
+ghost use Rattle.pl_write.specs.Options.{cell_options};
+ghost use Rattle.pl_verbatim.specs.Changes.{IsFormOf};
+ghost use Rattle.pl_verbatim.specs.Nulls.{are_alike};
+ghost use Rattle.pl_verbatim.specs.Kinds.{IsKindOf};
+
+use crate::form::Form;
+use crate::kinds::Kind;
+use pl_cells::null_values::NullValuesCompiled;
+use pl_write::options::{QuoteStyle, SerializeOptions};
+use std::alloc::{AllocError, Global};
+
+// What is written of a null. Refuses only want of memory.
+fn null_of(alloc: Global, options: &SerializeOptions) -> Result<Vec<u8>, AllocError>
+    ensures { IfOk result (λ null. null.items ≡ written_null (cell_options options.now)) }
+{
+    let text = options.null.as_str().as_bytes();
+    let mut null = Vec::new(alloc);
+    if options.quote_style == QuoteStyle::Always {
+        null.push(options.quote_char)?;
+        null.extend_from_slice(text)?;
+        null.push(options.quote_char)?;
+        return Ok(null);
+    }
+    null.extend_from_slice(text)?;
+    Ok(null)
+}
+
+// A text of one's own. Refuses only want of memory.
+fn copy_of(alloc: Global, text: &[u8]) -> Result<Vec<u8>, AllocError>
+    ensures { IfOk result (λ copy. copy.items ≡ text.now) }
+{
+    let mut copy = Vec::new(alloc);
+    copy.extend_from_slice(text)?;
+    Ok(copy)
+}
+
+// Equal texts, where there are such. Refuses only want of memory.
+fn nulls_of(nulls: Option<&NullValuesCompiled>) -> Result<Option<NullValuesCompiled>, AllocError>
+    ensures { IfOk result (λ copy. copy ≡ option_map (λ nulls. nulls.now) nulls.entry) }
+{
+    let Some(nulls) = nulls else {
+        return Ok(None);
+    };
+    match nulls.try_clone() {
+        Ok(copy) => Ok(Some(copy)),
+        Err(_) => Err(AllocError),
+    }
+}
+
+impl Form {
+    /// The form of these options, where these texts mean null. Refuses only want of memory.
+    pub(crate) fn of(
+        alloc: Global,
+        options: &SerializeOptions,
+        nulls: Option<&NullValuesCompiled>,
+    ) -> Result<Form, AllocError>
+        requires style { (cell_options options.now).style < 3 }
+        requires alike { are_alike (option_map (λ nulls. nulls.now) nulls) ≡ true }
+        ensures form { IfOk result (IsFormOf (cell_options options.now) options.now.quote_char) }
+        ensures nulls { IfOk result (λ form. form.nulls ≡ option_map (λ nulls. nulls.now) nulls.entry) }
+    {
+        Ok(Form {
+            nulls: nulls_of(nulls)?,
+            separator: options.separator,
+            quotes_numbers: options.quote_style == QuoteStyle::Always,
+            quotes_values: options.quote_style != QuoteStyle::Necessary,
+            null: null_of(alloc, options)?,
+            terminator: copy_of(alloc, options.line_terminator.as_str().as_bytes())?,
+        })
+    }
+
+    /// Whether a value of a kind that is no text stands between quotes.
+    #[inline(always)]
+    pub(crate) fn quotes(&self, kind: Kind) -> bool
+        ensures { (o : WriteOptions) (quote : ℕ) (type : DataType) → IsFormOf o quote self.now → IsKindOf type kind → result ≡ not (is_bare o.style (is_numeric type)) }
+    {
+        match kind {
+            Kind::Whole {
+                digits: _,
+                is_signed: _,
+            } => self.quotes_numbers,
+            Kind::Decimal {
+                digits: _,
+                scale: _,
+            } => self.quotes_numbers,
+            Kind::Text => self.quotes_values,
+            Kind::Boolean => self.quotes_values,
+            Kind::Date => self.quotes_values,
+            Kind::Datetime { places: _ } => self.quotes_values,
+        }
+    }
+}

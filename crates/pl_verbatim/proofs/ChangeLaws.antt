@@ -1,13 +1,13 @@
 -- Cells that are written otherwise than they were read: what is written of each, by what is written of it where it is written as it was read.
-use Rattle.std.proofs.Common.{◌≡◌, ℕ, ◌+◌, ◌-◌, ◌<◌, ◌≤◌, Bool, true, false, not, ◌||◌, ◌==◌, cond, if◌then◌else◌, List, [], ◌∷◌, ◌++◌, length, Option, None, Some, refl, sym, ◌∙◌, ap, ap₂, subst, inl, inr, arith, take, drop, length-append, append-nil, zero, suc, Ok}
+use Rattle.std.proofs.Common.{◌≡◌, ℕ, ◌-◌, ◌<◌, ◌≤◌, Bool, true, false, not, ◌||◌, ◌==◌, cond, if◌then◌else◌, List, [], ◌∷◌, ◌++◌, length, Option, None, Some, refl, sym, ◌∙◌, ap, subst, inl, inr, arith, drop, append-nil, zero, suc}
 use Rattle.std.specs.List.{list_any, slice_range}
 use Rattle.std.proofs.lemmas.List.{length-take-le, length-drop}
 use Rattle.pl_frame.specs.declared.data_type.DataType.{DataType}
 use Rattle.pl_frame.specs.declared.data_type.DataType.TheVariants as dtype
 use Rattle.pl_frame.specs.Frame.{Scalar, Truth, Number, Letters}
-use Rattle.pl_frame.specs.Types.{is_numeric, is_text, is_readable, is_whole_number}
+use Rattle.pl_frame.specs.Types.{is_numeric, is_text, is_readable}
 use Rattle.pl_text.specs.ValueText.{printed}
-use Rattle.pl_text.specs.FrameText.{WriteOptions, is_bare, is_special, needs_quotes, doubled, quoted, written_text, written_value, written_null, written_cell}
+use Rattle.pl_text.specs.FrameText.{WriteOptions, is_bare, is_special, needs_quotes, doubled, quoted, written_text, written_value, written_cell}
 use Rattle.pl_cells.specs.Cells.{cell}
 use Rattle.pl_cells.specs.NullTest.{nothing_is_null}
 use Rattle.pl_cells.specs.NullValues.{means_null, is_null_text}
@@ -23,7 +23,7 @@ use Rattle.pl_verbatim.specs.declared.kinds.Kind.TheVariants as kind
 use Rattle.pl_verbatim.specs.CellTexts.{as_read, IsQuotedText, IsBareText, IsSecondsText, IsCellOptions, IsCellOf, IsChangeOf, zeros_text}
 use Rattle.pl_verbatim.specs.Changes.{IsFormOf, framed, null_test_of, IsNullField, IsOtherField, IsChangeOfKind}
 use Rattle.pl_verbatim.proofs.NullLaws.{cell-missing}
-use Rattle.pl_verbatim.specs.Kinds.{IsKindOf, HoldsMoments}
+use Rattle.pl_verbatim.specs.Kinds.{IsKindOf}
 use Rattle.pl_verbatim.proofs.CellLaws.{IsCellOfKind, value-fits, no-written_null}
 use Rattle.pl_verbatim.proofs.CopyLaws.{whole-other, cell-read, cell-field, quoted-read}
 use Rattle.pl_verbatim.proofs.QuotedLaws.{between-quotes, needs-doubled, bare-inside}

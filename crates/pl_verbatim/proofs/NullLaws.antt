@@ -3,9 +3,9 @@ use Rattle.std.proofs.Common.{◌≡◌, ℕ, ◌<◌, nat_eq, Bool, true, false
 use Rattle.std.proofs.lemmas.Bool.Decides.{nat_tests}
 use Rattle.std.specs.List.{ends_with}
 use Rattle.pl_frame.specs.declared.data_type.DataType.{DataType}
-use Rattle.pl_cells.specs.Cells.{Reading, cell, stripped_cell, is_missing}
-use Rattle.pl_cells.specs.NullTest.{NullTest, nothing_is_null, null_test}
-use Rattle.pl_cells.specs.Quoting.{strip, quote_of}
+use Rattle.pl_cells.specs.Cells.{Reading, cell, stripped_cell}
+use Rattle.pl_cells.specs.NullTest.{NullTest, nothing_is_null}
+use Rattle.pl_cells.specs.Quoting.{quote_of}
 use Rattle.pl_scan.specs.Fields.{begins_quoted}
 use Rattle.pl_round_trip.proofs.FieldLaws.{stripped}
 use Rattle.pl_cells.specs.NullValues.{HasColumns, means_null}

@@ -45,7 +45,6 @@ bare-inside s q text bare =
     let none = (neither (length text == 0) (list_any (is_special s q) text) (sym (needs-doubled s q text) ∙ bare)).1 in
     doubled-lacks q text (bare-lacks s q text none).0
 
-
 -- ---- places
 
 cut-last : (p q : ℕ) (xs ys : List ℕ) → xs ++ p ∷ [] ≡ ys ++ q ∷ [] → xs ≡ ys

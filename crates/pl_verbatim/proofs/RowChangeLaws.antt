@@ -1,15 +1,10 @@
 -- What is put of a row is what is written of a cell, and behind the separator what is written of the rest of the row.
 use Rattle.std.proofs.Common.{◌≡◌, ℕ, ◌+◌, ◌-◌, ◌<◌, ◌≤◌, List, [], ◌∷◌, ◌++◌, length, get_or, refl, sym, ap, ap₂, ◌∙◌, subst, arith, append_assoc, append-nil}
 use Rattle.std.specs.List.{join_with_byte}
-use Rattle.pl_frame.specs.Schema.{Entry}
-use Rattle.pl_text.specs.FrameText.{WriteOptions}
-use Rattle.pl_round_trip.specs.Fits.{FitsOptions}
 use Rattle.pl_verbatim.specs.declared.form.Form.{Form}
 use Rattle.pl_verbatim.specs.declared.kinds.Kind.{Kind}
 use Rattle.pl_verbatim.specs.CellTexts.{as_read}
-use Rattle.pl_verbatim.specs.Changes.{IsFormOf, null_test_of, IsChangeOfKind, AreChangesOf, IsLineChangeOf, IsLineChangeOfKinds, IsCellPut, IsRowPut}
-use Rattle.pl_verbatim.specs.Kinds.{AreKindsOf, AreReadable}
-use Rattle.pl_verbatim.proofs.RowLaws.{nothing}
+use Rattle.pl_verbatim.specs.Changes.{null_test_of, IsChangeOfKind, AreChangesOf, IsLineChangeOf, IsLineChangeOfKinds, IsCellPut, IsRowPut}
 use Rattle.pl_verbatim.proofs.RowStepLaws.{AreLinesBefore, line-step, line-last}
 
 -- the last field, with a line feed behind it

@@ -21,9 +21,9 @@ pub record IsLineEnded (Line : List Kind → List ℕ → List ℕ → Type 0) (
   pub line : Line kinds (slice_range text start end) copy
 
 module _ (separator mark : ℕ) (ending : List ℕ) (Cell : Kind → List ℕ → List ℕ → Type 0) (Line : List Kind → List ℕ → List ℕ → Type 0)
-  (last : (kind : Kind) (field written : List ℕ) → Cell kind field written → Line (kind ∷ []) (field ++ 10 ∷ []) (written ++ ending))
-  (more : (kind second : Kind) (kinds : List Kind) (field written rest copy : List ℕ) → Cell kind field written → Line (second ∷ kinds) rest copy
-      → Line (kind ∷ second ∷ kinds) (field ++ separator ∷ rest) (written ++ mark ∷ copy)) where
+    (last : (kind : Kind) (field written : List ℕ) → Cell kind field written → Line (kind ∷ []) (field ++ 10 ∷ []) (written ++ ending))
+    (more : (kind second : Kind) (kinds : List Kind) (field written rest copy : List ℕ) → Cell kind field written → Line (second ∷ kinds) rest copy
+    → Line (kind ∷ second ∷ kinds) (field ++ separator ∷ rest) (written ++ mark ∷ copy)) where
   -- behind one field more
   pub line-step : (text : List ℕ) (start : ℕ) (kinds : List Kind) (index at end : ℕ) (any : Kind) (before now later written : List ℕ)
       → AreLinesBefore Line text start kinds index at before now → index + 1 < length kinds → at ≤ end → end < length text → slice_index text end ≡ separator

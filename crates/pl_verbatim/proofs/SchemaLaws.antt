@@ -1,11 +1,10 @@
 -- The columns of a schema, each with its kind, and their places.
-use Rattle.std.proofs.Common.{◌≡◌, ℕ, zero, suc, ◌+◌, ◌<◌, true, List, [], ◌∷◌, ◌++◌, length, take, Some, refl, sym, ◌∙◌, ap, subst, arith}
+use Rattle.std.proofs.Common.{◌≡◌, ℕ, zero, suc, ◌+◌, ◌<◌, true, List, [], ◌∷◌, ◌++◌, length, take, Some, refl, ◌∙◌, ap, subst, arith}
 use Rattle.std.specs.Prelude.{slice_get, slice_index}
 use Rattle.std.specs.List.{All, range_with_len}
 use Rattle.pl_frame.specs.Schema.{Entry}
-use Rattle.pl_frame.specs.Types.{is_readable}
 use Rattle.pl_verbatim.specs.declared.kinds.Kind.{Kind}
-use Rattle.pl_verbatim.specs.Kinds.{AreReadable, AreKindsOf, IsKindOf, is_sound_kind}
+use Rattle.pl_verbatim.specs.Kinds.{AreKindsOf, IsKindOf, is_sound_kind}
 
 -- places that are each their own index
 places-from : (a : ℕ) (places : List ℕ) → ((k : ℕ) → k < length places → slice_index places k ≡ a + k) → places ≡ range_with_len a (length places)

@@ -29,6 +29,7 @@ use std::alloc::{AllocError, Global};
 
 // What is written of rows is put together in so many bytes, and is appended when it has so many.
 const BLOCK: usize = 1 << 16;
+
 const FULL: usize = 1 << 15;
 
 // Whether these places are all of so many, in order.
@@ -77,11 +78,7 @@ fn are_nulls_alike(nulls: Option<&NullValuesCompiled>) -> bool
 }
 
 // Whether cells are written by this separator, quoted where necessary, with nothing for a null and a line feed behind a line, and no text means null.
-fn is_same(
-    separator: u8,
-    nulls: Option<&NullValuesCompiled>,
-    options: &SerializeOptions,
-) -> bool
+fn is_same(separator: u8, nulls: Option<&NullValuesCompiled>, options: &SerializeOptions) -> bool
     ensures same { OnTrue result (cell_options options.now ≡ as_read separator (cell_options options.now)) }
     ensures none { OnTrue result (nulls.entry ≡ None) }
 {

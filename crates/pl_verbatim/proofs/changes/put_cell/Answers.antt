@@ -2,7 +2,6 @@
 use Rattle.std.proofs.Common.{◌++◌, take, ap, sym, subst, ◌∙◌, arith}
 use Rattle.pl_verbatim.specs.Changes.{IsChangeOfKind, null_test_of}
 use Rattle.pl_verbatim.proofs.ChangeLaws.{missing-change}
-use Rattle.pl_verbatim.proofs.FrontKeptLaws.{front-kept}
 use Rattle.pl_verbatim.proofs.RowLaws.{nothing}
 use Rattle.pl_verbatim.proofs.changes.put_cell.Goals as goal
 

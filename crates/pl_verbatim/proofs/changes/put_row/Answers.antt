@@ -1,5 +1,5 @@
 -- Each cell is put behind those before it, and the last is followed by what ends a line.
-use Rattle.std.proofs.Common.{◌≡◌, ◌+◌, ◌<◌, ◌≤◌, ◌++◌, length, take, sym, ap, ◌∙◌, arith}
+use Rattle.std.proofs.Common.{◌≡◌, ◌<◌, ◌≤◌, ◌++◌, length, take, ap, ◌∙◌, arith}
 use Rattle.std.proofs.lemmas.Bool.Decides.{nat_tests}
 use Rattle.pl_verbatim.specs.declared.kinds.Kind.TheVariants as kind
 use Rattle.pl_verbatim.proofs.FrontKeptLaws.{front-shorter, front-kept, put-behind}

@@ -1,5 +1,5 @@
 -- A text stays between its quotes where it needs them.
-use Rattle.std.proofs.Common.{◌≡◌, ◌||◌, ◌+◌, ◌-◌, [], ◌++◌, true, false, refl, ap, sym, ◌∙◌, append-nil, arith}
+use Rattle.std.proofs.Common.{◌≡◌, ◌||◌, ◌+◌, ◌-◌, [], ◌++◌, true, false, ap, sym, ◌∙◌, append-nil, arith}
 use Rattle.std.specs.Prelude.{slice_range}
 use Rattle.pl_text.specs.FrameText.{needs_quotes}
 use Rattle.pl_verbatim.proofs.ChangeLaws.{quoted-change}

@@ -1,5 +1,5 @@
 -- Each row is one more of those that were copied.
-use Rattle.std.proofs.Common.{◌≡◌, ◌+◌, ◌++◌, [], length, take, sym, ap, subst, ◌∙◌, append-nil, arith}
+use Rattle.std.proofs.Common.{◌+◌, ◌++◌, take, sym, subst, append-nil, arith}
 use Rattle.std.specs.Result.{is_ok}
 use Rattle.pl_verbatim.specs.Verbatim.{AreRowsCopied}
 use Rattle.pl_verbatim.proofs.FrontLaws.{copied-none, changed-more, row-behind}

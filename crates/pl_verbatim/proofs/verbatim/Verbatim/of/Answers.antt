@@ -1,4 +1,4 @@
-use Rattle.std.proofs.Common.{◌≡◌, None, Some, refl, sym, ap, ◌∙◌, subst}
+use Rattle.std.proofs.Common.{◌≡◌, None, refl, sym, ap, ◌∙◌, subst}
 use Rattle.pl_write.specs.Options.{cell_options}
 use Rattle.pl_verbatim.specs.CellTexts.{as_read}
 use Rattle.pl_verbatim.specs.Changes.{IsFormOf}

@@ -12,9 +12,9 @@ use Rattle.pl_table.specs.Rows.{Row, rows}
 use Rattle.pl_rows.specs.declared.columns.RangeColumns.{RangeColumns}
 use Rattle.pl_rows.specs.declared.plan.RangePlan.{RangePlan}
 use Rattle.pl_rows.specs.Columns.{columns_in, entries_in, frame_of_rows}
-use Rattle.pl_rows.specs.Pieces.{end_behind, plan_behind, is_fault, IsRowFit}
+use Rattle.pl_rows.specs.Pieces.{end_behind, plan_behind, IsRowFit}
 use Rattle.pl_rows.specs.Plan.{rules_of}
-use Rattle.pl_rows.specs.Ranges.{limited, rows_of, is_judged, has_unjudged, end_of, range_end, range_frame, rows_read, sound_rows, IsRangeRead}
+use Rattle.pl_rows.specs.Ranges.{limited, is_judged, end_of, range_end, range_frame, rows_read, sound_rows, IsRangeRead}
 use Rattle.pl_rows.specs.Rows.{first_faulty}
 use Rattle.pl_rows.specs.WholePieces.{IsSoundText, text_frame}
 use Rattle.pl_rows.proofs.RangeLaws.{few_rows}

@@ -1,6 +1,6 @@
 -- What is printed of data piece by piece is the text of its frame.
-use Rattle.std.proofs.Common.{◌≡◌, ℕ, Bool, true, false, not, ◌||◌, List, [], ◌∷◌, map, length, filter, refl, sym, ◌∙◌, ap, subst, inl, inr, append-nil}
-use Rattle.std.specs.Prelude.{◌⊎◌, None, Some, Result, Ok, Err, IfOk, OnOk, IfErr, MatchResult}
+use Rattle.std.proofs.Common.{◌≡◌, ℕ, zero, suc, Bool, true, false, not, ◌||◌, List, [], ◌∷◌, map, length, filter, refl, sym, ◌∙◌, ap, subst, inl, inr, append-nil}
+use Rattle.std.specs.Prelude.{◌⊎◌, Option, None, Some, Result, Ok, Err, IfOk, OnOk, IfErr, MatchResult}
 use Rattle.std.specs.Cow.{cow_slice_items}
 use Rattle.std.specs.List.{concat, list_any}
 use Rattle.std.specs.Option.{option_map}
@@ -21,7 +21,9 @@ use Rattle.pl_options.specs.declared.read_options.CsvReadOptions.{CsvReadOptions
 use Rattle.pl_infer.specs.Schemas.{is_categorical}
 use Rattle.pl_table.specs.Rows.{Row}
 use Rattle.pl_regions.specs.declared.printing.PrintedRows.{PrintedRows}
+use Rattle.pl_regions.proofs.LimitLaws.{same-plan}
 use Rattle.pl_regions.proofs.PrintingLaws.{level-frame}
+use Rattle.pl_regions.specs.Limits.{without_limit}
 use Rattle.pl_rows.specs.Cells.{RowRules}
 use Rattle.pl_rows.specs.Columns.{read_column, entries_in, columns_in, frame_of_rows}
 use Rattle.pl_rows.specs.Pieces.{is_fault}
@@ -62,13 +64,9 @@ pub plan-dialect : (plan : RangePlan) (o : CsvReadOptions) (schema : List Entry)
 plan-dialect plan o schema records can =
     subst (λ m. IsDialect m (comment_of plan.dialect)) (sym can.plan_is.marks_are) (subst (IsDialect (infer.marks_of o.parse_options)) (sym can.plan_is.comment_is) can.dialect)
 
--- without a limit
-pub plan-unlimited : (plan : RangePlan) (o : CsvReadOptions) (schema : List Entry) → IsPlanOf plan o schema → IsRowByRow o schema → plan.limit ≡ None
-plan-unlimited plan o schema is plain = is.limit_is ∙ plain.unlimited
-
--- and texts can be printed by it
-pub can-print : (plan : RangePlan) (o : CsvReadOptions) (schema : List Entry) (records : List ℕ) → CanReadData plan o schema records → IsRowByRow o schema → CanPrint plan schema
-can-print plan o schema records can plain =
+-- and texts can be printed by it, up to its limit
+pub can-print : (plan : RangePlan) (o : CsvReadOptions) (schema : List Entry) (records : List ℕ) → CanReadData plan o schema records → CanPrint (without_limit plan) schema
+can-print plan o schema records can =
     let is = can.plan_is in
     record {
       dialect = plan-dialect plan o schema records can;
@@ -76,8 +74,12 @@ can-print plan o schema records can plain =
       rising = subst (AreRising 0 (length schema)) (sym is.places_are) (projected-rises o schema);
       readable = readable-places schema plan.projection.places.now can.readable (projected-below o schema plan.projection.places.now is.places_are);
       texts = can.texts;
-      unlimited = plan-unlimited plan o schema is plain;
+      unlimited = refl;
     }
+
+-- or all of them, where it has none
+pub can-print_all : (plan : RangePlan) (o : CsvReadOptions) (schema : List Entry) (records : List ℕ) → CanReadData plan o schema records → o.n_rows ≡ None → CanPrint plan schema
+can-print_all plan o schema records can none = subst (λ p. CanPrint p schema) (same-plan plan (can.plan_is.limit_is ∙ none)) (can-print plan o schema records can)
 
 -- ---- no numbers
 
@@ -107,43 +109,43 @@ frame-plain o schema records plain = ap (λ i. with_index i (length (rows_in o r
 -- ---- a range without bytes
 
 -- has no rows
-none-rows : (plan : RangePlan) → plan.limit ≡ None → rows_of plan [] ≡ []
-none-rows plan all = ap (limited plan.limit) (rows-nil (marks_of plan.dialect) (comment_of plan.dialect)) ∙ ap (λ limit. limited {X = Row} limit []) all
+limited-none : (limit : Option ℕ) → limited {X = Row} limit [] ≡ []
+limited-none None = refl
+limited-none (Some zero) = refl
+limited-none (Some (suc n)) = refl
 
-none-judged : (plan : RangePlan) → plan.limit ≡ None → judged_rows plan [] ≡ []
-none-judged plan all = ap (filter (is_judged plan)) (none-rows plan all)
+none-rows : (plan : RangePlan) → rows_of plan [] ≡ []
+none-rows plan = ap (limited plan.limit) (rows-nil (marks_of plan.dialect) (comment_of plan.dialect)) ∙ limited-none plan.limit
+
+none-judged : (plan : RangePlan) → judged_rows plan [] ≡ []
+none-judged plan = ap (filter (is_judged plan)) (none-rows plan)
 
 -- it is read to its end
-none-end : (plan : RangePlan) (columns : Columns) → plan.limit ≡ None → range_end plan columns [] ≡ end.Closed
-none-end plan columns all =
-    ap (λ rs. end_of (first_faulty (plan_rules plan) columns 0 rs) (has_unjudged plan [])) (none-judged plan all)
-    ∙ ap (λ rs. end_of None (list_any (λ row. not (is_judged plan row)) rs)) (none-rows plan all)
+none-end : (plan : RangePlan) (columns : Columns) → range_end plan columns [] ≡ end.Closed
+none-end plan columns =
+    ap (λ rs. end_of (first_faulty (plan_rules plan) columns 0 rs) (has_unjudged plan [])) (none-judged plan)
+    ∙ ap (λ rs. end_of None (list_any (λ row. not (is_judged plan row)) rs)) (none-rows plan)
 
 -- and gives columns without cells
-none-frame : (plan : RangePlan) (schema : List Entry) → plan.limit ≡ None → range_frame plan schema [] ≡ frame_of_rows (plan_rules plan) (entries_in schema plan.projection.places.now) []
-none-frame plan schema all =
-    ap (λ rs. frame_of_rows (plan_rules plan) (entries_in schema plan.projection.places.now) (sound_rows (plan_rules plan) (columns_in schema plan.projection.places.now) rs)) (none-judged plan all)
+none-frame : (plan : RangePlan) (schema : List Entry) → range_frame plan schema [] ≡ frame_of_rows (plan_rules plan) (entries_in schema plan.projection.places.now) []
+none-frame plan schema =
+    ap (λ rs. frame_of_rows (plan_rules plan) (entries_in schema plan.projection.places.now) (sound_rows (plan_rules plan) (columns_in schema plan.projection.places.now) rs)) (none-judged plan)
 
 -- which add nothing to others
-behind-none : (plan : RangePlan) (schema : List Entry) (records : List ℕ) → plan.limit ≡ None → stacked (range_frame plan schema records) (range_frame plan schema []) ≡ range_frame plan schema records
-behind-none plan schema records all =
+behind-none : (plan : RangePlan) (schema : List Entry) (records : List ℕ) → stacked (range_frame plan schema records) (range_frame plan schema []) ≡ range_frame plan schema records
+behind-none plan schema records =
     let rules = plan_rules plan in
     let entries = entries_in schema plan.projection.places.now in
     let given = rows_read plan (columns_in schema plan.projection.places.now) records in
-    ap (stacked (range_frame plan schema records)) (none-frame plan schema all) ∙ columns-stacked rules entries given [] ∙ ap (frame_of_rows rules entries) (append-nil given)
+    ap (stacked (range_frame plan schema records)) (none-frame plan schema) ∙ columns-stacked rules entries given [] ∙ ap (frame_of_rows rules entries) (append-nil given)
 
 -- ---- data whose rows were printed
-
--- a plan without a limit, since rows are read one by one
-pub printed-unlimited : (plan : RangePlan) (o : CsvReadOptions) (schema : List Entry) (write : CsvWriterOptions) (records : List ℕ) (printed : PrintedRows) → ArePrintedOf plan o schema write records printed → plan.limit ≡ None
-printed-unlimited plan o schema write records printed is = plan-unlimited plan o schema is.can.plan_is is.plain
 
 -- the columns without rows are a frame
 pub none-is-frame : (plan : RangePlan) (o : CsvReadOptions) (schema : List Entry) (write : CsvWriterOptions) (records : List ℕ) (printed : PrintedRows) → ArePrintedOf plan o schema write records printed
     → IsFrame (range_frame plan schema [])
 none-is-frame plan o schema write records printed is =
-    let all = printed-unlimited plan o schema write records printed is in
-    let ended = sym (none-end plan (columns_in schema plan.projection.places.now) all) in
+    let ended = sym (none-end plan (columns_in schema plan.projection.places.now)) in
     subst IsFrame (sym (columns-at plan o schema [] end.Closed is.can.plan_is ended (inl refl))) (IsFrame-columns o schema [] is.can.distinct)
 
 -- the text
@@ -154,12 +156,11 @@ data-text plan o schema write records printed rest is ended rest_is =
     let frame = range_frame plan schema records in
     let lines = map cow_slice_items printed.lines.items in
     let none = range_frame plan schema [] in
-    let all = printed-unlimited plan o schema write records printed is in
     let before : concat lines ≡ all_lines (frame_options write) frame = is.is.lines_are (no-fault-end printed.end ended) ∙ lines-alone write frame in
     let same : HaveSameColumns frame none =
     same-rows (plan_rules plan) (entries_in schema plan.projection.places.now) (rows_read plan (columns_in schema plan.projection.places.now) records) (rows_read plan (columns_in schema plan.projection.places.now) []) in
     let whole : stacked frame none ≡ data_frame o schema records =
-    behind-none plan schema records all ∙ columns-at plan o schema records printed.end is.can.plan_is is.is.end_is ended ∙ sym (frame-plain o schema records is.plain) in
+    behind-none plan schema records ∙ columns-at plan o schema records printed.end is.can.plan_is is.is.end_is ended ∙ sym (frame-plain o schema records is.plain) in
     ap (λ columns. printed_text (frame_options write) (names_of columns) lines columns) rest_is
     ∙ printed-is-text (frame_options write) lines frame none same (level-frame plan schema records) before
     ∙ ap (text_of_frame (frame_options write)) whole

@@ -16,10 +16,8 @@ use Rattle.pl_write.specs.declared.options.CsvWriterOptions.{CsvWriterOptions}
 use Rattle.pl_csv.specs.Transcoding.{IsValidRead}
 use Rattle.pl_csv.specs.declared.convert.Printed.{Printed}
 
--- Its rows may be printed as they are read: there is no limit of rows, no row index, and no column of categories, whose codes would have
--- to be counted.
+-- Its rows may be printed as they are read: there is no row index, and no column of categories, whose codes would have to be counted.
 pub record IsRowByRow (read : CsvReadOptions) (schema : List Entry) : Type 0 where
-  pub unlimited : read.n_rows ≡ None
   pub unnumbered : read.row_index ≡ None
   pub uncoded : list_any (λ place. is_categorical (entry_at schema place).1) (projected read schema) ≡ false
 

@@ -82,12 +82,14 @@ pub record IsKept (before now : SourceView) (kept : List ℕ) : Type 0 where
   pub came : Consumes before.left now.left kept
   pub later : before.faults ≤ now.faults
 
--- the options may stand, a schema is given, and no lines are skipped: where the records begin is told by a front of the input
+-- the options may stand, a schema is given, and no lines are skipped: where the records begin is told by a front of the input. No limit of rows is
+-- given: what stands behind it would be judged before it is known to be reached.
 pub record MayReadAhead (read : CsvReadOptions) (write : CsvWriterOptions) : Type 0 where
   pub allowed : MayRead read
   pub quote : HasAsciiQuote write
   pub given : IsSome read.schema
   pub lines : read.skip_lines ≡ 0
+  pub unlimited : read.n_rows ≡ None
 
 -- what the rows of an input are read by: no cause against it stands before those of its rows, and these may be printed as they are read
 pub record IsReadBy (read : CsvReadOptions) (input : List ℕ) (prepared : Prepared) : Type 0 where

@@ -14,6 +14,7 @@ ghost use Rattle.pl_read.specs.Preparing.{IsPrepared};
 ghost use Rattle.pl_read.specs.Projection.{projected};
 ghost use Rattle.pl_read.specs.Rows.{data_frame};
 ghost use Rattle.pl_read.specs.Steps.{MayRead, late_cause, data_cause, CanReadData};
+ghost use Rattle.pl_regions.specs.Limits.{without_limit};
 ghost use Rattle.pl_rows.specs.Ranges.{range_frame};
 ghost use Rattle.pl_verbatim.specs.PrintedTexts.{CanPrint};
 ghost use Rattle.pl_write.specs.Options.{frame_options};
@@ -35,7 +36,8 @@ use pl_read::checks::check_options;
 use pl_read::preparing::{Prepared, prepare};
 use pl_read::reading::{plan_of, read_prepared};
 use pl_read::workers::{piece_size_for, worker_count};
-use pl_regions::printing::{PrintedRows, print_front};
+use pl_regions::first_rows::print_rows;
+use pl_regions::printing::PrintedRows;
 use pl_rows::columns::read_columns;
 use pl_rows::plan::RangePlan;
 use pl_rows::range::RangeEnd;
@@ -80,9 +82,7 @@ pub(crate) fn is_row_by_row(read: &CsvReadOptions, prepared: &Prepared) -> bool
     requires { prepared.now.places.items ≡ projected read.now prepared.now.schema }
     ensures { OnTrue result (IsRowByRow read.now prepared.now.schema) }
 {
-    read.n_rows.is_none()
-        && read.row_index.is_none()
-        && !have_categories(&prepared.schema, &prepared.places)
+    read.row_index.is_none() && !have_categories(&prepared.schema, &prepared.places)
 }
 
 // A frame of no rows, with the columns that are read. Refuses only want of memory.
@@ -91,7 +91,7 @@ fn frame_of_none(
     schema: &Schema,
     plan: &RangePlan<'_>,
 ) -> Result<DataFrame, AllocError>
-    requires can { CanPrint plan.now schema.now }
+    requires can { CanPrint (without_limit plan.now) schema.now }
     requires frame { IsFrame (range_frame plan.now schema.now []) }
     ensures { IfOk result (λ frame. frame ≡ range_frame plan.now schema.now []) }
 {
@@ -153,7 +153,7 @@ fn print_data<'a, W: Threads + Wait + Sync>(
     let options = &write.serialize_options;
     let size = piece_size_for(read.chunk_size, plan.projection.places.len());
     let workers = worker_count(n_threads).min((records.len() / size).saturating_add(1));
-    match print_front(rt, alloc, workers, records, schema, plan, options, size) {
+    match print_rows(rt, alloc, workers, records, schema, plan, options, size) {
         Ok(rows) => read_printed(alloc, rows, read, schema, plan, write),
         Err(_) => Err(PolarsError::OutOfMemory),
     }

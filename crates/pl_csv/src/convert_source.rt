@@ -75,6 +75,7 @@ fn reads_ahead(read: &CsvReadOptions, write: &CsvWriterOptions) -> bool
     ensures { OnTrue result (MayReadAhead read.now write.now) }
 {
     read.schema.is_some()
+        && read.n_rows.is_none()
         && read.skip_lines == 0
         && worker_count(read.n_threads) > 1
         && write.serialize_options.quote_char.is_ascii()

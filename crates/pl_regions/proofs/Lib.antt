@@ -1,3 +1,4 @@
 pub mod RegionLaws
 pub mod ArrivingLaws
 pub mod PrintingLaws
+pub mod LimitLaws

@@ -1,3 +1,4 @@
 pub mod Regions
 pub mod Printing
 pub mod Arriving
+pub mod Limits

@@ -3,6 +3,7 @@
 
 pub mod arriving;
 mod cutting;
+pub mod first_rows;
 pub mod front;
 pub mod printing;
 mod ranges;

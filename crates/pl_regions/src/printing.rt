@@ -54,7 +54,7 @@ fn texts_between<'a>(
 }
 
 // The front of a text whose regions are cut by a guess: as far as each ends where an item does. Refuses only want of memory.
-fn guess_front<'a, W: Threads + Sync>(
+pub(crate) fn guess_front<'a, W: Threads + Sync>(
     rt: &W,
     alloc: Global,
     workers: usize,
@@ -105,7 +105,7 @@ fn range_texts<'a, W: Threads + Wait + Sync>(
 }
 
 // The front of a text whose regions begin where items do. Refuses only want of memory.
-fn range_front<'a, W: Threads + Wait + Sync>(
+pub(crate) fn range_front<'a, W: Threads + Wait + Sync>(
     rt: &W,
     alloc: Global,
     workers: usize,
@@ -126,7 +126,7 @@ fn range_front<'a, W: Threads + Wait + Sync>(
 }
 
 // Two fronts, the second of what the first leaves. Refuses only want of memory.
-fn join_fronts<'a>(first: Front<'a>, next: Front<'a>) -> Result<Front<'a>, AllocError>
+pub(crate) fn join_fronts<'a>(first: Front<'a>, next: Front<'a>) -> Result<Front<'a>, AllocError>
     requires end { first.end + next.end < 2 ^ 64 }
     requires rows { first.rows + next.rows < 2 ^ 64 }
     ensures end { IfOk result (λ front. front.end ≡ first.entry.end + next.entry.end) }
@@ -148,7 +148,7 @@ fn join_fronts<'a>(first: Front<'a>, next: Front<'a>) -> Result<Front<'a>, Alloc
 }
 
 // The lines of columns. Refuses only want of memory.
-fn lines_of(
+pub(crate) fn lines_of(
     alloc: Global,
     columns: &[Column],
     options: &SerializeOptions,
@@ -164,7 +164,10 @@ fn lines_of(
 }
 
 // Appends a text to others, where it has bytes. Refuses only want of memory.
-fn push_text<'a>(lines: &mut Vec<CowSlice<'a, u8, Global>>, text: Vec<u8>) -> Result<(), AllocError>
+pub(crate) fn push_text<'a>(
+    lines: &mut Vec<CowSlice<'a, u8, Global>>,
+    text: Vec<u8>,
+) -> Result<(), AllocError>
     ensures { OnOk result (concat (map cow_slice_items lines.new.items) ≡ concat (map cow_slice_items lines.old.items) ++ text.items) }
 {
     if text.is_empty() {

@@ -2,11 +2,11 @@ use Rattle.pl_csv.specs.Sources.{ArePrintedOf}
 use Rattle.pl_csv.proofs.ConvertLaws.{can-print}
 use Rattle.pl_csv.proofs.convert.print_data.Goals as goal
 
-pub print_front-requires-clause-can : goal.print_front-requires-clause-can
-print_front-requires-clause-can g c κs within = can-print c.args.plan.now c.args.read.now c.args.schema.now c.args.records.now c.requires.can c.requires.plain
+pub print_rows-requires-clause-can : goal.print_rows-requires-clause-can
+print_rows-requires-clause-can g c κs within = can-print c.args.plan.now c.args.read.now c.args.schema.now c.args.records.now c.requires.can
 
-pub print_front-requires-clause-last : goal.print_front-requires-clause-last
-print_front-requires-clause-last g c κs within = c.requires.can.plan_is.is_last
+pub print_rows-requires-clause-last : goal.print_rows-requires-clause-last
+print_rows-requires-clause-last g c κs within = c.requires.can.plan_is.is_last
 
 pub read_printed-requires : goal.read_printed-requires
 read_printed-requires g c = record { printed = (c.args.records.now, record { can = c.requires.can; plain = c.requires.plain; is = c.in-Ok.ensures }) }

@@ -9,7 +9,7 @@ returns-in-Fault-clause-refused c = λ records is.
 pub frame_of_none-requires-clause-can : goal.frame_of_none-requires-clause-can
 frame_of_none-requires-clause-can c =
     let is = c.requires.printed.1 in
-    can-print c.args.plan.now c.args.read.now c.args.schema.now c.requires.printed.0 is.can is.plain
+    can-print c.args.plan.now c.args.read.now c.args.schema.now c.requires.printed.0 is.can
 
 pub frame_of_none-requires-clause-frame : goal.frame_of_none-requires-clause-frame
 frame_of_none-requires-clause-frame c = none-is-frame c.args.plan.now c.args.read.now c.args.schema.now c.args.write.now c.requires.printed.0 c.args.rows c.requires.printed.1

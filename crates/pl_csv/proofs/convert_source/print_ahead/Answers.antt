@@ -6,7 +6,7 @@ use Rattle.pl_cells.specs.NullValues.{compiled_for}
 use Rattle.pl_read.specs.Projection.{projected}
 use Rattle.pl_csv.specs.Sources.{IsUnprinted}
 use Rattle.pl_csv.specs.Views.{source_view}
-use Rattle.pl_csv.proofs.ConvertLaws.{can-print}
+use Rattle.pl_csv.proofs.ConvertLaws.{can-print_all}
 use Rattle.pl_intake.proofs.IntakeLaws.{ok-holds}
 use Rattle.pl_csv.proofs.SourceLaws.{stopped, come-ahead, records-ahead, can-ahead, printed-ahead, read-or-unread}
 use Rattle.pl_csv.proofs.convert_source.print_ahead.Goals as goal
@@ -28,8 +28,8 @@ print_arriving-requires-clause-can g c κs within =
     let input = c.args.intake.now.rest.items ++ [] in
     let plan = c.plan_of-plan.result in
     let by = c.requires.ahead.is [] in
-    can-print plan read prepared.schema (drop prepared.start input)
-    (can-ahead read input prepared plan c.requires.allowed.allowed by c.plan_of-plan.ensures.plan c.plan_of-plan.ensures.nulls c.plan_of-plan.ensures.distinct) by.plain
+    can-print_all plan read prepared.schema (drop prepared.start input)
+    (can-ahead read input prepared plan c.requires.allowed.allowed by c.plan_of-plan.ensures.plan c.plan_of-plan.ensures.nulls c.plan_of-plan.ensures.distinct) c.requires.allowed.unlimited
 
 pub returns-in-Err-clause-refused : goal.returns-in-Err-clause-refused
 returns-in-Err-clause-refused g c = λ before kept.

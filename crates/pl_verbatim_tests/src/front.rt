@@ -1,4 +1,5 @@
-//! Tests of `pl_verbatim::verbatim`: which rows are found to be written as they were read. That those that are found are, is proved.
+//! Tests of `pl_verbatim::verbatim`: which rows are found to be written as they were read, and of which what is written stands in their fields. That
+//! those that are found are, is proved.
 ghost use Rattle.std.specs.Prelude.{◌≡◌, length};
 
 use pl_cells::init_buffers::first_unreadable;
@@ -9,7 +10,7 @@ use pl_frame::schema::Schema;
 use pl_rows::plan::{Projection, RangePlan, RowOptions};
 use pl_scan::dialect::Dialect;
 use pl_verbatim::verbatim::{Verbatim, VerbatimFront};
-use pl_write::options::CsvWriterOptions;
+use pl_write::options::{CsvWriterOptions, QuoteStyle};
 use std::alloc::Global;
 use std::process::Abort;
 
@@ -29,6 +30,17 @@ fn schema(rt: &impl Abort, alloc: Global, dtype: &DataType) -> Schema
 
 // A test of rows with two cells of a type, which are written by a separator.
 fn test_of(rt: &impl Abort, alloc: Global, dtype: &DataType, separator: u8) -> Verbatim {
+    styled_test_of(rt, alloc, dtype, separator, QuoteStyle::Necessary)
+}
+
+// A test of rows with two cells of a type, which are written by a separator in a style.
+fn styled_test_of(
+    rt: &impl Abort,
+    alloc: Global,
+    dtype: &DataType,
+    separator: u8,
+    style: QuoteStyle,
+) -> Verbatim {
     let schema = schema(rt, alloc, dtype);
     let plan = RangePlan {
         dialect: Dialect {
@@ -55,6 +67,7 @@ fn test_of(rt: &impl Abort, alloc: Global, dtype: &DataType, separator: u8) -> V
     assert!(rt; first_unreadable(&[0, 1], &schema).is_none());
     let mut options = CsvWriterOptions::new(alloc).expect(rt, "options");
     options.serialize_options.separator = separator;
+    options.serialize_options.quote_style = style;
     Verbatim::of(alloc, &schema, &plan, &options.serialize_options).expect(rt, "memory")
 }
 
@@ -190,4 +203,35 @@ fn what_stands_between_quotes_is_copied_without_those_it_does_not_need(rt: HostR
             "true,false\n"
         )
     );
+}
+
+// Whether a text of such rows, written by semicolons in a style, is copied to its end as this one.
+fn is_changed(
+    rt: &impl Abort,
+    alloc: Global,
+    dtype: &DataType,
+    style: QuoteStyle,
+    text: &str,
+    copy: &str,
+) -> bool {
+    let mut lines = Vec::new(alloc);
+    let test = styled_test_of(rt, alloc, dtype, b';', style);
+    let copied = test.copy(text.as_bytes(), 0, &mut lines);
+    copied.end == text.len() && lines.as_slice() == copy.as_bytes()
+}
+
+#[test]
+fn rows_are_copied_with_another_separator_and_with_quotes_by_style(rt: HostRuntime) {
+    let alloc = rt.alloc();
+    let rows = "a,\"b,c\"\nd;e,\"f;g\"\n,\"\"\n";
+    let copy = "a;b,c\n\"d;e\";\"f;g\"\n;\"\"\n";
+    assert!(&rt; is_changed(&rt, alloc, &DataType::String, QuoteStyle::Necessary, rows, copy));
+    let copy = "\"a\";\"b,c\"\n\"d;e\";\"f;g\"\n\"\";\"\"\n";
+    assert!(&rt; is_changed(&rt, alloc, &DataType::String, QuoteStyle::Always, rows, copy));
+    let (rows, copy) = ("7,\"-12\"\n,0\n", "7;-12\n;0\n");
+    assert!(&rt; is_changed(&rt, alloc, &DataType::Int64, QuoteStyle::NonNumeric, rows, copy));
+    let rows = "2024-02-29T23:59:59,\n";
+    let copy = "\"2024-02-29T23:59:59.000\";\n";
+    let dtype = DataType::Datetime(TimeUnit::Milliseconds);
+    assert!(rt; is_changed(&rt, alloc, &dtype, QuoteStyle::NonNumeric, rows, copy));
 }

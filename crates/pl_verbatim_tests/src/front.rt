@@ -225,11 +225,38 @@ fn rows_are_copied_with_another_separator_and_with_quotes_by_style(rt: HostRunti
     let alloc = rt.alloc();
     let rows = "a,\"b,c\"\nd;e,\"f;g\"\n,\"\"\n";
     let copy = "a;b,c\n\"d;e\";\"f;g\"\n;\"\"\n";
-    assert!(&rt; is_changed(&rt, alloc, &DataType::String, QuoteStyle::Necessary, rows, copy));
+    assert!(&rt;
+        is_changed(
+            &rt,
+            alloc,
+            &DataType::String,
+            QuoteStyle::Necessary,
+            rows,
+            copy
+        )
+    );
     let copy = "\"a\";\"b,c\"\n\"d;e\";\"f;g\"\n\"\";\"\"\n";
-    assert!(&rt; is_changed(&rt, alloc, &DataType::String, QuoteStyle::Always, rows, copy));
+    assert!(&rt;
+        is_changed(
+            &rt,
+            alloc,
+            &DataType::String,
+            QuoteStyle::Always,
+            rows,
+            copy
+        )
+    );
     let (rows, copy) = ("7,\"-12\"\n,0\n", "7;-12\n;0\n");
-    assert!(&rt; is_changed(&rt, alloc, &DataType::Int64, QuoteStyle::NonNumeric, rows, copy));
+    assert!(&rt;
+        is_changed(
+            &rt,
+            alloc,
+            &DataType::Int64,
+            QuoteStyle::NonNumeric,
+            rows,
+            copy
+        )
+    );
     let rows = "2024-02-29T23:59:59,\n";
     let copy = "\"2024-02-29T23:59:59.000\";\n";
     let dtype = DataType::Datetime(TimeUnit::Milliseconds);

@@ -41,7 +41,7 @@ use Rattle.pl_read.specs.Projection.{projected}
 use Rattle.pl_read.specs.Reading.{frame_of}
 use Rattle.pl_read.specs.Refusals.{codes_past, index_past, faulty_record}
 use Rattle.pl_read.specs.Rows.{rows_in, data_columns, data_frame, with_index}
-use Rattle.pl_read.specs.Steps.{MayRead, late_cause, data_cause, IsPlanOf, CanReadData}
+use Rattle.pl_read.specs.Steps.{MayRead, late_cause, data_cause, CanReadData}
 use Rattle.pl_read.proofs.CauseLaws.{first_some-one, first_some-behind}
 use Rattle.pl_read.proofs.DataLaws.{fault-at, no-fault-at, columns-at, IsFrame-columns, readable-places}
 use Rattle.pl_read.proofs.ProjectionLaws.{projected-rises, projected-below}

@@ -19,7 +19,7 @@ use Rattle.pl_write.specs.declared.options.CsvWriterOptions.{CsvWriterOptions}
 use Rattle.pl_csv.specs.declared.convert_source.Unconverted.TheVariants as unconverted
 use Rattle.pl_csv.specs.declared.run.Refusal.{Refusal}
 use Rattle.pl_csv.specs.declared.run.Refusal.TheVariants as refusal
-use Rattle.pl_csv.specs.Making.{IsMakingFault, IsZero, making_status}
+use Rattle.pl_csv.specs.Making.{IsZero, making_status}
 use Rattle.pl_csv.specs.Run.{Converts, Makes, HasRead, HasWrongOption, IsRefused, IsDue, EndsAsDue, EndsAsMade, Converted, Made, MadePart, PartWritten, HasNoRead}
 use Rattle.pl_csv.specs.Sources.{IsSourceConverted, IsUnconverted}
 use Rattle.pl_csv.specs.Telling.{status_of, status_of_fault}

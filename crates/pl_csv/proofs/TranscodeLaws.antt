@@ -13,7 +13,7 @@ use Rattle.pl_read.specs.Options.{settled_schema}
 use Rattle.pl_read.specs.Reading.{frame_of}
 use Rattle.pl_read.specs.Refusals.{early_causes, late_causes}
 use Rattle.pl_read.specs.Steps.{MayRead, late_cause}
-use Rattle.pl_read.proofs.CauseLaws.{first_some-early, first_some-late, first_some-here, first_some-behind}
+use Rattle.pl_read.proofs.CauseLaws.{first_some-early, first_some-late, first_some-behind}
 use Rattle.pl_write.specs.declared.options.CsvWriterOptions.{CsvWriterOptions}
 use Rattle.pl_csv.specs.Transcoding.{quote_cause, HasAsciiQuote, IsValidRead, IsUnread, IsTranscodeFault}
 use Rattle.pl_csv.specs.Views.{SinkView}

@@ -1,5 +1,5 @@
-use Rattle.std.proofs.Common.{rules, ◌≡◌, ◌++◌, ◌∷◌, [], List, Bool, true, sym, ◌∙◌, ap, not, subst, Vec, Global}
-use Rattle.std.specs.Prelude.{All, Result, IfOk, Ok, if◌then◌else◌}
+use Rattle.std.proofs.Common.{rules, ◌≡◌, sym, ◌∙◌, ap, not, subst, Vec, Global}
+use Rattle.std.specs.Prelude.{All, Result, IfOk, Ok}
 use Rattle.std.proofs.lemmas.List.Elements.{All-push}
 use Rattle.pl_write.specs.Options.{cell_options}
 use Rattle.pl_regions.specs.Arriving.{IsTaken}

@@ -1,7 +1,6 @@
 -- Laws of columns whose cells go into arrays while they are read.
 use Rattle.std.proofs.Common.{◌≡◌, ℕ, zero, suc, ◌+◌, ◌<◌, List, [], ◌∷◌, ◌++◌, length, map, take, set, get_or, refl, sym, ◌∙◌, ap, subst, arith}
 use Rattle.std.specs.Prelude.{◌≢◌}
-use Rattle.std.specs.List.{AllByRecursion}
 use Rattle.pl_csv_c.specs.Arrays.{HavePlain, AreArraysAs}
 use Rattle.pl_csv_c.specs.Growing.{IsGrown, AreGrown, ArePlain}
 use Rattle.pl_csv_c.specs.Kinds.{kind_of}

@@ -1,6 +1,6 @@
 -- Laws of inputs that are read and kept.
 use Rattle.std.proofs.Common.{◌≡◌, ℕ, List, [], ◌∷◌, length, map, false, refl, sym, ◌∙◌, ap, subst, inr}
-use Rattle.std.specs.Prelude.{◌≢◌, ◌⊎◌, Option, None, Some, Result, Ok, Err, IfOk, OnOk, IfErr, IsOkUnless}
+use Rattle.std.specs.Prelude.{◌≢◌, ◌⊎◌, Option, None, Result, Ok, Err, IfOk, OnOk, IfErr, IsOkUnless}
 use Rattle.std.specs.Option.{option_map}
 use Rattle.pl_csv_c.specs.Growing.{ArePlain}
 use Rattle.pl_csv_c.specs.Kinds.{kind_of}

@@ -1,5 +1,5 @@
 -- Laws of data that is read straight into arrays.
-use Rattle.std.proofs.Common.{◌≡◌, ℕ, List, [], ◌∷◌, ◌++◌, length, take, drop, sym, ◌∙◌, ap, subst, arith}
+use Rattle.std.proofs.Common.{◌≡◌, ℕ, List, [], ◌∷◌, length, take, drop, sym, ◌∙◌, ap, subst}
 use Rattle.std.proofs.lemmas.List.{take-append-drop, length-map}
 use Rattle.pl_csv_c.specs.Growing.{AreGrown, ArePlain, ArePlainAt, IsFrontGrown, IsRangeGrown}
 use Rattle.pl_csv_c.specs.declared.growing.Growing.{Growing}

@@ -110,11 +110,7 @@ fn make_rooms(all: &mut [Growing], times: usize) -> Result<(), AllocError>
 }
 
 /// Puts the cells of a column behind those of each, and makes room for so many times as many. Refuses only want of memory.
-pub fn grow_piece(
-    all: &mut [Growing],
-    columns: Vec<Column>,
-    times: usize,
-) -> Result<(), AllocError>
+pub fn grow_piece(all: &mut [Growing], columns: Vec<Column>, times: usize) -> Result<(), AllocError>
     requires { length all.old ≡ length columns.items }
     ensures { (before : List ColumnValue) → AreGrown before all.old → OnOk result (AreGrown (stacked before columns.items) all.new) }
 {

@@ -13,12 +13,7 @@ const SHORT: usize = 32;
 
 // Puts a part of a buffer behind others: of a short one also what stands behind it, which goes again.
 #[inline]
-fn put_part(
-    bytes: &mut Vec<u8>,
-    buffer: &[u8],
-    begin: usize,
-    end: usize,
-) -> Result<(), AllocError>
+fn put_part(bytes: &mut Vec<u8>, buffer: &[u8], begin: usize, end: usize) -> Result<(), AllocError>
     requires { (begin ≤ end) × (end ≤ length buffer.now) }
     ensures { OnOk result (bytes.new.items ≡ bytes.old.items ++ slice_range buffer.now begin end) }
 {

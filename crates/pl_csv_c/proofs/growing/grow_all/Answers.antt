@@ -1,10 +1,9 @@
-use Rattle.std.proofs.Common.{◌≡◌, ◌<◌, ◌+◌, ◌∷◌, ◌++◌, List, [], length, set, get_or, refl, sym, ◌∙◌, ap, subst, arith, length-append}
+use Rattle.std.proofs.Common.{◌≡◌, ◌<◌, ◌∷◌, ◌++◌, length, set, get_or, refl, sym, ◌∙◌, ap, subst, arith, length-append}
 use Rattle.std.proofs.lemmas.List.{length_push, length-set, append-nil}
 use Rattle.std.specs.Vec.Iter.{into_iter_items}
 use Rattle.pl_cells.proofs.CastWorkerLaws.{taken_front}
 use Rattle.pl_csv_c.specs.Growing.{AreGrown}
 use Rattle.pl_csv_c.proofs.GrowingLaws.{AreGrown-length, AreGrown-at, AreGrown-set, front_stacked-even}
-use Rattle.pl_frame.specs.Frame.{ColumnValue}
 use Rattle.pl_rows.proofs.StackLaws.{front_stacked, front_stacked-none, front_stacked-more, length-front_stacked, no-more}
 use Rattle.pl_csv_c.proofs.growing.grow_all.Goals as goal
 

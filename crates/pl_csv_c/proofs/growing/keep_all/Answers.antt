@@ -1,8 +1,8 @@
-use Rattle.std.proofs.Common.{◌≡◌, List, [], ◌∷◌, ◌++◌, length, refl, sym, ◌∙◌, ap, subst, arith}
+use Rattle.std.proofs.Common.{◌≡◌, List, [], ◌∷◌, ◌++◌, refl, sym, ◌∙◌, ap, subst}
 use Rattle.std.proofs.lemmas.List.{append-nil}
 use Rattle.std.specs.Vec.Iter.{into_iter_items}
 use Rattle.pl_cells.proofs.CastWorkerLaws.{taken_front}
-use Rattle.pl_csv_c.specs.Growing.{AreGrown, ArePlain}
+use Rattle.pl_csv_c.specs.Growing.{AreGrown}
 use Rattle.pl_csv_c.specs.Views.{AreKept}
 use Rattle.pl_csv_c.specs.declared.kept.KeptColumn.{KeptColumn}
 use Rattle.pl_csv_c.specs.declared.views.ColumnView.{ColumnView}

@@ -1,4 +1,4 @@
-use Rattle.std.proofs.Common.{◌∙◌, ap, arith}
+use Rattle.std.proofs.Common.{arith}
 use Rattle.pl_csv_c.proofs.ArrayLaws.{cut_part}
 use Rattle.pl_csv_c.proofs.put_texts.put_part.Goals as goal
 

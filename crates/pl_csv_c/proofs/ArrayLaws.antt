@@ -1,11 +1,13 @@
 -- Laws of arrays that gain the cells of a column, one after another.
-use Rattle.std.proofs.Common.{◌≡◌, ℕ, ℤ, ◌+◌, ◌<◌, true, List, [], ◌∷◌, ◌++◌, length, map, take, replicate, slice_get, unwrap_or, Option, None, Some, is_some, is_none, count_by, cond, refl, sym, ◌∙◌, ap, arith, append_assoc, length-append, zero, suc}
+use Rattle.std.proofs.Common.{◌≡◌, ℕ, ℤ, ◌+◌, ◌-◌, ◌<◌, ◌≤◌, true, List, [], ◌∷◌, ◌++◌, length, map, take, drop, replicate, slice_get, unwrap_or, Option, None, Some, is_some, is_none, count_by, cond, refl, sym, ◌∙◌, ap, arith, append_assoc, length-append, zero, suc}
+use Rattle.std.specs.Prelude.{slice_range, IfSome, IfNone}
+use Rattle.std.proofs.Math.Seq.{take-append-add}
 use Rattle.std.proofs.lemmas.List.{append-nil, map-append, take_more}
 use Rattle.std.proofs.lemmas.Grind.{flat_map-append}
 use Rattle.std.proofs.lemmas.List.Sums.{sum_by-cons}
 use Rattle.std.specs.List.{flat_map, range_with_len}
 use Rattle.std.specs.Option.{option_map}
-use Rattle.pl_csv_c.specs.Arrays.{number_in, or_zero, words_in, letters_in, ends_behind, numbers_of, words_of, bytes_of, ends_of, HaveCells}
+use Rattle.pl_csv_c.specs.Arrays.{number_in, wide_in, or_zero, words_in, letters_in, ends_behind, numbers_of, words_of, bytes_of, ends_of, HaveCells}
 use Rattle.pl_csv_c.specs.declared.arrays.Arrays.{Arrays}
 use Rattle.pl_csv_c.specs.declared.kinds.Kind.{Kind}
 use Rattle.pl_csv_c.specs.declared.kinds.Kind.TheVariants as kind
@@ -13,6 +15,7 @@ use Rattle.pl_frame.proofs.AlikeLaws.{cell_is}
 use Rattle.pl_frame.proofs.CellLaws.{cell_of}
 use Rattle.pl_frame.specs.Columns.{number_cells, text_cells}
 use Rattle.pl_frame.specs.Frame.{Scalar, Number, Letters}
+use Rattle.pl_frame.specs.declared.texts.TextPart.{TextPart}
 
 -- ---- a cell more
 
@@ -36,6 +39,24 @@ flat_more f values row old items now within before next =
     ∙ append_assoc old (flat_map f (take row values)) (f cell)
     ∙ ap (λ rest. old ++ (flat_map f (take row values) ++ rest)) (sym (append-nil (f cell)))
     ∙ ap (λ rest. old ++ rest) (sym (flat_map-append f (take row values) (cell ∷ [])) ∙ ap (flat_map f) (sym (cells_more values row within)))
+
+-- ---- a part of a buffer
+
+take_less : (n m : ℕ) (xs : List ℕ) → n ≤ m → take n (take m xs) ≡ take n xs
+take_less zero m xs less = refl
+take_less (suc n) zero xs less = absurd (omega arith)
+take_less (suc n) (suc m) [] less = refl
+take_less (suc n) (suc m) (x ∷ xs) less = ap (λ l. x ∷ l) (take_less n m xs (omega arith))
+
+-- a part that was put behind others with what stands behind it, which went again
+pub cut_part : (buffer old items now : List ℕ) (begin end size behind : ℕ) → begin ≤ end → end ≤ begin + size → items ≡ old ++ slice_range buffer begin (begin + size) → behind ≡ length old + (end - begin)
+    → now ≡ take behind items → now ≡ old ++ slice_range buffer begin end
+cut_part buffer old items now begin end size behind rise short put behind_is cut =
+    let whole : begin + size - begin ≡ size = omega arith in
+    cut
+    ∙ (λ j. take (behind_is j) (put j))
+    ∙ take-append-add old (slice_range buffer begin (begin + size)) (end - begin)
+    ∙ ap (λ l. old ++ l) (ap (λ n. take (end - begin) (take n (drop begin buffer))) whole ∙ take_less (end - begin) size (drop begin buffer) (omega arith))
 
 -- ---- ends
 
@@ -72,6 +93,31 @@ number_or_zero (Some n) = refl
 pub number_at : (numbers : List (Option ℤ)) (row : ℕ) (number : Option ℤ) → slice_get numbers row ≡ Some number → or_zero number ≡ number_in (unwrap_or (slice_get (number_cells numbers) row) None)
 number_at numbers row number found =
     sym (ap number_in (cell_of Number numbers row ∙ ap (λ o. option_map Number (unwrap_or o None)) found) ∙ number_or_zero number)
+
+pub wide_or_zero-is : (number : Option ℤ) → wide_in (option_map Number number) ≡ or_zero number
+wide_or_zero-is None = refl
+wide_or_zero-is (Some n) = refl
+
+-- the same where it has 128 bits
+pub wide_at : (numbers : List (Option ℤ)) (row : ℕ) (number : Option ℤ) → slice_get numbers row ≡ Some number → or_zero number ≡ wide_in (unwrap_or (slice_get (number_cells numbers) row) None)
+wide_at numbers row number found =
+    sym (ap wide_in (cell_of Number numbers row ∙ ap (λ o. option_map Number (unwrap_or o None)) found) ∙ wide_or_zero-is number)
+
+pub there-is : (number : Option ℤ) → is_some (option_map Number number) ≡ is_some number
+there-is None = refl
+there-is (Some n) = refl
+
+-- whether a number is there that was found
+pub flag_at : (numbers : List (Option ℤ)) (row : ℕ) (number : Option ℤ) → slice_get numbers row ≡ Some number → is_some number ≡ is_some (unwrap_or (slice_get (number_cells numbers) row) None)
+flag_at numbers row number found =
+    sym (ap is_some (cell_of Number numbers row ∙ ap (λ o. option_map Number (unwrap_or o None)) found) ∙ there-is number)
+
+-- whether a text is there that was found, if anything
+pub text_flag_at : (texts : List (Option (List ℕ))) (row : ℕ) (part : Option TextPart) → IfNone part (slice_get texts row ≡ Some None)
+    → IfSome part (λ part. slice_get texts row ≡ Some (Some (slice_range part.buffer.now part.begin part.end)))
+    → is_some part ≡ is_some (unwrap_or (slice_get (text_cells texts) row) None)
+text_flag_at texts row None null text = sym (ap is_some (cell_of Letters texts row ∙ ap (λ o. option_map Letters (unwrap_or o None)) null))
+text_flag_at texts row (Some part) null text = sym (ap is_some (cell_of Letters texts row ∙ ap (λ o. option_map Letters (unwrap_or o None)) text))
 
 -- the text of a row that was found
 pub letters_at : (texts : List (Option (List ℕ))) (row : ℕ) (text : Option (List ℕ)) → slice_get texts row ≡ Some text → letters_in (unwrap_or (slice_get (text_cells texts) row) None) ≡ letters_in (option_map Letters text)

@@ -3,8 +3,11 @@ pub mod BoxOfBytes
 pub mod BoxOfFrame
 pub mod CallLaws
 pub mod CountLaws
+pub mod GrowingLaws
 pub mod HostLaws
 pub mod JoinLaws
 pub mod KeptLaws
 pub mod NameLaws
+pub mod ReadLaws
 pub mod SchemaLaws
+pub mod StraightLaws

@@ -4,6 +4,7 @@ pub mod Counting
 pub mod Kinds
 pub mod Arrays
 pub mod Views
+pub mod Growing
 pub mod Handing
 pub mod Reading
 pub mod Part

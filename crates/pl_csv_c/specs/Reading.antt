@@ -8,8 +8,10 @@ use Rattle.pl_csv_c.specs.declared.given.Given.{Given}
 use Rattle.pl_csv_c.specs.declared.kept.KeptFrame.{KeptFrame}
 use Rattle.pl_csv_c.specs.declared.views.FrameView.{FrameView}
 use Rattle.pl_frame.specs.Frame.{ColumnValue}
+use Rattle.pl_frame.specs.Schema.{Entry}
 use Rattle.pl_frame.specs.declared.error.PolarsError.{PolarsError}
 use Rattle.pl_frame.specs.declared.error.PolarsError.TheVariants as error
+use Rattle.pl_options.specs.declared.read_options.CsvReadOptions.{CsvReadOptions}
 use Rattle.pl_read.specs.Options.{settled_schema}
 use Rattle.pl_read.specs.Reading.{IsRead, IsRefusal}
 
@@ -24,6 +26,12 @@ pub record HasCause (words : List (List ℕ)) (input : List ℕ) (fault : Polars
   pub given : Given
   pub asked : Asks words given
   pub is : IsRefusal given.read (settled_schema given.read input) input fault
+
+-- an input means a frame under options and its settled schema, and that is kept
+pub record IsReadKept (o : CsvReadOptions) (schema : List Entry) (input : List ℕ) (kept : KeptFrame) : Type 0 where
+  pub frame : List ColumnValue
+  pub read : IsRead o schema input frame
+  pub is : IsFrameKept frame kept
 
 -- the frame of the input is kept
 pub record IsKeptRead (words : List (List ℕ)) (input : List ℕ) (kept : KeptFrame) : Type 0 where

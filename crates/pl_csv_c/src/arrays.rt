@@ -33,7 +33,7 @@ pub struct Arrays {
 const ROWS: usize = 1 << 13;
 
 // Arrays of no cells.
-fn no_cells(alloc: Global, kind: Kind) -> Result<Arrays, AllocError>
+pub(crate) fn no_cells(alloc: Global, kind: Kind) -> Result<Arrays, AllocError>
     ensures cells { IfOk result (HaveCells kind []) }
     ensures none { IfOk result (λ arrays. arrays.categories.items ≡ []) }
 {
@@ -51,8 +51,13 @@ fn no_cells(alloc: Global, kind: Kind) -> Result<Arrays, AllocError>
     })
 }
 
-// Makes room for so many rows.
-fn make_room(arrays: &mut Arrays, kind: Kind, rows: usize) -> Result<(), AllocError>
+// Makes room for so many more rows, and for so many bytes of texts. Refuses only want of memory.
+pub(crate) fn make_room(
+    arrays: &mut Arrays,
+    kind: Kind,
+    rows: usize,
+    bytes: usize,
+) -> Result<(), AllocError>
     ensures cells { (cells : List (Option Scalar)) → HaveCells kind cells arrays.old → OnOk result (HaveCells kind cells arrays.new) }
     ensures categories { arrays.new.categories ≡ arrays.old.categories }
 {
@@ -60,13 +65,16 @@ fn make_room(arrays: &mut Arrays, kind: Kind, rows: usize) -> Result<(), AllocEr
     match kind {
         Kind::Numbers | Kind::Codes => arrays.numbers.reserve(rows),
         Kind::Words => arrays.words.reserve(rows.saturating_mul(2)),
-        Kind::Texts => arrays.ends.reserve(rows),
+        Kind::Texts => {
+            arrays.ends.reserve(rows)?;
+            arrays.bytes.reserve(bytes)
+        }
         Kind::Nowhere => Ok(()),
     }
 }
 
 // Puts the cells of a column behind others, where they are no codes. Refuses only want of memory.
-fn put_rows(arrays: &mut Arrays, kind: Kind, column: &Column) -> Result<(), AllocError>
+pub(crate) fn put_rows(arrays: &mut Arrays, kind: Kind, column: &Column) -> Result<(), AllocError>
     ensures cells { (cells : List (Option Scalar)) → HaveCells kind cells arrays.old → OnOk result (HaveCells kind (cells ++ column.now.values) arrays.new) }
     ensures categories { arrays.new.categories ≡ arrays.old.categories }
 {
@@ -109,7 +117,7 @@ fn plain_arrays(alloc: Global, kind: Kind, column: &Column) -> Result<Arrays, Al
 {
     let rows = column.len();
     let mut arrays = no_cells(alloc, kind)?;
-    make_room(&mut arrays, kind, rows)?;
+    make_room(&mut arrays, kind, rows, 0)?;
     let mut from = 0;
     while from < rows {
         let to = from + ROWS.min(rows - from);
@@ -125,7 +133,7 @@ fn coded_arrays(alloc: Global, column: &Column) -> Result<Arrays, AllocError>
     ensures { IfOk result (HaveCodes column.now) }
 {
     let mut arrays = no_cells(alloc, Kind::Codes)?;
-    make_room(&mut arrays, Kind::Codes, column.len())?;
+    make_room(&mut arrays, Kind::Codes, column.len(), 0)?;
     put_codes(&mut arrays.present, &mut arrays.numbers, column)?;
     arrays.categories = category_bytes(alloc, column.categories())?;
     Ok(arrays)

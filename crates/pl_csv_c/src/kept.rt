@@ -1,5 +1,5 @@
 //! Frames that are kept until they are freed: each column as arrays, and the views that show where they lie.
-ghost use Rattle.std.specs.Prelude.{◌≡◌, ◌++◌, ◌∷◌, [], List, length, IfOk, OnOk};
+ghost use Rattle.std.specs.Prelude.{◌≡◌, ◌++◌, ◌∷◌, [], List, length, count_by, is_none, IfOk, OnOk};
 ghost use Rattle.pl_csv_c.specs.Views.{IsViewOf, IsKeptOf, AreKept, IsFrameKept};
 ghost use Rattle.pl_frame.specs.Frame.{ColumnValue};
 
@@ -7,6 +7,7 @@ use crate::arrays::{Arrays, arrays_of};
 use crate::type_numbers::{precision_of, scale_of, type_number, unit_number};
 use crate::views::{ColumnView, TextView};
 use pl_frame::column::Column;
+use pl_frame::data_type::DataType;
 use pl_frame::frame::DataFrame;
 use pl_rows::push::push;
 use std::alloc::{AllocError, Global};
@@ -56,9 +57,9 @@ fn keep_column(alloc: Global, column: &Column) -> Result<KeptColumn, AllocError>
     })
 }
 
-// The view of a column that is kept.
-fn view_of(column: &Column, kept: &KeptColumn) -> ColumnView
-    ensures { IsViewOf column.now kept.now result }
+// The view of a column that is kept, of this type and with so many nulls.
+pub(crate) fn view_of(dtype: &DataType, nulls: usize, kept: &KeptColumn) -> ColumnView
+    ensures { (column : ColumnValue) → dtype.now ≡ column.dtype → nulls ≡ count_by is_none column.values → IsViewOf column kept.now result }
 {
     let arrays = &kept.arrays;
     ColumnView {
@@ -66,10 +67,10 @@ fn view_of(column: &Column, kept: &KeptColumn) -> ColumnView
             at: kept.name.as_ptr(),
             len: kept.name.len(),
         },
-        dtype: type_number(column.dtype()),
-        unit: unit_number(column.dtype()),
-        precision: precision_of(column.dtype()),
-        scale: scale_of(column.dtype()),
+        dtype: type_number(dtype),
+        unit: unit_number(dtype),
+        precision: precision_of(dtype),
+        scale: scale_of(dtype),
         present: arrays.present.as_ptr(),
         present_len: arrays.present.len(),
         numbers: arrays.numbers.as_ptr(),
@@ -82,7 +83,7 @@ fn view_of(column: &Column, kept: &KeptColumn) -> ColumnView
         bytes_len: arrays.bytes.len(),
         categories: kept.categories.as_ptr(),
         categories_len: kept.categories.len(),
-        null_count: column.null_count(),
+        null_count: nulls,
     }
 }
 
@@ -93,7 +94,7 @@ fn keep_next(alloc: Global, frame: &mut KeptFrame, column: &Column) -> Result<()
     ensures height { frame.new.height ≡ frame.old.height }
 {
     let kept = keep_column(alloc, column)?;
-    let view = view_of(column, &kept);
+    let view = view_of(column.dtype(), column.null_count(), &kept);
     push(&mut frame.columns, kept)?;
     push(&mut frame.views, view)?;
     Ok(())

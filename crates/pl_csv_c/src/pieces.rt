@@ -26,7 +26,7 @@ const PIECES: usize = 1 << 40;
 
 // Whether a number is below the limit, where there is one.
 #[inline]
-fn is_below(limit: Option<usize>, rows: usize) -> bool
+pub(crate) fn is_below(limit: Option<usize>, rows: usize) -> bool
     ensures { result ≡ is_below limit rows }
 {
     match limit {
@@ -36,7 +36,7 @@ fn is_below(limit: Option<usize>, rows: usize) -> bool
 }
 
 // Where a piece ends that begins at a place: behind the first line end that stands so far behind it, or where the range ends.
-fn piece_end(range: &[u8], from: usize, size: usize, eol_char: u8) -> usize
+pub(crate) fn piece_end(range: &[u8], from: usize, size: usize, eol_char: u8) -> usize
     requires { from ≤ length range.now }
     ensures { (from ≤ result) × (result ≤ length range.now) }
 {

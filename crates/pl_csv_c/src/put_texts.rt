@@ -1,5 +1,5 @@
 //! Texts of cells, put behind others.
-ghost use Rattle.std.specs.Prelude.{◌≡◌, ◌<◌, ◌++◌, length, slice_get, unwrap_or, None, OnOk};
+ghost use Rattle.std.specs.Prelude.{◌≡◌, ◌<◌, ◌≤◌, ◌++◌, length, slice_get, slice_range, unwrap_or, None, OnOk};
 ghost use Rattle.std.specs.List.{flat_map};
 ghost use Rattle.pl_csv_c.specs.Arrays.{letters_in, ends_behind};
 ghost use Rattle.pl_frame.specs.Columns.{scalar_of, text_cells};
@@ -8,6 +8,24 @@ use pl_frame::column::{Column, Value};
 use pl_frame::texts::Texts;
 use std::alloc::AllocError;
 
+// So many bytes are copied in one go where a text has no more.
+const SHORT: usize = 32;
+
+// Puts a part of a buffer behind others: of a short one also what stands behind it, which goes again.
+#[inline]
+fn put_part(bytes: &mut Vec<u8>, buffer: &[u8], begin: usize, end: usize) -> Result<(), AllocError>
+    requires { (begin ≤ end) × (end ≤ length buffer.now) }
+    ensures { OnOk result (bytes.new.items ≡ bytes.old.items ++ slice_range buffer.now begin end) }
+{
+    if end - begin > SHORT || buffer.len() - begin < SHORT {
+        return bytes.extend_from_slice(&buffer[begin..end]);
+    }
+    let behind = bytes.len() + (end - begin);
+    bytes.extend_from_slice(&buffer[begin..begin + SHORT])?;
+    bytes.truncate(behind);
+    Ok(())
+}
+
 // Puts the text at a place behind others, which is none where there is a null.
 #[inline]
 fn put_kept(bytes: &mut Vec<u8>, texts: &Texts, row: usize) -> Result<(), AllocError>
@@ -15,7 +33,7 @@ fn put_kept(bytes: &mut Vec<u8>, texts: &Texts, row: usize) -> Result<(), AllocE
     ensures { OnOk result (bytes.new.items ≡ bytes.old.items ++ letters_in (unwrap_or (slice_get (text_cells texts.now) row) None)) }
 {
     match texts.part(row) {
-        Some(part) => bytes.extend_from_slice(&part.buffer[part.begin..part.end]),
+        Some(part) => put_part(bytes, part.buffer, part.begin, part.end),
         None => Ok(()),
     }
 }
@@ -25,9 +43,11 @@ fn put_all_kept(ends: &mut Vec<usize>, bytes: &mut Vec<u8>, texts: &Texts) -> Re
     ensures bytes { OnOk result (bytes.new.items ≡ bytes.old.items ++ flat_map letters_in (text_cells texts.now)) }
     ensures ends { OnOk result (ends.new.items ≡ ends.old.items ++ ends_behind (length bytes.old.items) (text_cells texts.now)) }
 {
+    ends.reserve(texts.len())?;
+    bytes.reserve(texts.byte_len().saturating_add(SHORT))?;
     for row in 0..texts.len() {
         put_kept(bytes, texts, row)?;
-        ends.push(bytes.len())?;
+        ends.push_reserved(bytes.len());
     }
     Ok(())
 }

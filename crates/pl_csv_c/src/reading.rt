@@ -3,14 +3,13 @@ ghost use Rattle.std.specs.Prelude.{◌≡◌, ◌≢◌, map, IfOk, IfErr};
 ghost use Rattle.pl_csv_c.specs.Fault.{IsRefusedAs};
 ghost use Rattle.pl_csv_c.specs.Reading.{IsReadInto, IsUnread, IsKeptRead};
 
-use crate::alone::read_alone;
+use crate::alone::read_kept;
 use crate::fault::refuse;
 use crate::given::given_of;
 use crate::handing::hand_out;
-use crate::kept::{KeptFrame, keep};
+use crate::kept::KeptFrame;
 use crate::views::FrameView;
 use pl_csv::run::Refusal;
-use pl_frame::error::PolarsError;
 use std::alloc::Global;
 
 // What an input means by words, kept.
@@ -22,14 +21,11 @@ fn read_given(alloc: Global, input: &[u8], words: &[&[u8]]) -> Result<KeptFrame,
         Ok(given) => given,
         Err(refusal) => return Err(refusal),
     };
-    let frame = match read_alone(alloc, input, &given.read) {
-        Ok(frame) => frame,
-        Err(fault) => return Err(Refusal::Polars(fault)),
-    };
+    let read = read_kept(alloc, input, &given.read);
     drop(given);
-    match keep(alloc, frame) {
+    match read {
         Ok(kept) => Ok(kept),
-        Err(_) => Err(Refusal::Polars(PolarsError::OutOfMemory)),
+        Err(fault) => Err(Refusal::Polars(fault)),
     }
 }
 

@@ -1,6 +1,7 @@
 use Rattle.std.proofs.Common.{◌≡◌, sym, ◌∙◌, ap, subst}
 use Rattle.std.specs.Prelude.{ℕ, List, Option, IfOk, OnOk, IfErr, None, drop, unwrap_or, []}
 use Rattle.pl_frame.specs.Schema.{Entry}
+use Rattle.pl_csv_c.specs.Views.{IsFrameKept}
 use Rattle.pl_options.specs.FirstCause.{IsFault}
 use Rattle.pl_read.specs.Options.{settled_schema}
 use Rattle.pl_read.specs.Reading.{frame_of}
@@ -27,7 +28,7 @@ returns-in-Ok c =
     let cause : data_cause o prepared.schema records ≡ late_cause o schema input =
     ap (λ (s : List Entry). data_cause o s records) is.schema_is ∙ sym (late-data o schema input records c.in-Ok.ensures.sound is.data_is) in
     record {
-      frame = subst (λ is. IfOk result (λ frame. frame ≡ is)) frame c.read_prepared.ensures.frame;
+      kept = subst (λ is. IfOk result (IsFrameKept is)) frame c.read_prepared.ensures.kept;
       sound = subst (λ is. OnOk result (is ≡ None)) cause c.read_prepared.ensures.sound;
       refused = subst (λ is. IfErr result (IsFault is)) cause c.read_prepared.ensures.refused;
     }

@@ -1,5 +1,6 @@
 use Rattle.std.proofs.Common.{◌≡◌, List, ℕ, drop, refl, sym, subst, arith}
 use Rattle.std.specs.Prelude.{IfOk, OnOk, IfErr, None}
+use Rattle.pl_csv_c.specs.Views.{IsFrameKept}
 use Rattle.pl_options.specs.FirstCause.{IsFault}
 use Rattle.pl_read.specs.Rows.{data_frame}
 use Rattle.pl_read.specs.Steps.{data_cause, CanReadData}
@@ -22,7 +23,7 @@ returns c =
     let rest = rest-is c.args.prepared.now.start c.args.input.now c.args.input.now refl in
     let result = c.read_data.result in
     record {
-      frame = subst (λ (l : List ℕ). IfOk result (λ frame. frame ≡ data_frame o schema l)) rest c.read_data.ensures.frame;
+      kept = subst (λ (l : List ℕ). IfOk result (IsFrameKept (data_frame o schema l))) rest c.read_data.ensures.kept;
       sound = subst (λ (l : List ℕ). OnOk result (data_cause o schema l ≡ None)) rest c.read_data.ensures.sound;
       refused = subst (λ (l : List ℕ). IfErr result (IsFault (data_cause o schema l))) rest c.read_data.ensures.refused;
     }

@@ -15,5 +15,6 @@ loop-row-preserved c =
     let bytes = flat_more letters_in values c.loop-row.row _ _ _ within c.loop-row.invariant.bytes c.in_ok-put_kept.ensures in
     record {
       bytes = bytes;
-      ends = ends_more values c.loop-row.row _ _ _ _ c.args.bytes.now.items _ within refl bytes c.loop-row.invariant.ends (search rules);
+      ends = ends_more values c.loop-row.row _ _ _ _ _ _ within refl bytes c.loop-row.invariant.ends (search rules);
+      room = omega (arith, c.push_reserved.ensures.len, c.push_reserved.ensures.capacity, c.loop-row.invariant.room);
     }

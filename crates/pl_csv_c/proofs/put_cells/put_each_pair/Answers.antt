@@ -3,7 +3,7 @@ use Rattle.std.specs.Int.{w128}
 use Rattle.std.proofs.lemmas.Int.{to_z-of_z}
 use Rattle.pl_csv_c.proofs.ArrayLaws.{flat_more}
 use Rattle.pl_csv_c.specs.Arrays.{words_in, wide_in, low_word, high_word}
-use Rattle.pl_csv_c.proofs.put_cells.put_words.Goals as goal
+use Rattle.pl_csv_c.proofs.put_cells.put_each_pair.Goals as goal
 
 pub loop-row-preserved : goal.loop-row-preserved
 loop-row-preserved c =

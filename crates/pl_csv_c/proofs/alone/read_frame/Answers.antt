@@ -6,7 +6,7 @@ use Rattle.pl_options.specs.Text.{marks_of}
 use Rattle.pl_read.specs.Steps.{IsDataRead}
 use Rattle.pl_read.proofs.ProjectionLaws.{projected-rises, projected-below}
 use Rattle.pl_read.proofs.DataLaws.{readable-places}
-use Rattle.pl_csv_c.proofs.alone.read_data.Goals as goal
+use Rattle.pl_csv_c.proofs.alone.read_frame.Goals as goal
 
 pub read_in_pieces-requires-clause-dialect : goal.read_in_pieces-requires-clause-dialect
 read_in_pieces-requires-clause-dialect c =

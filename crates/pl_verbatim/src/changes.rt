@@ -124,8 +124,8 @@ fn put_value<const CALLER: usize>(
 }
 
 // The same where texts mean null.
-#[inline]
-fn put_unless_null<const CALLER: usize>(
+#[inline(never)]
+fn put_unless_null(
     text: &[u8],
     at: usize,
     kind: Kind,
@@ -149,7 +149,7 @@ fn put_unless_null<const CALLER: usize>(
     ensures long { length out.new ≡ length out.old }
     ensures unchanged { IfNone result (out.new ≡ out.old) }
 {
-    match find::<CALLER>(text, at, kind, mark, separator, quote, form) {
+    match find::<9>(text, at, kind, mark, separator, quote, form) {
         Some(found) => {
             if means_null(nulls, &text[at..found.end], quote)? {
                 let end = put_text(&form.null, out, place)?;
@@ -200,7 +200,7 @@ fn put_cell<const CALLER: usize>(
         return Some((marks.pass(ahead, text, at, separator), end));
     }
     let put = match &form.nulls {
-        Some(nulls) => put_unless_null::<CALLER>(
+        Some(nulls) => put_unless_null(
             text, at, kind, mark, separator, quote, form, nulls, out, place,
         ),
         None => put_value::<CALLER>(text, at, kind, mark, separator, quote, form, out, place),

@@ -195,8 +195,8 @@ fn find_quoted_value<const CALLER: usize>(
 }
 
 // What is written of the cell between quotes at a place, with a mark behind them.
-#[inline]
-fn find_quoted<const CALLER: usize>(
+#[inline(never)]
+fn find_quoted(
     text: &[u8],
     at: usize,
     kind: Kind,
@@ -213,7 +213,7 @@ fn find_quoted<const CALLER: usize>(
 {
     match kind {
         Kind::Text => find_quoted_text(text, at, kind, mark, separator, quote, form),
-        _ => find_quoted_value::<CALLER>(text, at, kind, mark, separator, quote, form),
+        _ => find_quoted_value::<14>(text, at, kind, mark, separator, quote, form),
     }
 }
 
@@ -234,7 +234,7 @@ pub(crate) fn find<const CALLER: usize>(
     ensures { IfSome result (IsFound text.now at kind mark separator quote form.now) }
 {
     if text[at] == quote {
-        return find_quoted::<CALLER>(text, at, kind, mark, separator, quote, form);
+        return find_quoted(text, at, kind, mark, separator, quote, form);
     }
     match kind {
         Kind::Text => find_bare(text, at, kind, mark, separator, quote, form),

@@ -6,7 +6,7 @@ use Rattle.pl_verbatim.proofs.ChangeLaws.{null-change, other-change, bare-stands
 use Rattle.pl_verbatim.proofs.changes.put_unless_null.Goals as goal
 
 pub returns-then-branch-clause-put : goal.returns-then-branch-clause-put
-returns-then-branch-clause-put g c =
+returns-then-branch-clause-put c =
     let found = c.in-Some.ensures in
     let field = slice_range c.args.text.now c.args.at c.in-Some.found.end in
     record {
@@ -24,7 +24,7 @@ returns-then-branch-clause-put g c =
     }
 
 pub returns-in_ok-end-in-Some-2-clause-put : goal.returns-in_ok-end-in-Some-2-clause-put
-returns-in_ok-end-in-Some-2-clause-put g c =
+returns-in_ok-end-in-Some-2-clause-put c =
     let found = c.in-Some.ensures in
     let field = slice_range c.args.text.now c.args.at c.in-Some.found.end in
     let written = found_text c.args.text.now c.args.quote c.in-Some.found in
@@ -42,7 +42,7 @@ returns-in_ok-end-in-Some-2-clause-put g c =
     }
 
 pub returns-in_ok-end-in-None-clause-put : goal.returns-in_ok-end-in-None-clause-put
-returns-in_ok-end-in-None-clause-put g c =
+returns-in_ok-end-in-None-clause-put c =
     let next = c.in_ok-next-in-None in
     let field = slice_range c.args.text.now c.args.at next.next in
     record {

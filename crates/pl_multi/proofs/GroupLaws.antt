@@ -8,7 +8,6 @@ use Rattle.std.specs.Vec.Iter.{into_iter_items, into_iter_steps}
 use Rattle.std.specs.declared.alloc.AllocError.{AllocError}
 use Rattle.std.specs.declared.vec.IntoIter.{IntoIter}
 use Rattle.pl_cells.proofs.CastWorkerLaws.{taken_front}
-use Rattle.pl_frame.specs.Outside.{Writing}
 use Rattle.pl_frame.specs.declared.error.PolarsError.{PolarsError}
 use Rattle.pl_frame.specs.declared.error.PolarsError.TheVariants as error
 use Rattle.pl_options.specs.FirstCause.{IsFault}
@@ -16,12 +15,14 @@ use Rattle.pl_options.specs.declared.read_options.CsvReadOptions.{CsvReadOptions
 use Rattle.pl_read.specs.SettleGiven.{given_schema}
 use Rattle.pl_read.specs.Steps.{late_cause}
 use Rattle.pl_write.specs.declared.options.CsvWriterOptions.{CsvWriterOptions}
-use Rattle.pl_multi.specs.Groups.{IsPartAt, AreRead, IsUnread, IsPrintedOf, ArePrintedOf, IsTakenOf, ArePrintedFrom, sinks_of, first_refusal, IsFirstRefusal, for_one}
+use Rattle.pl_multi.specs.Groups.{IsPartAt, AreRead, IsUnread, IsPrintedOf, ArePrintedOf, IsTakenOf, ArePrintedFrom, texts_of, first_refusal, IsFirstRefusal, for_one}
+use Rattle.pl_multi.specs.Lines.{found_text}
 use Rattle.pl_multi.specs.Joining.{IsSound, IsPartFault, IsJoinFault, part_fault}
 use Rattle.pl_multi.specs.Printing.{IsPlain, AreLinesOf, ArePrinted}
 use Rattle.pl_multi.specs.Scan.{IsHeld}
 use Rattle.pl_multi.specs.declared.beside.TakenPart.{TakenPart}
 use Rattle.pl_multi.specs.declared.groups.PartLines.{PartLines}
+use Rattle.pl_multi.specs.declared.lines.FoundLines.{FoundLines}
 use Rattle.pl_multi.specs.declared.part.Part.{Part}
 use Rattle.pl_multi.specs.declared.scan.MultiFault.{MultiFault}
 use Rattle.pl_multi.specs.declared.scan.MultiFault.TheVariants as fault
@@ -29,14 +30,14 @@ use Rattle.pl_multi.proofs.JoinedLaws.{held-same, part-fault}
 use Rattle.pl_multi.proofs.PrintingLaws.{printed-more, printed-fault}
 
 -- what came of one part
-pub of-result : (read : CsvReadOptions) (write : CsvWriterOptions) (bytes : List ℕ) (result : Result Writing PolarsError) → IfOk result (λ sink. AreLinesOf read write bytes sink.received)
+pub of-result : (read : CsvReadOptions) (write : CsvWriterOptions) (bytes : List ℕ) (result : Result FoundLines PolarsError) → IfOk result (λ found. AreLinesOf read write bytes (found_text bytes found))
     → IfErr result (IsFault (late_cause read (given_schema read) bytes)) → IsPrintedOf read write bytes result
-of-result read write bytes (Ok sink) lines refused = lines
+of-result read write bytes (Ok found) lines refused = lines
 of-result read write bytes (Err refusal) lines refused = refused
 
 -- bytes mean the same, however many workers read them
-pub one-printed : (read : CsvReadOptions) (write : CsvWriterOptions) (bytes : List ℕ) (result : Result Writing PolarsError) → IsPrintedOf (for_one read) write bytes result → IsPrintedOf read write bytes result
-one-printed read write bytes (Ok sink) is = record { sound = is.sound; are = is.are }
+pub one-printed : (read : CsvReadOptions) (write : CsvWriterOptions) (bytes : List ℕ) (result : Result FoundLines PolarsError) → IsPrintedOf (for_one read) write bytes result → IsPrintedOf read write bytes result
+one-printed read write bytes (Ok found) is = record { sound = is.sound; are = is.are }
 one-printed read write bytes (Err refusal) is = is
 
 -- what is so where a call succeeds, where it succeeded
@@ -59,8 +60,9 @@ read-more holds parts first (b ∷ given) bytes are is = (are.0, read-more holds
 abbrev pub bytes_of : List PartLines → List (List ℕ)
 bytes_of group = map (λ (one : PartLines). one.bytes.items) group
 
-abbrev pub printed_of : List PartLines → List (Result Writing PolarsError)
-printed_of group = map (λ (one : PartLines). one.printed) group
+-- what came of each part, with its bytes
+abbrev pub came_of : List PartLines → List (List ℕ × Result FoundLines PolarsError)
+came_of group = map (λ (one : PartLines). (one.bytes.items, one.printed)) group
 
 pub read-next : (holds later_holds : List ℕ → Option (List ℕ)) → ((other : List ℕ) → later_holds other ≡ holds other) → (parts : List Part) (first place : ℕ) (group : List PartLines) (one : PartLines) (part : Part)
     → place ≡ first + length group → place < length parts → part ≡ get_or parts place part → IsHeld later_holds (part, one.bytes.items) → AreRead holds parts first (bytes_of group) → AreRead holds parts first (bytes_of (group ++ one ∷ []))
@@ -150,12 +152,16 @@ each-same read write first group (Err wanting) same sizes taken = taken
 pub unprinted-are : (read : CsvReadOptions) (write : CsvWriterOptions) (group : List PartLines) → All (λ (one : PartLines). one.printed ≡ Err error.OutOfMemory) group → ArePrintedOf read write group
 unprinted-are read write group none i d inside = subst (IsPrintedOf read write (get_or group i d).bytes.items) (sym (none i d inside)) (inr refl)
 
+pub count-came : (group : List PartLines) → length (came_of group) ≡ length group
+count-came [] = refl
+count-came (one ∷ group) = ap suc (count-came group)
+
 -- what came of them
 pub printed-from : (holds : List ℕ → Option (List ℕ)) (read : CsvReadOptions) (write : CsvWriterOptions) (parts : List Part) (first : ℕ) (group : List PartLines)
-    → ArePrintedOf read write group → AreRead holds parts first (bytes_of group) → ArePrintedFrom holds read write parts first (printed_of group)
+    → ArePrintedOf read write group → AreRead holds parts first (bytes_of group) → ArePrintedFrom holds read write parts first (came_of group)
 printed-from holds read write parts first [] each are = tt
 printed-from holds read write parts first (one ∷ group) each are =
-    ((one.bytes.items, are.0, each 0 one (omega arith)), printed-from holds read write parts (first + 1) group (λ i d inside. each (suc i) d (omega arith)) are.1)
+    ((are.0, each 0 one (omega arith)), printed-from holds read write parts (first + 1) group (λ i d inside. each (suc i) d (omega arith)) are.1)
 
 -- the same, held by what is held as before
 pub read-same : (holds later_holds : List ℕ → Option (List ℕ)) → ((other : List ℕ) → later_holds other ≡ holds other) → (parts : List Part) (first : ℕ) (given : List (List ℕ)) → AreRead later_holds parts first given → AreRead holds parts first given
@@ -194,38 +200,37 @@ part-at (part ∷ parts) (suc place) within = part-at parts place (omega arith)
 
 module _ (holds later_holds : List ℕ → Option (List ℕ)) (stays : (other : List ℕ) → later_holds other ≡ holds other) (read : CsvReadOptions) (write : CsvWriterOptions) (parts : List Part)
     (sound : IsSound read None parts) (plain : IsPlain read None parts) where
-  abbrev lines_of : List Writing → List (List ℕ)
-  lines_of sinks = map (λ (sink : Writing). sink.received) sinks
-
   -- their lines
-  pub group-printed : (place : ℕ) (sinks : List Writing) (printed : List (Result Writing PolarsError)) → ArePrinted holds read write parts place (lines_of sinks) → ArePrintedFrom later_holds read write parts place printed
-      → first_refusal place printed ≡ None → ArePrinted holds read write parts (place + length printed) (lines_of (sinks ++ sinks_of printed))
-  group-printed place sinks [] front are none =
-      subst (λ (l : List Writing). ArePrinted holds read write parts (place + 0) (lines_of l)) (sym (append-nil sinks)) (subst (λ n. ArePrinted holds read write parts n (lines_of sinks)) (omega arith) front)
-  group-printed place sinks (Ok sink ∷ more) front ((bytes, at, is), rest) none =
-      let next = printed-more holds later_holds stays read write parts sound plain place at.part at.within at.at sinks sink front (bytes, at.held, is) in
-      subst (λ n. ArePrinted holds read write parts n (lines_of (sinks ++ sink ∷ sinks_of more))) (omega arith)
-      (subst (λ (l : List Writing). ArePrinted holds read write parts ((place + 1) + length more) (lines_of l)) (append_assoc sinks (sink ∷ []) (sinks_of more))
-      (group-printed (place + 1) (sinks ++ sink ∷ []) more next rest none))
-  group-printed place sinks (Err refusal ∷ more) front are none = absurd (cc)
+  pub group-printed : (place : ℕ) (lines : List (List ℕ)) (came : List (List ℕ × Result FoundLines PolarsError)) → ArePrinted holds read write parts place lines → ArePrintedFrom later_holds read write parts place came
+      → first_refusal place came ≡ None → ArePrinted holds read write parts (place + length came) (lines ++ texts_of came)
+  group-printed place lines [] front are none =
+      subst (λ (l : List (List ℕ)). ArePrinted holds read write parts (place + 0) l) (sym (append-nil lines)) (subst (λ n. ArePrinted holds read write parts n lines) (omega arith) front)
+  group-printed place lines ((bytes, Ok found) ∷ more) front ((at, is), rest) none =
+      let text = found_text bytes found in
+      let next = printed-more holds later_holds stays read write parts sound plain place at.part at.within at.at lines text front (bytes, at.held, is) in
+      subst (λ n. ArePrinted holds read write parts n (lines ++ text ∷ texts_of more)) (omega arith)
+      (subst (λ (l : List (List ℕ)). ArePrinted holds read write parts ((place + 1) + length more) l) (append_assoc lines (text ∷ []) (texts_of more))
+      (group-printed (place + 1) (lines ++ text ∷ []) more next rest none))
+  group-printed place lines ((bytes, Err refusal) ∷ more) front are none = absurd (cc)
 
   -- or the first fault
-  pub group-refused : (place : ℕ) (sinks : List Writing) (printed : List (Result Writing PolarsError)) → ArePrinted holds read write parts place (lines_of sinks) → ArePrintedFrom later_holds read write parts place printed
-      → (first before now : ℕ) (refused : MultiFault) → first ≤ before → first_refusal place printed ≡ Some refused → IsJoinFault holds first now read None parts refused
-  group-refused place sinks [] front are first before now refused later some = absurd (cc)
-  group-refused place sinks (Ok sink ∷ more) front ((bytes, at, is), rest) first before now refused later some =
-      let next = printed-more holds later_holds stays read write parts sound plain place at.part at.within at.at sinks sink front (bytes, at.held, is) in
-      group-refused (place + 1) (sinks ++ sink ∷ []) more next rest first before now refused later some
-  group-refused place sinks (Err refusal ∷ more) front ((bytes, at, is), rest) first before now refused later some =
+  pub group-refused : (place : ℕ) (lines : List (List ℕ)) (came : List (List ℕ × Result FoundLines PolarsError)) → ArePrinted holds read write parts place lines → ArePrintedFrom later_holds read write parts place came
+      → (first before now : ℕ) (refused : MultiFault) → first ≤ before → first_refusal place came ≡ Some refused → IsJoinFault holds first now read None parts refused
+  group-refused place lines [] front are first before now refused later some = absurd (cc)
+  group-refused place lines ((bytes, Ok found) ∷ more) front ((at, is), rest) first before now refused later some =
+      let text = found_text bytes found in
+      let next = printed-more holds later_holds stays read write parts sound plain place at.part at.within at.at lines text front (bytes, at.held, is) in
+      group-refused (place + 1) (lines ++ text ∷ []) more next rest first before now refused later some
+  group-refused place lines ((bytes, Err refusal) ∷ more) front ((at, is), rest) first before now refused later some =
       let same : part_fault place refusal ≡ refused = cc in
       subst (IsJoinFault holds first now read None parts) same
       (printed-fault holds later_holds stays read write parts sound plain place at.part at.within at.at front.columns front.joined first before now (part_fault place refusal) later
       (part-fault later_holds before now read at.part place bytes at.held refusal is))
 
-  pub group-fault : (place : ℕ) (sinks : List Writing) (printed : List (Result Writing PolarsError)) → ArePrinted holds read write parts place (lines_of sinks) → ArePrintedFrom later_holds read write parts place printed
-      → (first before now : ℕ) (refused : MultiFault) → first ≤ before → IsFirstRefusal place printed refused → IsJoinFault holds first now read None parts refused
-  group-fault place sinks printed front are first before now refused later (inl some) = group-refused place sinks printed front are first before now refused later some
-  group-fault place sinks printed front are first before now refused later (inr wanting) = subst (IsJoinFault holds first now read None parts) (sym wanting) tt
+  pub group-fault : (place : ℕ) (lines : List (List ℕ)) (came : List (List ℕ × Result FoundLines PolarsError)) → ArePrinted holds read write parts place lines → ArePrintedFrom later_holds read write parts place came
+      → (first before now : ℕ) (refused : MultiFault) → first ≤ before → IsFirstRefusal place came refused → IsJoinFault holds first now read None parts refused
+  group-fault place lines came front are first before now refused later (inl some) = group-refused place lines came front are first before now refused later some
+  group-fault place lines came front are first before now refused later (inr wanting) = subst (IsJoinFault holds first now read None parts) (sym wanting) tt
 
   -- a part that was not read
   unread-fault : (place : ℕ) (lines : List (List ℕ)) → (part : Part) → place < length parts → part ≡ get_or parts place part → ArePrinted holds read write parts place lines

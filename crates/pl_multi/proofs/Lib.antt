@@ -2,7 +2,9 @@ mod GroupLaws
 mod HeldLaws
 mod HiveLaws
 mod JoinedLaws
+mod LineLaws
 mod NameLaws
+mod PathLaws
 mod PrintedLaws
 mod PrintingLaws
 mod RowsLaws

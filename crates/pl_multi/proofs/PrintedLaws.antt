@@ -67,6 +67,12 @@ module _ (read : CsvReadOptions) (write : CsvWriterOptions) (input : List ℕ) (
     are = is.written ∙ text-lines write frame head ∙ ap (all_lines (cell_options write.serialize_options)) (is.is.1.1 ∙ ap (λ (s : List Entry). frame_of read s input) same-schema);
   }
 
+  -- behind another text
+  pub lines-behind : (text all : List ℕ) → IsConverted read write input (Some text) (Some all) → (lines : List ℕ) × (all ≡ text ++ lines) × AreLinesOf read write input lines
+  lines-behind text all (frame, is) =
+      let lines = text_of_frame (frame_options write) frame in
+      (lines, is.written, lines-read lines (frame, record { is = is.is; written = refl }))
+
   told : (fault : PolarsError) → IsCause read (settled_schema read input) input write fault → IsFault (late_cause read (given_schema read) input) fault
   told fault cause =
       inl (subst (λ (s : List Entry). late_cause read s input ≡ Some fault) same-schema

@@ -3,11 +3,10 @@ use Rattle.std.proofs.Common.{◌≡◌, ℕ, ◌+◌, ◌<◌, Bool, true, fals
 use Rattle.std.specs.Prelude.{◌≤◌, Ok, is_none, is_some, unwrap_or}
 use Rattle.std.specs.List.{concat}
 use Rattle.std.specs.Option.{option_map}
-use Rattle.std.proofs.lemmas.List.{append-nil, map-append}
+use Rattle.std.proofs.lemmas.List.{append-nil}
 use Rattle.std.proofs.lemmas.List.Folds.{concat-append}
 use Rattle.pl_frame.specs.Frame.{ColumnValue, IsFrame, HaveHeight, height_of, names_of}
 use Rattle.pl_frame.specs.FrameParts.{stacked, schema_of, HaveSameColumns}
-use Rattle.pl_frame.specs.Outside.{Writing}
 use Rattle.pl_frame.specs.Schema.{Entry}
 use Rattle.pl_frame.specs.declared.data_type.DataType.TheVariants as dtype
 use Rattle.pl_text.specs.FrameText.{head_text, text_of_frame}
@@ -82,9 +81,6 @@ rows-level o schema bytes none =
 
 -- ---- parts so far
 
-abbrev received : List Writing → List (List ℕ)
-received sinks = map (λ (sink : Writing). sink.received) sinks
-
 -- none
 pub printed-none : (holds : List ℕ → Option (List ℕ)) (read : CsvReadOptions) (write : CsvWriterOptions) (parts : List Part) → IsFrame (no_rows read parts) → ArePrinted holds read write parts 0 []
 printed-none holds read write parts frame = record {
@@ -104,9 +100,9 @@ module _ (holds later_holds : List ℕ → Option (List ℕ)) (stays : (other : 
   names-are = same-names parts place part (no-other read None parts sound.early) within at
 
   -- one more
-  pub printed-more : (sinks : List Writing) (sink : Writing) → ArePrinted holds read write parts place (received sinks) → ArePartLines later_holds read write part sink.received
-      → ArePrinted holds read write parts (place + 1) (received (sinks ++ sink ∷ []))
-  printed-more sinks sink front (bytes, held, lines) =
+  pub printed-more : (before : List (List ℕ)) (text : List ℕ) → ArePrinted holds read write parts place before → ArePartLines later_holds read write part text
+      → ArePrinted holds read write parts (place + 1) (before ++ text ∷ [])
+  printed-more before text front (bytes, held, lines) =
       let o = cell_options write.serialize_options in
       let schema = given_schema read in
       let columns = front.columns in
@@ -120,9 +116,8 @@ module _ (holds later_holds : List ℕ → Option (List ℕ)) (stays : (other : 
             record { bytes = bytes; held = held; sound = lines.sound; is = refl; counted = refl };
         frame = frame-behind columns rows same front.frame (subst (λ (l : List ColumnValue). HaveHeight (height_of l) l) (sym plainly) (rows-level read schema bytes plain.unnumbered));
         same = front.same ∙ same-behind columns rows same;
-        are = ap concat (map-append (λ (sink : Writing). sink.received) sinks (sink ∷ []))
-            ∙ concat-append (received sinks) (sink.received ∷ [])
-            ∙ (λ i. front.are i ++ (append-nil sink.received ∙ lines.are ∙ ap (all_lines o) (sym plainly)) i)
+        are = concat-append before (text ∷ [])
+            ∙ (λ i. front.are i ++ (append-nil text ∙ lines.are ∙ ap (all_lines o) (sym plainly)) i)
             ∙ sym (lines-stacked o columns rows same front.frame.one_height);
       }
 

@@ -5,5 +5,6 @@ pub mod Joining
 pub mod Words
 pub mod Telling
 pub mod Printing
+pub mod Lines
 pub mod Groups
 pub mod Run

@@ -1,5 +1,5 @@
 -- Parts whose rows are printed as they are read, in place of a frame; only the proofs of the code need them.
-use Rattle.std.specs.Prelude.{◌≡◌, ℕ, Bool, false, List, [], map, Option, None}
+use Rattle.std.specs.Prelude.{◌≡◌, ℕ, Bool, false, List, [], Option, None}
 use Rattle.std.specs.List.{concat, list_any}
 use Rattle.pl_frame.specs.Frame.{ColumnValue, IsFrame, names_of}
 use Rattle.pl_frame.specs.FrameParts.{HaveSameColumns}
@@ -64,7 +64,7 @@ pub record ArePrinted (holds : List ℕ → Option (List ℕ)) (read : CsvReadOp
 -- the text of what was read of all parts
 abbrev pub joined_text : CsvWriterOptions → Joined → List ℕ
 joined_text write (joined.Frame frame) = text_of_frame (frame_options write) frame
-joined_text write (joined.Lines lines empty) = printed_text (frame_options write) (names_of empty) (map (λ sink. sink.received) lines.items) empty
+joined_text write (joined.Lines lines empty) = printed_text (frame_options write) (names_of empty) lines.items empty
 
 -- it is the text of their joined read
 pub record IsJoinedBy (holds : List ℕ → Option (List ℕ)) (job : Asked) (given : Joined) : Type 0 where

@@ -9,17 +9,18 @@ ghost use Rattle.pl_multi.specs.Groups.{AreRead, IsUnread, IsTakenOf, ArePrinted
 ghost use Rattle.pl_multi.specs.Printing.{HasNoHead};
 
 use crate::groups::{GroupSize, PartLines, read_group};
+use crate::lines::FoundLines;
 use crate::part::Part;
+use crate::rooms::{Rooms, make_rooms};
 use crate::scan::MultiFault;
 use pl_frame::error::PolarsResult;
 use pl_frame::opener::Opener;
-use pl_frame::sink::MemSink;
 use pl_options::read_options::CsvReadOptions;
 use pl_rows::push::push;
 use pl_write::options::CsvWriterOptions;
 use std::alloc::{AllocError, Global};
-use std::sync::Wait;
 use std::sync::atomic::{AtomicUsize, Ordering};
+use std::sync::{Mutex, Wait};
 use std::thread;
 use std::thread::Threads;
 
@@ -27,7 +28,7 @@ use std::thread::Threads;
 #[derive(Drop)]
 pub(crate) struct TakenPart {
     place: usize,
-    printed: PolarsResult<MemSink>,
+    printed: PolarsResult<FoundLines>,
 }
 
 /// What one worker did while others printed: it read the parts of the next group, or the fault of one of these came, and then it printed too.
@@ -68,6 +69,29 @@ fn take_parts<W: Threads + Wait + Sync>(
     taken
 }
 
+// Takes parts of a group and prints them, and then makes memory ready to read others into.
+fn take_and_make<W: Threads + Wait + Sync>(
+    rt: &W,
+    alloc: Global,
+    group: &[PartLines],
+    next: &AtomicUsize,
+    rooms: &Mutex<Rooms>,
+    read: &CsvReadOptions,
+    single: &CsvReadOptions,
+    write: &CsvWriterOptions,
+) -> Vec<TakenPart>
+    requires single { single.now ≡ for_one read.now }
+    requires given { IsSome read.now.schema }
+    requires allowed { MayRead read.now }
+    requires plain { read.now.row_index ≡ None }
+    requires head { HasNoHead write.now }
+    ensures { All (IsTakenOf read.now write.now group.now) result.items }
+{
+    let taken = take_parts(rt, alloc, group, next, read, single, write);
+    make_rooms(rt, alloc, rooms);
+    taken
+}
+
 // The parts of a group that so many workers take and print, each until there are no more.
 fn take_each<W: Threads + Wait + Sync>(
     rt: &W,
@@ -75,6 +99,7 @@ fn take_each<W: Threads + Wait + Sync>(
     workers: usize,
     group: &[PartLines],
     next: &AtomicUsize,
+    rooms: &Mutex<Rooms>,
     read: &CsvReadOptions,
     single: &CsvReadOptions,
     write: &CsvWriterOptions,
@@ -94,7 +119,7 @@ fn take_each<W: Threads + Wait + Sync>(
         requires plain { read.now.row_index ≡ None }
         requires head { HasNoHead write.now }
         ensures { All (IsTakenOf read.entry.now write.entry.now group.entry.now) result.items }
-    { take_parts(rt, alloc, group, next, read, single, write) };
+    { take_and_make(rt, alloc, group, next, rooms, read, single, write) };
     thread::map_indices(rt, alloc, workers, &take)
 }
 
@@ -157,7 +182,7 @@ fn read_and_take<W: Threads + Wait + Sync, O: Opener>(
     parts: &[Part],
     behind: usize,
     least: GroupSize,
-    rooms: &mut Vec<Vec<u8>>,
+    rooms: &Mutex<Rooms>,
     next_group: &mut Vec<PartLines>,
     group: &[PartLines],
     next: &AtomicUsize,
@@ -182,8 +207,8 @@ fn read_and_take<W: Threads + Wait + Sync, O: Opener>(
     ensures later { O.faults opener.old ≤ O.faults opener.new }
     ensures stays { (other : List ℕ) → O.holds opener.new other ≡ O.holds opener.old other }
 {
-    let ahead = read_group(alloc, opener, parts, behind, least, rooms, next_group);
-    let taken = take_parts(rt, alloc, group, next, read, single, write);
+    let ahead = read_group(rt, alloc, opener, parts, behind, least, rooms, next_group);
+    let taken = take_and_make(rt, alloc, group, next, rooms, read, single, write);
     ReadAhead { read: ahead, taken }
 }
 
@@ -197,7 +222,7 @@ pub(crate) fn print_beside<W: Threads + Wait + Sync, O: Opener>(
     parts: &[Part],
     behind: usize,
     least: GroupSize,
-    rooms: &mut Vec<Vec<u8>>,
+    rooms: &Mutex<Rooms>,
     group: &mut [PartLines],
     next_group: &mut Vec<PartLines>,
     read: &CsvReadOptions,
@@ -239,6 +264,7 @@ pub(crate) fn print_beside<W: Threads + Wait + Sync, O: Opener>(
             workers.saturating_sub(1),
             shared,
             &next,
+            rooms,
             read,
             single,
             write,

@@ -4,38 +4,40 @@ ghost use Rattle.pl_frame.specs.declared.error.PolarsError.TheVariants as error;
 ghost use Rattle.pl_options.specs.FirstCause.{IsFault};
 ghost use Rattle.pl_read.specs.SettleGiven.{given_schema};
 ghost use Rattle.pl_read.specs.Steps.{MayRead, late_cause};
-ghost use Rattle.pl_multi.specs.Groups.{AreRead, IsUnread, IsPrintedOf, sinks_of, first_refusal, IsFirstRefusal, for_one};
+ghost use Rattle.pl_multi.specs.Groups.{AreRead, IsUnread, IsPrintedOf, texts_of, first_refusal, IsFirstRefusal, for_one};
+ghost use Rattle.pl_multi.specs.Lines.{found_text};
 ghost use Rattle.pl_multi.specs.Printing.{HasNoHead, AreLinesOf};
 ghost use Rattle.pl_multi.specs.Scan.{IsHeld};
 
 use crate::joining::part_fault;
+use crate::lines::{FoundLines, KeptLines, LineSink};
 use crate::part::Part;
 use crate::paths::{Unread, read_path};
+use crate::rooms::{LARGE, Rooms};
 use crate::scan::MultiFault;
+use memchr::memchr;
 use pl_csv::convert::convert;
 use pl_frame::error::{PolarsError, PolarsResult};
 use pl_frame::opener::Opener;
-use pl_frame::sink::MemSink;
 use pl_options::put::put;
 use pl_options::read_options::CsvReadOptions;
 use pl_rows::push::push;
 use pl_write::options::CsvWriterOptions;
 use std::alloc::{AllocError, Global};
-use std::sync::Wait;
+use std::sync::{Mutex, Wait};
 use std::thread::Threads;
 
 // So many parts are a group, at most.
 const PARTS: usize = 1 << 10;
+
+// So many parts are a group for each worker, at most, where they are not small.
+const EACH: usize = 4;
 
 // So many bytes are a group, at most: the part in which they are reached is its last.
 const BYTES: usize = 1 << 24;
 
 // So many bytes are a group that workers print, at least, so that printing it is long beside their start.
 const FEW: usize = 1 << 20;
-
-// A part of so many bytes is printed by as many workers as the options say, and one of fewer by one alone: others of its group are then
-// printed beside it, and its memory is used again.
-const LARGE: usize = 1 << 22;
 
 /// How many parts are a group, and of how many bytes, at least; it has fewer where there are no more, or where these are large.
 #[derive(Clone, Copy)]
@@ -55,6 +57,18 @@ impl GroupSize {
         GroupSize { parts, bytes: FEW }
     }
 
+    /// Of the group behind one of so many parts: twice as many, but at least as many as there are workers, and at most some for each.
+    pub(crate) fn behind(parts: usize, workers: usize) -> GroupSize {
+        let least = parts.saturating_mul(2).max(workers);
+        GroupSize::of(least.min(workers.saturating_mul(EACH)))
+    }
+
+    /// How many parts it and the group behind it have.
+    pub(crate) fn then(self, workers: usize) -> usize {
+        let next = GroupSize::behind(self.parts, workers);
+        self.parts.saturating_add(next.parts)
+    }
+
     // Whether so many parts, of so many bytes, are a group.
     fn is_met(self, parts: usize, bytes: usize) -> bool {
         parts >= PARTS || bytes >= BYTES || (parts >= self.parts && bytes >= self.bytes)
@@ -65,7 +79,21 @@ impl GroupSize {
 #[derive(Drop)]
 pub(crate) struct PartLines {
     bytes: Vec<u8>,
-    printed: PolarsResult<MemSink>,
+    printed: PolarsResult<FoundLines>,
+}
+
+// Where the lines of a part may stand among its bytes: behind its first line end where it has a header, else at the front. A guess, which
+// tells nothing.
+fn guess_lines(bytes: &[u8], read: &CsvReadOptions) -> usize
+    ensures { result ≤ length bytes.now }
+{
+    if !read.has_header {
+        return 0;
+    }
+    match memchr(read.parse_options.eol_char, bytes) {
+        Some(at) => at + 1,
+        None => 0,
+    }
 }
 
 // The lines of the rows of a part with these bytes. Refuses the first cause against them, and want of memory.
@@ -75,17 +103,22 @@ fn print_bytes<W: Threads + Wait + Sync>(
     bytes: &[u8],
     read: &CsvReadOptions,
     write: &CsvWriterOptions,
-) -> PolarsResult<MemSink>
+) -> PolarsResult<FoundLines>
     requires given { IsSome read.now.schema }
     requires allowed { MayRead read.now }
     requires plain { read.now.row_index ≡ None }
     requires head { HasNoHead write.now }
-    ensures lines { IfOk result (λ sink. AreLinesOf read.now write.now bytes.now sink.received) }
+    ensures lines { IfOk result (λ found. AreLinesOf read.now write.now bytes.now (found_text bytes.now found)) }
     ensures refused { IfErr result (IsFault (late_cause read.now (given_schema read.now) bytes.now)) }
 {
-    let mut sink = MemSink::new(alloc);
+    let from = guess_lines(bytes, read);
+    let text = &bytes[from..];
+    let mut sink = LineSink::new(alloc, text);
     match convert(rt, alloc, bytes, read, write, &mut sink) {
-        Ok(()) => Ok(sink),
+        Ok(()) => match sink.found(text, from) {
+            Ok(found) => Ok(found),
+            Err(_) => Err(PolarsError::OutOfMemory),
+        },
         Err(fault) => Err(fault),
     }
 }
@@ -101,7 +134,7 @@ pub(crate) fn for_one(read: &CsvReadOptions) -> Result<CsvReadOptions, AllocErro
     Ok(single)
 }
 
-// The same as `print_bytes`, by one worker alone where the bytes are few.
+// The same as `print_bytes`, by one worker alone where the bytes are few: others of its group are then printed beside it.
 fn print_part<W: Threads + Wait + Sync>(
     rt: &W,
     alloc: Global,
@@ -109,7 +142,7 @@ fn print_part<W: Threads + Wait + Sync>(
     read: &CsvReadOptions,
     single: &CsvReadOptions,
     write: &CsvWriterOptions,
-) -> PolarsResult<MemSink>
+) -> PolarsResult<FoundLines>
     requires single { single.now ≡ for_one read.now }
     requires given { IsSome read.now.schema }
     requires allowed { MayRead read.now }
@@ -132,7 +165,7 @@ impl PartLines {
         read: &CsvReadOptions,
         single: &CsvReadOptions,
         write: &CsvWriterOptions,
-    ) -> PolarsResult<MemSink>
+    ) -> PolarsResult<FoundLines>
         requires single { single.now ≡ for_one read.now }
         requires given { IsSome read.now.schema }
         requires allowed { MayRead read.now }
@@ -144,19 +177,38 @@ impl PartLines {
     }
 
     /// Puts the lines of its rows.
-    pub(crate) fn put(&mut self, printed: PolarsResult<MemSink>)
+    pub(crate) fn put(&mut self, printed: PolarsResult<FoundLines>)
         ensures bytes { self.new.bytes ≡ self.old.bytes }
         ensures printed { self.new.printed ≡ printed }
     {
         put(&mut self.printed, printed);
     }
 
+    // Whether its lines are its bytes.
+    fn are_lent(&self) -> bool {
+        match &self.printed {
+            Ok(found) => found.are_lent(),
+            Err(_) => false,
+        }
+    }
+
     // What came of it, and its bytes.
-    fn into_parts(self) -> (PolarsResult<MemSink>, Vec<u8>)
-        ensures { result.0 ≡ self.printed }
+    fn into_parts(self) -> (PolarsResult<FoundLines>, Vec<u8>)
+        ensures printed { result.0 ≡ self.printed }
+        ensures bytes { result.1 ≡ self.bytes }
     {
         (self.printed, self.bytes)
     }
+}
+
+/// Whether the lines of a part of a group are bytes of that part.
+pub(crate) fn are_lent(group: &[PartLines]) -> bool {
+    for one in group {
+        if one.are_lent() {
+            return true;
+        }
+    }
+    false
 }
 
 // The bytes of the part at a place, of which no row is printed, in the memory that is given where that suffices.
@@ -182,29 +234,26 @@ fn read_part<O: Opener>(
     }
 }
 
-// Memory to read a part into.
-fn take_room(alloc: Global, rooms: &mut Vec<Vec<u8>>) -> Vec<u8> {
-    match rooms.pop() {
-        Some(room) => room,
-        None => Vec::new(alloc),
+// Bytes whose memory is not much longer than they are.
+fn without_spare(bytes: Vec<u8>) -> Vec<u8>
+    ensures { result.items ≡ bytes.items }
+{
+    let mut bytes = bytes;
+    if bytes.capacity() / 2 > bytes.len() {
+        let _ = bytes.shrink_to_fit();
     }
-}
-
-// Keeps memory to read another part into, where it is not large.
-fn give_room(rooms: &mut Vec<Vec<u8>>, room: Vec<u8>) {
-    if room.len() < LARGE {
-        let _ = rooms.push(room);
-    }
+    bytes
 }
 
 /// Reads the parts from a place on into a group of such a size. Refuses the part behind them where it is not read, and want of memory.
-pub(crate) fn read_group<O: Opener>(
+pub(crate) fn read_group<W: Wait, O: Opener>(
+    rt: &W,
     alloc: Global,
     opener: &mut O,
     parts: &[Part],
     first: usize,
     least: GroupSize,
-    rooms: &mut Vec<Vec<u8>>,
+    rooms: &Mutex<Rooms>,
     group: &mut Vec<PartLines>,
 ) -> Result<(), MultiFault>
     requires none { length group.old.items ≡ 0 }
@@ -221,12 +270,13 @@ pub(crate) fn read_group<O: Opener>(
     let mut size: usize = 0;
     let mut place = first;
     while place < parts.len() && (place == first || !least.is_met(place - first, size)) {
-        let room = take_room(alloc, rooms);
+        let room = rooms.lock(rt).take(alloc);
         let one = match read_part(opener, &parts[place], place, room) {
             Ok(one) => one,
             Err(fault) => return Err(fault),
         };
         size = size.saturating_add(one.bytes.len());
+        rooms.lock(rt).keep_len(one.bytes.len());
         if push(group, one).is_err() {
             return Err(MultiFault::OutOfMemory);
         }
@@ -235,33 +285,53 @@ pub(crate) fn read_group<O: Opener>(
     Ok(())
 }
 
+// Keeps the lines of a part, with its bytes where they stand among these. Else their memory is kept to read another part into.
+fn keep<W: Wait>(
+    rt: &W,
+    alloc: Global,
+    rooms: &Mutex<Rooms>,
+    bytes: Vec<u8>,
+    found: FoundLines,
+) -> KeptLines
+    ensures { result ≡ found_text bytes.items found }
+{
+    if found.are_lent() {
+        return KeptLines::new(without_spare(bytes), found);
+    }
+    rooms.lock(rt).give(bytes);
+    KeptLines::new(Vec::new(alloc), found)
+}
+
 /// Puts the lines of the parts of a group, the first of which is at this place, behind those of the parts before, and keeps their memory. Refuses the first cause
 /// against a part, and want of memory.
-pub(crate) fn put_lines(
-    lines: &mut Vec<MemSink>,
-    rooms: &mut Vec<Vec<u8>>,
+pub(crate) fn put_lines<W: Wait>(
+    rt: &W,
+    alloc: Global,
+    lines: &mut Vec<KeptLines>,
+    rooms: &Mutex<Rooms>,
     group: Vec<PartLines>,
     first: usize,
 ) -> Result<(), MultiFault>
     requires { first + length group.items < 2 ^ 64 }
-    ensures lines { OnOk result (lines.new.items ≡ lines.old.items ++ sinks_of (map (λ one. one.printed) group.items)) }
-    ensures sound { OnOk result (first_refusal first (map (λ one. one.printed) group.items) ≡ None) }
-    ensures refused { IfErr result (IsFirstRefusal first (map (λ one. one.printed) group.items)) }
+    ensures lines { OnOk result (lines.new.items ≡ lines.old.items ++ texts_of (map (λ one. (one.bytes.items, one.printed)) group.items)) }
+    ensures sound { OnOk result (first_refusal first (map (λ one. (one.bytes.items, one.printed)) group.items) ≡ None) }
+    ensures refused { IfErr result (IsFirstRefusal first (map (λ one. (one.bytes.items, one.printed)) group.items)) }
 {
     let mut group = group;
     group.reverse();
     let mut place = first;
     while let Some(one) = group.pop() {
-        let (printed, room) = one.into_parts();
-        give_room(rooms, room);
-        let sink = match printed {
-            Ok(sink) => sink,
+        let (printed, bytes) = one.into_parts();
+        let found = match printed {
+            Ok(found) => found,
             Err(fault) => {
+                drop(bytes);
                 drop(group);
                 return Err(part_fault(place, fault));
             }
         };
-        if push(lines, sink).is_err() {
+        let kept = keep(rt, alloc, rooms, bytes, found);
+        if push(lines, kept).is_err() {
             drop(group);
             return Err(MultiFault::OutOfMemory);
         }

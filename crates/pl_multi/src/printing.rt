@@ -3,6 +3,7 @@ ghost use Rattle.std.specs.Prelude.{◌≡◌, ◌≤◌, ◌<◌, ℕ, false, L
 ghost use Rattle.std.specs.Bool.{OnTrue};
 ghost use Rattle.std.specs.Cow.{cow_slice_items};
 ghost use Rattle.std.specs.Io.KnownBytes.{Appends};
+ghost use Rattle.std.specs.List.{concat};
 ghost use Rattle.pl_frame.specs.Causes.{Rose};
 ghost use Rattle.pl_frame.specs.Frame.{IsFrame, names_of};
 ghost use Rattle.pl_write.specs.Options.{frame_options};
@@ -16,15 +17,17 @@ ghost use Rattle.pl_multi.specs.Scan.{IsScanFault, no_rows};
 ghost use Rattle.pl_multi.specs.Words.{asked};
 
 use crate::beside::{print_alone, print_beside};
-use crate::groups::{GroupSize, for_one, put_lines, read_group};
+use crate::groups::{GroupSize, are_lent, for_one, put_lines, read_group};
+use crate::lines::KeptLines;
 use crate::multi_words::MultiJob;
 use crate::part::Part;
+use crate::rooms::{Rooms, want_rooms};
 use crate::scan::{MultiFault, check_scan, scan_multi};
 use pl_frame::column::Column;
 use pl_frame::data_type::DataType;
 use pl_frame::frame::DataFrame;
 use pl_frame::opener::Opener;
-use pl_frame::sink::{MemSink, Sink, SinkFault};
+use pl_frame::sink::{Sink, SinkFault};
 use pl_options::read_options::CsvReadOptions;
 use pl_read::workers::worker_count;
 use pl_rows::stack::into_columns;
@@ -33,7 +36,7 @@ use pl_write::printed::write_behind;
 use pl_write::writer::write_frame;
 use std::alloc::{AllocError, Global};
 use std::borrow::CowSlice;
-use std::sync::Wait;
+use std::sync::{Mutex, Wait};
 use std::thread::Threads;
 
 /// What was read of all parts, to be written.
@@ -43,7 +46,7 @@ pub(crate) enum Joined {
     Frame(DataFrame),
     /// The lines of its rows, part by part, and its columns without rows.
     Lines {
-        lines: Vec<MemSink>,
+        lines: Vec<KeptLines>,
         empty: DataFrame,
     },
 }
@@ -97,27 +100,27 @@ fn print_in_turn<W: Threads + Wait + Sync, O: Opener>(
     read: &CsvReadOptions,
     single: &CsvReadOptions,
     write: &CsvWriterOptions,
-) -> Result<Vec<MemSink>, MultiFault>
+) -> Result<Vec<KeptLines>, MultiFault>
     requires single { single.now ≡ for_one read.now }
     requires sound { IsSound read.now None parts.now }
     requires plain { IsPlain read.now None parts.now }
     requires head { HasNoHead write.now }
     requires empty { IsFrame (no_rows read.now parts.now) }
-    ensures lines { IfOk result (λ lines. ArePrinted (O.holds opener.old) read.now write.now parts.now (length parts.now) (map (λ sink. sink.received) lines.items)) }
+    ensures lines { IfOk result (λ lines. ArePrinted (O.holds opener.old) read.now write.now parts.now (length parts.now) lines.items) }
     ensures refused { IfErr result (IsJoinFault (O.holds opener.old) (O.faults opener.old) (O.faults opener.new) read.now None parts.now) }
     ensures later { O.faults opener.old ≤ O.faults opener.new }
     ensures stays { (other : List ℕ) → O.holds opener.new other ≡ O.holds opener.old other }
 {
     let mut lines = Vec::new(alloc);
-    let mut rooms = Vec::new(alloc);
+    let rooms = Mutex::new(Rooms::new(alloc));
     let mut place = 0;
     while place < parts.len() {
         let mut group = Vec::new(alloc);
         let size = GroupSize::one();
-        let all_read = read_group(alloc, opener, parts, place, size, &mut rooms, &mut group);
+        let all_read = read_group(rt, alloc, opener, parts, place, size, &rooms, &mut group);
         print_alone(rt, alloc, &mut group, read, single, write);
         let count = group.len();
-        match put_lines(&mut lines, &mut rooms, group, place) {
+        match put_lines(rt, alloc, &mut lines, &rooms, group, place) {
             Ok(()) => {}
             Err(fault) => {
                 drop(all_read);
@@ -151,50 +154,50 @@ fn print_ahead<W: Threads + Wait + Sync, O: Opener>(
     read: &CsvReadOptions,
     single: &CsvReadOptions,
     write: &CsvWriterOptions,
-) -> Result<Vec<MemSink>, MultiFault>
+) -> Result<Vec<KeptLines>, MultiFault>
     requires single { single.now ≡ for_one read.now }
     requires sound { IsSound read.now None parts.now }
     requires plain { IsPlain read.now None parts.now }
     requires head { HasNoHead write.now }
     requires empty { IsFrame (no_rows read.now parts.now) }
-    ensures lines { IfOk result (λ lines. ArePrinted (O.holds opener.old) read.now write.now parts.now (length parts.now) (map (λ sink. sink.received) lines.items)) }
+    ensures lines { IfOk result (λ lines. ArePrinted (O.holds opener.old) read.now write.now parts.now (length parts.now) lines.items) }
     ensures refused { IfErr result (IsJoinFault (O.holds opener.old) (O.faults opener.old) (O.faults opener.new) read.now None parts.now) }
     ensures later { O.faults opener.old ≤ O.faults opener.new }
     ensures stays { (other : List ℕ) → O.holds opener.new other ≡ O.holds opener.old other }
 {
     let mut lines = Vec::new(alloc);
-    let mut rooms = Vec::new(alloc);
+    let rooms = Mutex::new(Rooms::new(alloc));
     let mut group = Vec::new(alloc);
     let mut place = 0;
     let mut all_read = read_group(
+        rt,
         alloc,
         opener,
         parts,
         0,
-        GroupSize::of(workers),
-        &mut rooms,
+        GroupSize::of(1),
+        &rooms,
         &mut group,
     );
+    let mut may_lend = true;
     while place < parts.len() {
         let count = group.len();
         let behind = next_place(&all_read, place + count, parts.len());
         let mut next = Vec::new(alloc);
+        let size = GroupSize::behind(count, workers);
+        let left = parts.len() - behind;
+        let wanted = if may_lend {
+            size.then(workers).min(left)
+        } else {
+            0
+        };
+        want_rooms(rt, &rooms, wanted);
         let ahead = print_beside(
-            rt,
-            alloc,
-            workers,
-            opener,
-            parts,
-            behind,
-            GroupSize::of(workers.saturating_mul(2)),
-            &mut rooms,
-            &mut group,
-            &mut next,
-            read,
-            single,
-            write,
+            rt, alloc, workers, opener, parts, behind, size, &rooms, &mut group, &mut next, read,
+            single, write,
         );
-        match put_lines(&mut lines, &mut rooms, group, place) {
+        may_lend = are_lent(&group);
+        match put_lines(rt, alloc, &mut lines, &rooms, group, place) {
             Ok(()) => {}
             Err(fault) => {
                 drop(all_read);
@@ -225,13 +228,13 @@ fn print_each<W: Threads + Wait + Sync, O: Opener>(
     read: &CsvReadOptions,
     single: &CsvReadOptions,
     write: &CsvWriterOptions,
-) -> Result<Vec<MemSink>, MultiFault>
+) -> Result<Vec<KeptLines>, MultiFault>
     requires single { single.now ≡ for_one read.now }
     requires sound { IsSound read.now None parts.now }
     requires plain { IsPlain read.now None parts.now }
     requires head { HasNoHead write.now }
     requires empty { IsFrame (no_rows read.now parts.now) }
-    ensures lines { IfOk result (λ lines. ArePrinted (O.holds opener.old) read.now write.now parts.now (length parts.now) (map (λ sink. sink.received) lines.items)) }
+    ensures lines { IfOk result (λ lines. ArePrinted (O.holds opener.old) read.now write.now parts.now (length parts.now) lines.items) }
     ensures refused { IfErr result (IsJoinFault (O.holds opener.old) (O.faults opener.old) (O.faults opener.new) read.now None parts.now) }
     ensures later { O.faults opener.old ≤ O.faults opener.new }
     ensures stays { (other : List ℕ) → O.holds opener.new other ≡ O.holds opener.old other }
@@ -333,16 +336,18 @@ pub(crate) fn read_parts<W: Threads + Wait + Sync, O: Opener>(
     print_parts(rt, alloc, opener, job, empty)
 }
 
-// The texts that sinks received. Refuses only want of memory.
-fn received<'a>(
+// The texts of lines. Refuses only want of memory.
+fn texts_of<'a>(
     alloc: Global,
-    sinks: &'a [MemSink],
+    lines: &'a [KeptLines],
 ) -> Result<Vec<CowSlice<'a, u8, Global>>, AllocError>
-    ensures { IfOk result (λ texts. map cow_slice_items texts.items ≡ map (λ sink. sink.received) sinks.now) }
+    ensures { IfOk result (λ texts. concat (map cow_slice_items texts.items) ≡ concat lines.now) }
 {
     let mut texts = Vec::new(alloc);
-    for sink in sinks {
-        texts.push(CowSlice::Borrowed(sink.received()))?;
+    for kept in lines {
+        let (lent, copied) = kept.texts();
+        texts.push(CowSlice::Borrowed(lent))?;
+        texts.push(CowSlice::Borrowed(copied))?;
     }
     Ok(texts)
 }
@@ -351,18 +356,18 @@ fn received<'a>(
 fn write_lines<W: Threads + Sync, Si: Sink>(
     rt: &W,
     alloc: Global,
-    lines: &[MemSink],
+    lines: &[KeptLines],
     empty: &DataFrame,
     write: &CsvWriterOptions,
     out: &mut Si,
 ) -> Result<(), SinkFault>
-    ensures text { OnOk result (Appends (Si.received out.old) (Si.received out.new) (printed_text (frame_options write.now) (names_of empty.now) (map (λ sink. sink.received) lines.now) empty.now)) }
-    ensures prefix { AppendsPrefix (Si.received out.old) (Si.received out.new) (printed_text (frame_options write.now) (names_of empty.now) (map (λ sink. sink.received) lines.now) empty.now) }
+    ensures text { OnOk result (Appends (Si.received out.old) (Si.received out.new) (printed_text (frame_options write.now) (names_of empty.now) lines.now empty.now)) }
+    ensures prefix { AppendsPrefix (Si.received out.old) (Si.received out.new) (printed_text (frame_options write.now) (names_of empty.now) lines.now empty.now) }
     ensures later { Si.faults out.old ≤ Si.faults out.new }
     ensures later_wants { Si.wants out.old ≤ Si.wants out.new }
     ensures device { IsErrOf result SinkFault.Device → Rose (Si.faults out.old) (Si.faults out.new) }
 {
-    let Ok(texts) = received(alloc, lines) else {
+    let Ok(texts) = texts_of(alloc, lines) else {
         return Err(SinkFault::OutOfMemory);
     };
     write_behind(rt, alloc, 1, &texts, empty.columns(), write, out)

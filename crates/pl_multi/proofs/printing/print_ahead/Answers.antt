@@ -1,12 +1,11 @@
-use Rattle.std.proofs.Common.{◌≡◌, [], ◌++◌, ◌+◌, ◌<◌, None, List, map, length, refl, ◌∙◌, sym, ap, subst, arith, rules}
+use Rattle.std.proofs.Common.{◌≡◌, [], ◌++◌, ◌+◌, ◌<◌, None, ℕ, List, length, refl, ◌∙◌, sym, ap, subst, arith, rules}
 use Rattle.std.specs.Prelude.{Result, OnOk, IfErr}
-use Rattle.std.proofs.lemmas.List.{with_items_is, length-map}
-use Rattle.pl_frame.specs.Outside.{Writing}
-use Rattle.pl_multi.specs.Groups.{AreRead, IsUnread, IsFirstRefusal, sinks_of, first_refusal}
+use Rattle.std.proofs.lemmas.List.{with_items_is}
+use Rattle.pl_multi.specs.Groups.{AreRead, IsUnread, IsFirstRefusal, texts_of, first_refusal}
 use Rattle.pl_multi.specs.Printing.{ArePrinted}
 use Rattle.pl_multi.specs.declared.groups.PartLines.{PartLines}
 use Rattle.pl_multi.specs.declared.scan.MultiFault.{MultiFault}
-use Rattle.pl_multi.proofs.GroupLaws.{bytes_of, printed_of, printed-from, read-same, group-printed, group-fault, unread-behind, unread-since, err-at}
+use Rattle.pl_multi.proofs.GroupLaws.{bytes_of, came_of, count-came, printed-from, read-same, group-printed, group-fault, unread-behind, unread-since, err-at}
 use Rattle.pl_multi.proofs.PrintingLaws.{printed-none}
 use Rattle.pl_multi.proofs.printing.print_ahead.Goals as goal
 
@@ -19,7 +18,7 @@ loop-place-init g c =
     let first = c.read_group-all_read.ensures in
     let none : c.new-lines.result.items ≡ [] = search rules in
     record {
-      printed = subst (λ (sinks : List Writing). ArePrinted holds read write parts 0 (map (λ (sink : Writing). sink.received) sinks)) (sym none) (printed-none holds read write parts c.requires.empty);
+      printed = subst (λ (lines : List (List ℕ)). ArePrinted holds read write parts 0 lines) (sym none) (printed-none holds read write parts c.requires.empty);
       read = first.read;
       unprinted = first.unprinted;
       some = first.some;
@@ -44,10 +43,10 @@ returns-in-Err-clause-refused g c =
     let are = subst (AreRead holds parts place) (sym (c.print_beside-ahead.ensures.same ∙ ap bytes_of c.deref_mut.ensures.value)) l.read in
     let came = printed-from holds read write parts place new c.print_beside-ahead.ensures.printed are in
     let same = with_items_is c.loop-place.group new (omega (arith, sizes, c.deref_mut.ensures.len)) in
-    let count : length (printed_of new) ≡ c.len-count.result = omega (arith, length-map new (λ (one : PartLines). one.printed), sizes, c.deref_mut.ensures.len, c.len-count.ensures) in
-    group-fault holds holds (λ other. refl) read write parts c.requires.sound c.requires.plain place lines (printed_of new) l.printed came
+    let count : length (came_of new) ≡ c.len-count.result = omega (arith, count-came new, sizes, c.deref_mut.ensures.len, c.len-count.ensures) in
+    group-fault holds holds (λ other. refl) read write parts c.requires.sound c.requires.plain place lines (came_of new) l.printed came
     (g.O.Opener.faults c.args.opener.now) (g.O.Opener.faults c.loop-place.opener) (g.O.Opener.faults c.print_beside-ahead.new.opener) c.in-Err.fault l.later
-    (subst (λ (group : List PartLines). IsFirstRefusal place (printed_of group) c.in-Err.fault) same c.in-Err.ensures.refused)
+    (subst (λ (group : List PartLines). IsFirstRefusal place (came_of group) c.in-Err.fault) same c.in-Err.ensures.refused)
 
 pub returns-in-Err-all_read-clause-refused : goal.returns-in-Err-all_read-clause-refused
 returns-in-Err-all_read-clause-refused g c =
@@ -63,16 +62,16 @@ returns-in-Err-all_read-clause-refused g c =
     let are = subst (AreRead holds parts place) (sym (c.print_beside-ahead.ensures.same ∙ ap bytes_of c.deref_mut.ensures.value)) l.read in
     let came = printed-from holds read write parts place new c.print_beside-ahead.ensures.printed are in
     let same = with_items_is c.loop-place.group new (omega (arith, sizes, c.deref_mut.ensures.len)) in
-    let count : length (printed_of new) ≡ c.len-count.result = omega (arith, length-map new (λ (one : PartLines). one.printed), sizes, c.deref_mut.ensures.len, c.len-count.ensures) in
-    let more = group-printed holds holds (λ other. refl) read write parts c.requires.sound c.requires.plain place lines (printed_of new) l.printed came (subst (λ (group : List PartLines). first_refusal place (printed_of group) ≡ None) same c.in-Ok.ensures.sound) in
+    let count : length (came_of new) ≡ c.len-count.result = omega (arith, count-came new, sizes, c.deref_mut.ensures.len, c.len-count.ensures) in
+    let more = group-printed holds holds (λ other. refl) read write parts c.requires.sound c.requires.plain place lines (came_of new) l.printed came (subst (λ (group : List PartLines). first_refusal place (came_of group) ≡ None) same c.in-Ok.ensures.sound) in
     let first = g.O.Opener.faults c.args.opener.now in
     let now = g.O.Opener.faults c.print_beside-ahead.new.opener in
-    let all : length (printed_of new) ≡ length c.loop-place.group.items = omega (arith, length-map new (λ (one : PartLines). one.printed), sizes, ap length c.deref_mut.ensures.value) in
+    let all : length (came_of new) ≡ length c.loop-place.group.items = omega (arith, count-came new, sizes, ap length c.deref_mut.ensures.value) in
     let last : place + length c.loop-place.group.items < length parts = err-at c.loop-place.all_read (λ _. place + length c.loop-place.group.items < length parts) c.in-Err-all_read.fault c.in-Err-all_read.is l.last in
     let unread : IsUnread first now (place + length c.loop-place.group.items) c.in-Err-all_read.fault =
     err-at c.loop-place.all_read (IsUnread first now (place + length c.loop-place.group.items)) c.in-Err-all_read.fault c.in-Err-all_read.is
     (unread-since c.loop-place.all_read first first (g.O.Opener.faults c.loop-place.opener) now (place + length c.loop-place.group.items) (omega arith) c.print_beside-ahead.ensures.later l.refused) in
-    unread-behind holds holds (λ other. refl) read write parts c.requires.sound c.requires.plain (place + length (printed_of new)) (map (λ (sink : Writing). sink.received) (lines ++ sinks_of (printed_of new)))
+    unread-behind holds holds (λ other. refl) read write parts c.requires.sound c.requires.plain (place + length (came_of new)) (lines ++ texts_of (came_of new))
     (omega (arith, all, last)) more first first now c.in-Err-all_read.fault (omega arith) (subst (λ n. IsUnread first now (place + n) c.in-Err-all_read.fault) (sym all) unread)
 
 pub loop-place-preserved : goal.loop-place-preserved
@@ -89,7 +88,7 @@ loop-place-preserved g c =
     let are = subst (AreRead holds parts place) (sym (c.print_beside-ahead.ensures.same ∙ ap bytes_of c.deref_mut.ensures.value)) l.read in
     let came = printed-from holds read write parts place new c.print_beside-ahead.ensures.printed are in
     let same = with_items_is c.loop-place.group new (omega (arith, sizes, c.deref_mut.ensures.len)) in
-    let count : length (printed_of new) ≡ c.len-count.result = omega (arith, length-map new (λ (one : PartLines). one.printed), sizes, c.deref_mut.ensures.len, c.len-count.ensures) in
+    let count : length (came_of new) ≡ c.len-count.result = omega (arith, count-came new, sizes, c.deref_mut.ensures.len, c.len-count.ensures) in
     let ahead = c.print_beside-ahead.ensures in
     let first = g.O.Opener.faults c.args.opener.now in
     let before = g.O.Opener.faults c.loop-place.opener in
@@ -97,11 +96,11 @@ loop-place-preserved g c =
     let behind = place + c.len-count.result in
     let at : c.next_place-behind.result ≡ behind = subst (λ (r : Result (Unit {0}) MultiFault). OnOk r (c.next_place-behind.result ≡ behind)) c.in-Ok-all_read.is c.next_place-behind.ensures.behind in
     let came_next = bytes_of c.print_beside-ahead.new.next_group.items in
-    let given : c.put_lines.new.lines.items ≡ lines ++ sinks_of (printed_of new) = c.in-Ok.ensures.lines ∙ ap (λ (group : List PartLines). lines ++ sinks_of (printed_of group)) same in
-    let more = group-printed holds holds (λ other. refl) read write parts c.requires.sound c.requires.plain place lines (printed_of new) l.printed came (subst (λ (group : List PartLines). first_refusal place (printed_of group) ≡ None) same c.in-Ok.ensures.sound) in
+    let given : c.put_lines.new.lines.items ≡ lines ++ texts_of (came_of new) = c.in-Ok.ensures.lines ∙ ap (λ (group : List PartLines). lines ++ texts_of (came_of group)) same in
+    let more = group-printed holds holds (λ other. refl) read write parts c.requires.sound c.requires.plain place lines (came_of new) l.printed came (subst (λ (group : List PartLines). first_refusal place (came_of group) ≡ None) same c.in-Ok.ensures.sound) in
     record {
-      printed = subst (λ (sinks : List Writing). ArePrinted holds read write parts behind (map (λ (sink : Writing). sink.received) sinks)) (sym given)
-          (subst (λ n. ArePrinted holds read write parts (place + n) (map (λ (sink : Writing). sink.received) (lines ++ sinks_of (printed_of new)))) count more);
+      printed = subst (λ (all : List (List ℕ)). ArePrinted holds read write parts behind all) (sym given)
+          (subst (λ n. ArePrinted holds read write parts (place + n) (lines ++ texts_of (came_of new))) count more);
       read = read-same holds (g.O.Opener.holds c.loop-place.opener) l.stays parts behind came_next (subst (λ n. AreRead (g.O.Opener.holds c.loop-place.opener) parts n came_next) at ahead.read);
       unprinted = ahead.unprinted;
       some = subst (λ n. OnOk c.print_beside-ahead.result (n < length parts → 0 < length c.print_beside-ahead.new.next_group.items)) at ahead.some;

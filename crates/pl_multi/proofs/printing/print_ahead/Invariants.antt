@@ -1,5 +1,4 @@
-use Rattle.std.proofs.Common.{◌≡◌, ◌≤◌, ◌<◌, ◌+◌, ◌-◌, ℕ, List, All, Err, OnOk, IfErr, length, map}
-use Rattle.pl_frame.specs.Outside.{Writing}
+use Rattle.std.proofs.Common.{◌≡◌, ◌≤◌, ◌<◌, ◌+◌, ◌-◌, ℕ, List, All, Err, OnOk, IfErr, length}
 use Rattle.pl_frame.specs.declared.error.PolarsError.TheVariants as error
 use Rattle.pl_multi.specs.Groups.{AreRead, IsUnread}
 use Rattle.pl_multi.specs.Printing.{ArePrinted}
@@ -11,7 +10,7 @@ use Rattle.pl_multi.proofs.printing.print_ahead.Given as goal
 -- refused
 abbrev pub invariant-loop-place : goal.invariant-loop-place
 invariant-loop-place g l = record {
-  printed : ArePrinted (g.O.Opener.holds l.fn.opener) l.fn.read l.fn.write l.fn.parts l.place (map (λ (sink : Writing). sink.received) l.lines.items);
+  printed : ArePrinted (g.O.Opener.holds l.fn.opener) l.fn.read l.fn.write l.fn.parts l.place l.lines.items;
   read : AreRead (g.O.Opener.holds l.fn.opener) l.fn.parts l.place (bytes_of l.group.items);
   unprinted : All (λ (one : PartLines). one.printed ≡ Err error.OutOfMemory) l.group.items;
   some : OnOk l.all_read (l.place < length l.fn.parts → 0 < length l.group.items);

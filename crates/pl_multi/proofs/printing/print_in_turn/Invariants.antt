@@ -1,12 +1,11 @@
-use Rattle.std.proofs.Common.{◌≡◌, ◌≤◌, ◌-◌, ℕ, List, length, map}
-use Rattle.pl_frame.specs.Outside.{Writing}
+use Rattle.std.proofs.Common.{◌≡◌, ◌≤◌, ◌-◌, ℕ, List, length}
 use Rattle.pl_multi.specs.Printing.{ArePrinted}
 use Rattle.pl_multi.proofs.printing.print_in_turn.Given as goal
 
 -- the parts before the place were read, and these are their lines
 abbrev pub invariant-loop-place : goal.invariant-loop-place
 invariant-loop-place g l = record {
-  printed : ArePrinted (g.O.Opener.holds l.fn.opener) l.fn.read l.fn.write l.fn.parts l.place (map (λ (sink : Writing). sink.received) l.lines.items);
+  printed : ArePrinted (g.O.Opener.holds l.fn.opener) l.fn.read l.fn.write l.fn.parts l.place l.lines.items;
   within : l.place ≤ length l.fn.parts;
   later : g.O.Opener.faults l.fn.opener ≤ g.O.Opener.faults l.opener;
   stays : (other : List ℕ) → g.O.Opener.holds l.opener other ≡ g.O.Opener.holds l.fn.opener other;

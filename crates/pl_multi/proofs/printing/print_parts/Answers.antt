@@ -1,5 +1,4 @@
-use Rattle.std.proofs.Common.{◌≡◌, false, None, map, subst, sym, length}
-use Rattle.pl_frame.specs.Outside.{Writing}
+use Rattle.std.proofs.Common.{◌≡◌, false, None, subst, sym, length}
 use Rattle.pl_multi.specs.Joining.{IsJoinFault}
 use Rattle.pl_multi.specs.Parts.{end_of}
 use Rattle.pl_multi.specs.Printing.{ArePrinted, have_codes}
@@ -13,7 +12,7 @@ returns-in-Ok-clause-joined g c =
     let job = c.args.job.now in
     let parts = job.parts.items in
     let write = c.in_ok-write.write in
-    let lines = map (λ (sink : Writing). sink.received) c.in-Ok.lines.items in
+    let lines = c.in-Ok.lines.items in
     let all : ArePrinted holds job.read write parts (length parts) lines = subst (λ p. ArePrinted holds job.read write p (length p) lines) c.deref.ensures.value c.in-Ok.ensures.lines in
     record {
       frame = all.columns;

@@ -1,6 +1,7 @@
 -- Texts of values are cells of the types that hold the values.
 use Rattle.std.proofs.Common.{◌≡◌, ℕ, Bool, true, false, List, [], Some, ℤ, refl, sym, ap₂, ◌∙◌, subst, arith}
 use Rattle.std.specs.Fmt.{signed_decimal}
+use Rattle.std.specs.Str.{is_utf8}
 use Rattle.pl_frame.specs.declared.data_type.DataType.{DataType}
 use Rattle.pl_frame.specs.declared.data_type.DataType.TheVariants as dtype
 use Rattle.pl_frame.specs.Frame.{Truth, Number, Letters, Scalar}
@@ -14,7 +15,7 @@ use Rattle.pl_round_trip.proofs.WrittenLaws.{filled-apart}
 use Rattle.pl_verbatim.specs.declared.kinds.Kind.{Kind}
 use Rattle.pl_verbatim.specs.declared.kinds.Kind.TheVariants as kind
 use Rattle.pl_verbatim.specs.CellTexts.{IsWholeText, IsDecimalText, IsBooleanText, IsDateText, IsWrittenText, written, IsCellOptions, IsCellOf}
-use Rattle.pl_verbatim.specs.Kinds.{HoldsWholes, HoldsDecimals, IsKindOf}
+use Rattle.pl_verbatim.specs.Kinds.{HoldsWholes, HoldsDecimals, is_any_text, IsKindOf}
 
 -- a text is that of a cell of each type of the kind
 abbrev pub IsCellOfKind : ℕ → ℕ → Kind → List ℕ → Type 0
@@ -63,12 +64,33 @@ whole-printed type n e = refl
 
 -- ---- cells
 
+-- types whose cells may be any text
+pub text-can : (type : DataType) → is_any_text type ≡ true → is_readable type ≡ true
+text-can dtype.String any = refl
+text-can dtype.Categorical any = refl
+text-can type any = absurd (cc)
+
+pub text-held : (type : DataType) (text : List ℕ) → is_any_text type ≡ true → is_utf8 text ≡ true → is_value_of type (Letters text) ≡ true
+text-held dtype.String text any utf8 = rw utf8 refl
+text-held dtype.Categorical text any utf8 = rw utf8 refl
+text-held type text any utf8 = absurd (cc)
+
+pub text-counted : (type : DataType) (text : List ℕ) → is_any_text type ≡ true → fits_count type (Letters text) ≡ true
+text-counted dtype.String text any = refl
+text-counted dtype.Categorical text any = refl
+text-counted type text any = absurd (cc)
+
+pub text-numeric : (type : DataType) → is_any_text type ≡ true → is_numeric type ≡ false
+text-numeric dtype.String any = refl
+text-numeric dtype.Categorical any = refl
+text-numeric type any = absurd (cc)
+
 text-cell : (o : WriteOptions) (separator quote : ℕ) (type : DataType) (text : List ℕ) → IsCellOptions o separator quote → IsKindOf type kind.Text → IsWrittenText separator quote text → IsCellOf o type text
-text-cell o separator quote type text is holds w = subst (λ t. IsCellOf o t text) (sym holds) (record {
+text-cell o separator quote type text is holds w = record {
   value = Some (Letters w.inner);
-  fits = value-fits o separator quote dtype.String (Letters w.inner) is refl (rw w.utf8 refl) refl;
+  fits = value-fits o separator quote type (Letters w.inner) is (text-can type holds) (text-held type w.inner holds w.utf8) (text-counted type w.inner holds);
   text_is = w.text_is ∙ sym (needed o w.inner is.style_is ∙ ap₂ (λ s q. written s q w.inner) is.separator_is is.quote_is);
-})
+}
 
 whole-cell : (o : WriteOptions) (separator quote : ℕ) (digits : ℕ) (is_signed : Bool) (type : DataType) (text : List ℕ) → IsCellOptions o separator quote → HoldsWholes digits is_signed type
     → IsWholeText digits is_signed text → IsCellOf o type text

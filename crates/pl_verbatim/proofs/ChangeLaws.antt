@@ -3,7 +3,6 @@ use Rattle.std.proofs.Common.{◌≡◌, ℕ, ◌-◌, ◌<◌, ◌≤◌, Bool,
 use Rattle.std.specs.List.{list_any, slice_range}
 use Rattle.std.proofs.lemmas.List.{length-take-le, length-drop}
 use Rattle.pl_frame.specs.declared.data_type.DataType.{DataType}
-use Rattle.pl_frame.specs.declared.data_type.DataType.TheVariants as dtype
 use Rattle.pl_frame.specs.Frame.{Scalar, Truth, Number, Letters}
 use Rattle.pl_frame.specs.Types.{is_numeric, is_text, is_readable}
 use Rattle.pl_text.specs.ValueText.{printed}
@@ -24,7 +23,7 @@ use Rattle.pl_verbatim.specs.CellTexts.{as_read, IsQuotedText, IsBareText, IsSec
 use Rattle.pl_verbatim.specs.Changes.{IsFormOf, framed, null_test_of, IsNullField, IsOtherField, IsChangeOfKind}
 use Rattle.pl_verbatim.proofs.NullLaws.{cell-missing}
 use Rattle.pl_verbatim.specs.Kinds.{IsKindOf}
-use Rattle.pl_verbatim.proofs.CellLaws.{IsCellOfKind, value-fits, no-written_null}
+use Rattle.pl_verbatim.proofs.CellLaws.{IsCellOfKind, value-fits, text-can, text-held, text-counted, no-written_null}
 use Rattle.pl_verbatim.proofs.CopyLaws.{whole-other, cell-read, cell-field, quoted-read}
 use Rattle.pl_verbatim.proofs.QuotedLaws.{between-quotes, needs-doubled, bare-inside}
 use Rattle.pl_verbatim.proofs.MomentCellLaws.{seconds-change, seconds-plain}
@@ -223,22 +222,21 @@ pub bare-change : (separator quote : ℕ) (form : Form) (own : Kind) (text : Lis
 bare-change separator quote form own text is_quoted same b given =
     subst (λ k. IsChangeOfKind separator quote form nothing_is_null k text (framed is_quoted quote (text ++ []))) (sym same)
     (λ o type fits is can holds.
-    subst (λ t. IsChangeOf (as_read separator o) o nothing_is_null t text (framed is_quoted quote (text ++ []))) (sym holds)
-    (let r = as_read separator o in
+    let r = as_read separator o in
     let options = read-options separator quote form o is in
     let none = (neither (length text == 0) (list_any (is_special separator quote) text) b.bare).1 in
-    let held : FitsValue r dtype.String (Letters text) = value-fits r separator quote dtype.String (Letters text) options refl (rw b.utf8 refl) refl in
+    let held : FitsValue r type (Letters text) = value-fits r separator quote type (Letters text) options (text-can type holds) (text-held type text holds b.utf8) (text-counted type text holds) in
     let bare : needs_quotes separator o.quote text ≡ false = ap (λ q. needs_quotes separator q text) is.quote_is ∙ b.bare in
-    let here : IsCellOf r dtype.String text = record { value = Some (Letters text); fits = held; text_is = sym (ap (λ t. if t then quoted o.quote text else text) bare) } in
+    let here : IsCellOf r type text = record { value = Some (Letters text); fits = held; text_is = sym (ap (λ t. if t then quoted o.quote text else text) bare) } in
     record {
       value = Some (Letters text);
-      cell_is = cell-read r dtype.String text fits (no-written_null r separator quote options) refl here;
-      field_text = cell-field r dtype.String text fits refl here;
+      cell_is = cell-read r type text fits (no-written_null r separator quote options) can here;
+      field_text = cell-field r type text fits can here;
       written_is =
           bare-framed is_quoted quote text (bare-lacks separator quote text none).0
           ∙ (λ j. cond (given j) (quoted (sym is.quote_is j) text) text)
           ∙ text-styled o quote form text is;
-    }))
+    })
 
 -- ---- texts between quotes
 
@@ -248,24 +246,23 @@ pub quoted-change : (separator quote : ℕ) (form : Form) (own : Kind) (field in
 quoted-change separator quote form own field inside written stays same text parts given is_written =
     subst (λ k. IsChangeOfKind separator quote form nothing_is_null k field written) (sym same)
     (λ o type fits is can holds.
-    subst (λ t. IsChangeOf (as_read separator o) o nothing_is_null t field written) (sym holds)
-    (let r = as_read separator o in
+    let r = as_read separator o in
     let options = read-options separator quote form o is in
     let inner = text.inner in
     let here : inside ≡ doubled quote inner = between-quotes quote inside (doubled quote inner) (sym parts ∙ text.text_is) in
-    let held : FitsValue r dtype.String (Letters inner) = value-fits r separator quote dtype.String (Letters inner) options refl (rw text.utf8 refl) refl in
+    let held : FitsValue r type (Letters inner) = value-fits r separator quote type (Letters inner) options (text-can type holds) (text-held type inner holds text.utf8) (text-counted type inner holds) in
     let field_is : field ≡ quoted o.quote inner = text.text_is ∙ ap (λ q. quoted q inner) (sym is.quote_is) in
     let needs : needs_quotes form.separator quote inside ≡ needs_quotes form.separator quote inner = ap (needs_quotes form.separator quote) here ∙ needs-doubled form.separator quote inner in
     record {
       value = Some (Letters inner);
-      cell_is = λ reading missing. ap (cell reading nothing_is_null (Some o.quote) dtype.String) field_is ∙ quoted-read r dtype.String (Letters inner) fits refl held reading;
+      cell_is = λ reading missing. ap (cell reading nothing_is_null (Some o.quote) type) field_is ∙ quoted-read r type (Letters inner) fits can held reading;
       field_text = subst (IsFieldText (line_marks r)) (append-nil (quoted o.quote inner) ∙ sym field_is) (written-field r (quoted o.quote inner) [] fits (inl (inner, refl)) (inl refl));
       written_is =
           is_written
           ∙ stays-or stays (form.quotes_values || needs_quotes form.separator quote inner) field inside (quoted o.quote inner) inner (given ∙ ap (λ t. form.quotes_values || t) needs) field_is
           (λ no. here ∙ bare-inside form.separator quote inner (ap (needs_quotes form.separator quote) (sym here) ∙ needs ∙ or-none form.quotes_values (needs_quotes form.separator quote inner) no))
           ∙ text-styled o quote form inner is;
-    }))
+    })
   where
     or-none : (a b : Bool) → (a || b) ≡ false → b ≡ false
     or-none true b e = absurd (cc)

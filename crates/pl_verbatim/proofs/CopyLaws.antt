@@ -17,12 +17,12 @@ use Rattle.pl_round_trip.specs.Returning.{nulls_of}
 use Rattle.pl_round_trip.proofs.FieldLaws.{lacks, lacks-plain, neither, doubled-lacks, bare-lacks, text_type, field-returns}
 use Rattle.pl_round_trip.proofs.FitCellLaws.{cell-returns}
 use Rattle.pl_round_trip.proofs.PlainLaws.{printed-plain}
-use Rattle.pl_round_trip.proofs.WrittenLaws.{readable, filled-apart, written-cell, written-field}
+use Rattle.pl_round_trip.proofs.WrittenLaws.{readable, written-cell, written-field}
 use Rattle.pl_verbatim.specs.declared.kinds.Kind.{Kind}
 use Rattle.pl_verbatim.specs.declared.kinds.Kind.TheVariants as kind
 use Rattle.pl_verbatim.specs.CellTexts.{IsWholeText, IsDecimalText, IsBooleanText, IsDateText, IsMomentText, IsBareText, IsCellOptions, IsCellOf, IsCopyOf}
-use Rattle.pl_verbatim.specs.Kinds.{IsKindOf}
-use Rattle.pl_verbatim.proofs.CellLaws.{IsCellOfKind, no-written_null, whole-kind, boolean-kind, date-kind, decimal-kind}
+use Rattle.pl_verbatim.specs.Kinds.{is_any_text, IsKindOf}
+use Rattle.pl_verbatim.proofs.CellLaws.{IsCellOfKind, value-fits, text-can, text-held, text-counted, no-written_null, whole-kind, boolean-kind, date-kind, decimal-kind}
 use Rattle.pl_verbatim.proofs.CellSizeLaws.{whole-longer, boolean-some, date-longer, decimal-longer}
 use Rattle.pl_verbatim.proofs.MomentCellLaws.{moment-kind}
 use Rattle.pl_verbatim.proofs.NumberLaws.{slice-cons, slice-parts}
@@ -108,26 +108,19 @@ IsInnerOfKind separator quote kind text = IsCopyOfKind separator quote kind (quo
 bare-written : (o : WriteOptions) (text : List ℕ) → o.style ≡ 0 → needs_quotes o.separator o.quote text ≡ false → text ≡ written_text o text
 bare-written o text style bare = rw (style, bare) refl
 
-text-copy : (o : WriteOptions) (separator quote : ℕ) (text : List ℕ) → FitsOptions o → IsCellOptions o separator quote → IsBareText separator quote text
-    → IsCopyOf o dtype.String (o.quote ∷ (text ++ o.quote ∷ [])) text
-text-copy o separator quote text fits is b =
+text-copy : (o : WriteOptions) (separator quote : ℕ) (type : DataType) (text : List ℕ) → FitsOptions o → IsCellOptions o separator quote → is_any_text type ≡ true → IsBareText separator quote text
+    → IsCopyOf o type (o.quote ∷ (text ++ o.quote ∷ [])) text
+text-copy o separator quote type text fits is any b =
     let bare : needs_quotes o.separator o.quote text ≡ false = ap (λ s. needs_quotes s o.quote text) is.separator_is ∙ ap (λ q. needs_quotes separator q text) is.quote_is ∙ b.bare in
     let none = (neither (length text == 0) (list_any (is_special o.separator o.quote) text) bare).1 in
-    let held : FitsValue o dtype.String (Letters text) =
-    record {
-      held = rw b.utf8 refl;
-      counted = refl;
-      apart = filled-apart o dtype.String (Letters text) (record { can = refl; held = rw b.utf8 refl; counted = refl }) (λ never texts. bare) (no-written_null o separator quote is);
-      bare = λ never texts. bare;
-    } in
-    quotes-copy o dtype.String (Letters text) text fits refl held refl (bare-written o text is.style_is bare) (bare-lacks o.separator o.quote text none).0
+    let held = value-fits o separator quote type (Letters text) is (text-can type any) (text-held type text any b.utf8) (text-counted type text any) in
+    quotes-copy o type (Letters text) text fits (text-can type any) held refl (bare-written o text is.style_is bare) (bare-lacks o.separator o.quote text none).0
 
 pub text-inner : (separator quote : ℕ) (own : Kind) (text : List ℕ) → own ≡ kind.Text → IsBareText separator quote text → IsInnerOfKind separator quote own text
 text-inner separator quote own text is b =
     subst (λ k. IsInnerOfKind separator quote k text) (sym is)
     (λ o type fits options can holds.
-    subst (λ q. IsCopyOf o type (q ∷ (text ++ q ∷ [])) text) options.quote_is
-    (subst (λ t. IsCopyOf o t (o.quote ∷ (text ++ o.quote ∷ [])) text) (sym holds) (text-copy o separator quote text fits options b)))
+    subst (λ q. IsCopyOf o type (q ∷ (text ++ q ∷ [])) text) options.quote_is (text-copy o separator quote type text fits options holds b))
 
 -- values that are no texts
 value-written : (o : WriteOptions) (numeric : Bool) (text : List ℕ) → o.style ≡ 0 → written_value o numeric text ≡ text

@@ -44,9 +44,15 @@ pub record HoldsMoments (places : ℕ) (type : DataType) : Type 0 where
   pub places_is : places ≡ places_of unit
   pub fits : is_narrow (datetime_range (units_in_second unit)) ≡ true
 
+-- the cells of a type are texts, and each text that is UTF-8 may be one
+abbrev pub is_any_text : DataType → Bool
+is_any_text dtype.String = true
+is_any_text dtype.Categorical = true
+is_any_text _ = false
+
 -- a kind is one of a type: each of its texts is that of a value of the type
 abbrev pub IsKindOf : DataType → Kind → Type 0
-IsKindOf type kind.Text = type ≡ dtype.String
+IsKindOf type kind.Text = is_any_text type ≡ true
 IsKindOf type (kind.Whole digits is_signed) = HoldsWholes digits is_signed type
 IsKindOf type kind.Boolean = type ≡ dtype.Boolean
 IsKindOf type kind.Date = type ≡ dtype.Date

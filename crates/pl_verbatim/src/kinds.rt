@@ -58,6 +58,7 @@ pub(crate) fn kind_of(dtype: &DataType) -> Option<Kind>
 {
     match dtype {
         DataType::String => Some(Kind::Text),
+        DataType::Categorical => Some(Kind::Text),
         DataType::Int8 => Some(Kind::Whole {
             digits: 2,
             is_signed: true,

@@ -1,5 +1,5 @@
 -- What is printed of data piece by piece is the text of its frame.
-use Rattle.std.proofs.Common.{◌≡◌, ℕ, zero, suc, Bool, true, false, not, ◌||◌, List, [], ◌∷◌, map, length, filter, refl, sym, ◌∙◌, ap, subst, inl, inr, append-nil}
+use Rattle.std.proofs.Common.{◌≡◌, ◌⊎◌, ◌≤◌, ◌^◌, arith, ℕ, zero, suc, Bool, true, false, not, ◌||◌, List, [], ◌∷◌, map, length, filter, refl, sym, ◌∙◌, ap, subst, inl, inr, append-nil}
 use Rattle.std.specs.Prelude.{◌⊎◌, Option, None, Some, Result, Ok, Err, IfOk, OnOk, IfErr, MatchResult}
 use Rattle.std.specs.Cow.{cow_slice_items}
 use Rattle.std.specs.List.{concat, list_any}
@@ -52,6 +52,7 @@ use Rattle.pl_write.specs.declared.options.CsvWriterOptions.{CsvWriterOptions}
 use Rattle.pl_write.proofs.PrintedLaws.{lines-alone, printed-is-text}
 use Rattle.pl_verbatim.specs.PrintedTexts.{CanPrint}
 use Rattle.pl_csv.specs.Converting.{IsPrintedRead, IsRowByRow}
+use Rattle.pl_csv.proofs.CodeLaws.{codes-few, few-rows-in}
 use Rattle.pl_csv.specs.Sources.{ArePrintedOf}
 use Rattle.pl_csv.specs.Transcoding.{HasAsciiQuote, IsUnread}
 use Rattle.pl_csv.specs.declared.convert.Printed.{Printed}
@@ -98,12 +99,14 @@ codes-none rules given schema (place ∷ places) none = by (is_categorical (entr
         let here : codes_past column ≡ None = rw e refl in
         first_some-behind (codes_past column) (map codes_past (frame_of_rows rules (entries_in schema places) given)) here ∙ rest none
 
-index-none : (o : CsvReadOptions) (schema : List Entry) (records : List ℕ) → IsRowByRow o schema → index_past o.row_index (length (rows_in o records)) (data_columns o schema records) ≡ None
-index-none o schema records plain =
-    ap (λ i. index_past i (length (rows_in o records)) (data_columns o schema records)) plain.unnumbered
-    ∙ codes-none (rules_of o schema) (rows_in o records) schema (projected o schema) plain.uncoded
+index-none : (o : CsvReadOptions) (schema : List Entry) (records : List ℕ) → IsRowByRow o schema records → index_past o.row_index (length (rows_in o records)) (data_columns o schema records) ≡ None
+index-none o schema records plain = ap (λ i. index_past i (length (rows_in o records)) (data_columns o schema records)) plain.unnumbered ∙ by plain.coded
+  where
+    by : (list_any (λ place. is_categorical (entry_at schema place).1) (projected o schema) ≡ false) ⊎ (length records ≤ 2 ^ 32) → first_some (map codes_past (data_columns o schema records)) ≡ None
+    by (inl none) = codes-none (rules_of o schema) (rows_in o records) schema (projected o schema) none
+    by (inr few) = codes-few (rules_of o schema) (rows_in o records) schema (projected o schema) (omega (arith, few, few-rows-in o records))
 
-frame-plain : (o : CsvReadOptions) (schema : List Entry) (records : List ℕ) → IsRowByRow o schema → data_frame o schema records ≡ data_columns o schema records
+frame-plain : (o : CsvReadOptions) (schema : List Entry) (records : List ℕ) → IsRowByRow o schema records → data_frame o schema records ≡ data_columns o schema records
 frame-plain o schema records plain = ap (λ i. with_index i (length (rows_in o records)) (data_columns o schema records)) plain.unnumbered
 
 -- ---- a range without bytes

@@ -1,3 +1,4 @@
+mod CodeLaws
 pub mod AheadLaws
 pub mod ConvertLaws
 pub mod CountingLaws

@@ -153,4 +153,4 @@ printed-ahead read write rest kept bytes prepared plan printed may ahead is null
     let by = ahead.is bytes in
     let records = records-ahead prepared.start rest bytes kept ahead.within kept_is in
     let can = can-ahead read (rest ++ bytes) prepared plan may by is nulls distinct in
-    record { can = subst (CanReadData plan read prepared.schema) (sym records) can; plain = by.plain; is = lines }
+    record { can = subst (CanReadData plan read prepared.schema) (sym records) can; plain = by.plain _; is = lines }

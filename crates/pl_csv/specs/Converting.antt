@@ -1,5 +1,5 @@
 -- An input that is read and printed piece by piece (docs/workers.md, "From an input to regions").
-use Rattle.std.specs.Prelude.{◌≡◌, ℕ, false, List, map, None}
+use Rattle.std.specs.Prelude.{◌≡◌, ℕ, false, List, map, None, ◌⊎◌, ◌≤◌, ◌^◌, length}
 use Rattle.std.specs.Cow.{cow_slice_items}
 use Rattle.std.specs.List.{list_any}
 use Rattle.pl_frame.specs.Frame.{ColumnValue, names_of}
@@ -16,10 +16,11 @@ use Rattle.pl_write.specs.declared.options.CsvWriterOptions.{CsvWriterOptions}
 use Rattle.pl_csv.specs.Transcoding.{IsValidRead}
 use Rattle.pl_csv.specs.declared.convert.Printed.{Printed}
 
--- Its rows may be printed as they are read: there is no row index, and no column of categories, whose codes would have to be counted.
-pub record IsRowByRow (read : CsvReadOptions) (schema : List Entry) : Type 0 where
+-- The rows of data may be printed as they are read: there is no row index; and no column of categories, whose codes would have to be counted, or the
+-- data has no more bytes than there are codes of 32 bits.
+pub record IsRowByRow (read : CsvReadOptions) (schema : List Entry) (records : List ℕ) : Type 0 where
   pub unnumbered : read.row_index ≡ None
-  pub uncoded : list_any (λ place. is_categorical (entry_at schema place).1) (projected read schema) ≡ false
+  pub coded : (list_any (λ place. is_categorical (entry_at schema place).1) (projected read schema) ≡ false) ⊎ (length records ≤ 2 ^ 32)
 
 -- what was read of an input, given its settled schema, to be written: it means a frame that can be written, and these lines and columns
 -- have its text

@@ -95,7 +95,7 @@ pub record MayReadAhead (read : CsvReadOptions) (write : CsvWriterOptions) : Typ
 pub record IsReadBy (read : CsvReadOptions) (input : List ℕ) (prepared : Prepared) : Type 0 where
   pub is : IsPrepared read (settled_schema read input) input prepared
   pub sound : opening_cause read (settled_schema read input) input ≡ None
-  pub plain : IsRowByRow read prepared.schema
+  pub plain : (records : List ℕ) → IsRowByRow read prepared.schema records
 
 -- a front of an input tells what the rows are read by, whatever stands behind it; they begin within it
 pub record IsReadAhead (read : CsvReadOptions) (first : List ℕ) (prepared : Prepared) : Type 0 where
@@ -107,5 +107,5 @@ pub record IsReadAhead (read : CsvReadOptions) (first : List ℕ) (prepared : Pr
 -- data can be read row by row, and its rows were printed
 pub record ArePrintedOf (plan : RangePlan) (read : CsvReadOptions) (schema : List Entry) (write : CsvWriterOptions) (records : List ℕ) (printed : PrintedRows) : Type 0 where
   pub can : CanReadData plan read schema records
-  pub plain : IsRowByRow read schema
+  pub plain : IsRowByRow read schema records
   pub is : IsPrinted plan schema (cell_options write.serialize_options) records printed

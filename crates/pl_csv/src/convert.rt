@@ -4,6 +4,7 @@ ghost use Rattle.std.specs.Bool.{OnTrue};
 ghost use Rattle.std.specs.Cow.{cow_slice_items};
 ghost use Rattle.std.specs.List.{list_any};
 ghost use Rattle.pl_cells.specs.InitBuffers.{entry_at};
+ghost use Rattle.pl_frame.specs.Schema.{Entry};
 ghost use Rattle.pl_frame.specs.Frame.{IsFrame, names_of};
 ghost use Rattle.pl_text.specs.FrameText.{text_of_frame};
 ghost use Rattle.pl_options.specs.FirstCause.{IsFault};
@@ -48,6 +49,9 @@ use std::borrow::CowSlice;
 use std::sync::Wait;
 use std::thread::Threads;
 
+// So many categories have codes of 32 bits.
+const CODES: usize = 1 << 32;
+
 /// What was read of an input: the lines of its first rows, and the frame of the others.
 #[derive(Drop)]
 pub(crate) struct Printed<'a> {
@@ -77,12 +81,19 @@ fn have_categories(schema: &Schema, places: &[usize]) -> bool
     false
 }
 
-/// Whether rows may be printed as they are read.
+/// Whether rows may be printed as they are read, of whatever data.
 pub(crate) fn is_row_by_row(read: &CsvReadOptions, prepared: &Prepared) -> bool
     requires { prepared.now.places.items ≡ projected read.now prepared.now.schema }
-    ensures { OnTrue result (IsRowByRow read.now prepared.now.schema) }
+    ensures { OnTrue result ((records : List ℕ) → IsRowByRow read.now prepared.now.schema records) }
 {
     read.row_index.is_none() && !have_categories(&prepared.schema, &prepared.places)
+}
+
+// Whether the rows of data may be printed as they are read, whatever columns it has: it has no more bytes than there are codes of categories.
+fn is_codable(read: &CsvReadOptions, records: &[u8]) -> bool
+    ensures { (schema : List Entry) → OnTrue result (IsRowByRow read.now schema records.now) }
+{
+    read.row_index.is_none() && records.len() <= CODES
 }
 
 // A frame of no rows, with the columns that are read. Refuses only want of memory.
@@ -144,7 +155,7 @@ fn print_data<'a, W: Threads + Wait + Sync>(
     write: &CsvWriterOptions,
 ) -> PolarsResult<Printed<'a>>
     requires can { CanReadData plan.now read.now schema.now records.now }
-    requires plain { IsRowByRow read.now schema.now }
+    requires plain { IsRowByRow read.now schema.now records.now }
     ensures text { IfOk result (λ printed. printed_text (frame_options write.now) (names_of printed.rest) (map cow_slice_items printed.lines.items) printed.rest
         ≡ text_of_frame (frame_options write.now) (data_frame read.now schema.now records.now)) }
     ensures sound { OnOk result (data_cause read.now schema.now records.now ≡ None) }
@@ -175,9 +186,9 @@ fn print_by<'a, W: Threads + Wait + Sync>(
     ensures sound { OnOk result (data_cause read.now prepared.now.schema (drop prepared.now.start input.now) ≡ None) }
     ensures refused { IfErr result (IsFault (data_cause read.now prepared.now.schema (drop prepared.now.start input.now))) }
 {
-    if is_row_by_row(read, prepared) {
+    let records = &input[prepared.start..];
+    if is_codable(read, records) || is_row_by_row(read, prepared) {
         let plan = plan_of(read, prepared);
-        let records = &input[prepared.start..];
         let schema = &prepared.schema;
         return print_data(
             rt,

@@ -70,7 +70,7 @@ MADE = {}
 TASKS = [
     ("pl_csv", lambda: True, lambda w, i, o: ([MADE["pl_csv"], "--schema", ours(w), "--workers", "1"], i, o), "types as told; every cell, date and UTF-8 text is checked"),
     ("pl_csv, 4 workers", lambda: True, lambda w, i, o: ([MADE["pl_csv"], "--schema", ours(w), "--workers", "4"], i, o), "the same; four workers read and print"),
-    ("pl_csv, as `;`", lambda: True, lambda w, i, o: ([MADE["pl_csv"], "--schema", ours(w), "--workers", "1", "--out-sep", ";"], i, o), "the same as pl_csv; semicolons are written, so each cell is read to a value and printed"),
+    ("pl_csv, as `;`", lambda: True, lambda w, i, o: ([MADE["pl_csv"], "--schema", ours(w), "--workers", "1", "--out-sep", ";"], i, o), "the same as pl_csv; semicolons are written, so each cell is put anew"),
     ("pl_csv, no schema", lambda: True, lambda w, i, o: ([MADE["pl_csv"], "--dates", "--workers", "1"], i, o), "types by a sample; every cell and UTF-8 text is checked"),
     ("copy", lambda: True, lambda w, i, o: ([MADE["copy"]], i, o), "nothing: the input is read to its end, and then written"),
     ("data.table", has_data_table, lambda w, i, o: (["Rscript", f"{HERE}/peers/datatable.R", i, o, neutral(w)], None, None), "types by a sample; decimals as doubles; doubled quotes stay"),
@@ -160,7 +160,7 @@ def page(workloads, tasks, reads, sizes, best, rounds):
     lines += ["", "The time of R and of pandas is without the start of the language; that of the others is the whole process. Programs that are not in the table were not run. "
               "Without a schema and with dates tried, `pl_csv` takes decimals for texts, since it infers none.", "",
               "The rows of mixed, ints, strings and wide are written as they were read, and of quoted and taxi what is written stands in the fields but for zeros. So `pl_csv` tests each cell and copies it "
-              "([regions.md](regions.md#rows-that-are-written-as-they-were-read)). Where it writes another separator it reads and prints each cell: that is what a conversion costs that changes values.", "",
+              "([regions.md](regions.md#rows-that-are-written-as-they-were-read)). Where it writes another separator each cell is found as well, and put into another block ([regions.md](regions.md#rows-that-are-written-otherwise)).", "",
               "`pl_csv` writes nothing before it knows that all rows are sound, and `copy` does no more than that, on one thread: it reads, and then writes. "
               "It is no bound: several workers make memory ready for the one that reads, and `copy` has to wait for its own."]
     return "\n".join(lines) + "\n"

@@ -80,11 +80,6 @@ text-counted dtype.String text any = refl
 text-counted dtype.Categorical text any = refl
 text-counted type text any = absurd (cc)
 
-pub text-numeric : (type : DataType) → is_any_text type ≡ true → is_numeric type ≡ false
-text-numeric dtype.String any = refl
-text-numeric dtype.Categorical any = refl
-text-numeric type any = absurd (cc)
-
 text-cell : (o : WriteOptions) (separator quote : ℕ) (type : DataType) (text : List ℕ) → IsCellOptions o separator quote → IsKindOf type kind.Text → IsWrittenText separator quote text → IsCellOf o type text
 text-cell o separator quote type text is holds w = record {
   value = Some (Letters w.inner);

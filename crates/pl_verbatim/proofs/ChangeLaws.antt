@@ -112,10 +112,6 @@ missing-change separator quote form own o type fits is can holds =
 
 -- ---- values that are no texts
 
--- nothing is written of a null
-no-value : (s : ℕ) (o : WriteOptions) (type : DataType) → written_cell (as_read s o) type None ≡ []
-no-value s o type = refl
-
 framed-value : (o : WriteOptions) (numeric : Bool) (text : List ℕ) → lacks o.quote text ≡ true → framed (not (is_bare o.style numeric)) o.quote text ≡ written_value o numeric text
 framed-value o numeric text lack = by (is_bare o.style numeric) refl
   where

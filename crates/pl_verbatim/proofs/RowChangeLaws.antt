@@ -1,5 +1,5 @@
 -- What is put of a row is what is written of a cell, and behind the separator what is written of the rest of the row.
-use Rattle.std.proofs.Common.{◌≡◌, ℕ, ◌+◌, ◌-◌, ◌<◌, ◌≤◌, List, [], ◌∷◌, ◌++◌, length, get_or, refl, sym, ap, ap₂, ◌∙◌, subst, arith, append_assoc, append-nil}
+use Rattle.std.proofs.Common.{◌≡◌, ℕ, ◌+◌, ◌-◌, ◌<◌, List, [], ◌∷◌, ◌++◌, length, get_or, refl, sym, ap, ap₂, ◌∙◌, subst, append_assoc}
 use Rattle.std.specs.List.{join_with_byte}
 use Rattle.pl_verbatim.specs.declared.form.Form.{Form}
 use Rattle.pl_verbatim.specs.declared.kinds.Kind.{Kind}
@@ -46,15 +46,6 @@ more-line separator quote form kind second kinds field written rest copy cell li
 -- the first cells of a row are put
 abbrev pub ArePutBefore : List ℕ → ℕ → List Kind → ℕ → ℕ → Form → ℕ → ℕ → List ℕ → List ℕ → Type 0
 ArePutBefore text start kinds separator quote form index at before now = AreLinesBefore (IsLineChangeOfKinds separator quote form) text start kinds index at before now
-
-pub put-none : (text : List ℕ) (start : ℕ) (kinds : List Kind) (separator quote : ℕ) (form : Form) (before : List ℕ) → start ≤ length text → ArePutBefore text start kinds separator quote form 0 start before before
-put-none text start kinds separator quote form before inside = record {
-  after = omega arith;
-  within = inside;
-  copy = [];
-  now_is = sym (append-nil before);
-  line = λ end rest room line. line;
-}
 
 -- one more, and the separator behind it
 pub put-cell : (text : List ℕ) (start : ℕ) (kinds : List Kind) (separator quote : ℕ) (form : Form) (index at next : ℕ) (any : Kind) (before now later all : List ℕ)

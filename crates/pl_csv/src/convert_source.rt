@@ -20,7 +20,7 @@ use pl_read::preparing::{Prepared, prepare};
 use pl_read::reading::plan_of;
 use pl_read::workers::{piece_size_for, worker_count};
 use pl_regions::arriving::print_arriving;
-use pl_write::options::CsvWriterOptions;
+use pl_write::options::{CsvWriterOptions, QuoteStyle};
 use std::alloc::Global;
 use std::sync::{OnceLock, Wait};
 use std::thread::Threads;
@@ -70,6 +70,15 @@ fn unread(fault: ReadAllFault) -> Unconverted
     }
 }
 
+// Whether lines are written otherwise than they are read, so that hardly any can be lent from there.
+fn writes_otherwise(read: &CsvReadOptions, write: &CsvWriterOptions) -> bool {
+    let options = &write.serialize_options;
+    options.separator != read.parse_options.separator
+        || options.quote_style != QuoteStyle::Necessary
+        || options.line_terminator.as_str() != "\n"
+        || !options.null.as_str().is_empty()
+}
+
 // Whether a front of the input can tell what the rows are read by, and there are workers to read them.
 fn reads_ahead(read: &CsvReadOptions, write: &CsvWriterOptions) -> bool
     ensures { OnTrue result (MayReadAhead read.now write.now) }
@@ -77,7 +86,7 @@ fn reads_ahead(read: &CsvReadOptions, write: &CsvWriterOptions) -> bool
     read.schema.is_some()
         && read.n_rows.is_none()
         && read.skip_lines == 0
-        && worker_count(read.n_threads) > 1
+        && (worker_count(read.n_threads) > 1 || writes_otherwise(read, write))
         && write.serialize_options.quote_char.is_ascii()
         && check_options(read).is_ok()
 }
@@ -100,7 +109,7 @@ fn prepare_ahead(
     match prepare(alloc, first, read) {
         Ok(prepared) => {
             let workers = count_with_space(alloc, worker_count(prepared.n_threads), FIRST);
-            if workers > 1 && prepared.start < first.len() && is_row_by_row(read, &prepared) {
+            if (workers > 1 || writes_otherwise(read, write)) && prepared.start < first.len() && is_row_by_row(read, &prepared) {
                 return Some(prepared);
             }
             drop(prepared);

@@ -1,13 +1,19 @@
 -- Texts that are printed while those behind them are read (docs/workers.md, "From a source to regions").
-use Rattle.std.specs.Prelude.{◌≡◌, ◌+◌, ◌<◌, ◌≤◌, ℕ, List, ◌++◌, length, Option, slice_index_or}
+use Rattle.std.specs.Prelude.{◌≡◌, ◌+◌, ◌<◌, ◌≤◌, ℕ, List, ◌++◌, length, map, drop, Option, slice_index_or}
+use Rattle.std.specs.Cow.{cow_slice_items}
+use Rattle.std.specs.List.{concat}
 use Rattle.std.specs.Sync.OnceLock.{Named}
 use Rattle.std.specs.Io.KnownBytes.{Consumes, IsAtEnd}
 use Rattle.pl_frame.specs.Schema.{Entry}
 use Rattle.pl_text.specs.FrameText.{WriteOptions}
 use Rattle.pl_rows.specs.declared.plan.RangePlan.{RangePlan}
-use Rattle.pl_regions.specs.Printing.{IsPrinted}
+use Rattle.pl_verbatim.specs.PrintedTexts.{IsTextPrinted}
+use Rattle.pl_regions.specs.Printing.{IsPrinted, IsPrintedFront}
 use Rattle.pl_regions.specs.Regions.{IsRegionPrinted}
+use Rattle.pl_intake.specs.Intake.{HasGiven}
 use Rattle.pl_intake.specs.declared.intake.Intake.{Intake}
+use Rattle.pl_regions.specs.declared.front.Front.{Front}
+use Rattle.pl_regions.specs.declared.kept.Arrived.{Arrived}
 use Rattle.pl_regions.specs.declared.printing.PrintedRows.{PrintedRows}
 use Rattle.pl_regions.specs.declared.taken.Taken.{Taken}
 
@@ -20,7 +26,37 @@ pub record IsTaken (plan : RangePlan) (schema : List Entry) (o : WriteOptions) (
   pub text_is : taken.region.text.now ≡ taken.token.value.items
   pub printed : IsRegionPrinted plan schema o taken.region
 
+-- ---- texts whose memory is used again
+
+-- the lines of a text, all of it
+pub record AreAllPrinted (plan : RangePlan) (schema : List Entry) (o : WriteOptions) (text : List ℕ) (front : Front) : Type 0 where
+  pub end_is : front.end ≡ length text
+  pub is : IsTextPrinted plan schema o text front.rows (concat (map cow_slice_items front.lines.items))
+
+-- the lines of the front of a text, and what stands behind that was taken back
+pub record IsPrintedOn (plan : RangePlan) (schema : List Entry) (o : WriteOptions) (text : List ℕ) (intake next : Intake) (front : Front) : Type 0 where
+  pub printed : List ℕ
+  pub is : AreAllPrinted plan schema o printed front
+  pub are : text ++ intake.rest.items ≡ printed ++ next.rest.items
+  pub size_is : next.size ≡ intake.size
+  pub ended_is : next.is_ended ≡ intake.is_ended
+
+-- what came of a source, behind what was kept of it before, and is not kept: these are the lines of it
+pub record HasPrinted (plan : RangePlan) (schema : List Entry) (o : WriteOptions) (before now : Option (List ℕ)) (limit : ℕ) (intake next : Intake) (front : Front) : Type 0 where
+  pub text : List ℕ
+  pub given : HasGiven before now limit intake next text
+  pub is : AreAllPrinted plan schema o text front
+
 -- ---- what came of a source
+
+-- All bytes that were left of a source came. The front of these bytes, behind those that were kept, was printed, and this is left of them.
+pub record HasAllCome (plan : RangePlan) (schema : List Entry) (o : WriteOptions) (before now : Option (List ℕ)) (limit : ℕ) (intake : Intake) (arrived : Arrived) : Type 0 where
+  pub bytes : List ℕ
+  pub came : Consumes before now bytes
+  pub end : IsAtEnd now
+  pub within : intake.size + length bytes ≤ limit
+  pub printed : IsPrintedFront plan schema o (intake.rest.items ++ bytes) arrived.front
+  pub left_is : arrived.left.items ≡ drop arrived.front.end (intake.rest.items ++ bytes)
 
 -- All bytes that were left of a source came. These bytes, behind those that were kept, are data whose rows were printed.
 pub record HasArrived (plan : RangePlan) (schema : List Entry) (o : WriteOptions) (before now : Option (List ℕ)) (limit : ℕ) (intake : Intake) (printed : PrintedRows) : Type 0 where

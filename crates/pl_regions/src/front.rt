@@ -42,6 +42,40 @@ impl<'a> Front<'a> {
     }
 }
 
+// How many bytes lines have that are lent.
+fn lent_len(lines: &[CowSlice<'_, u8, Global>]) -> usize {
+    let mut len: usize = 0;
+    for text in lines {
+        if let CowSlice::Borrowed(lent) = text {
+            len = len.saturating_add(lent.len());
+        }
+    }
+    len
+}
+
+/// Whether most lines of a text are written as they were read, so that they can be lent from there; of an empty text they are.
+pub(crate) fn are_lent(
+    alloc: Global,
+    text: &[u8],
+    schema: &Schema,
+    plan: &RangePlan<'_>,
+    options: &SerializeOptions,
+    verbatim: &Verbatim,
+    piece_size: usize,
+) -> bool
+    requires can { CanPrint plan.now schema.now }
+    requires verbatim { IsVerbatimOf plan.now schema.now (cell_options options.now) verbatim.now }
+    requires size { 0 < piece_size }
+{
+    let Ok(mut printer) = RowPrinter::new(alloc) else {
+        return true;
+    };
+    let front = print_text(
+        alloc, text, &mut printer, schema, plan, options, verbatim, piece_size,
+    );
+    lent_len(&front.lines) >= front.end / 2
+}
+
 // So much memory is taken and given back before the first piece.
 const ROOM: usize = 1 << 22;
 

@@ -2,12 +2,16 @@
 #![tactic(auto)]
 
 pub mod arriving;
+mod beside;
 mod cutting;
 pub mod first_rows;
 pub mod front;
+mod in_turn;
+mod kept;
 pub mod printing;
 mod ranges;
 mod region;
+mod rounds;
 mod taken;
 mod taking;
 pub mod texts;

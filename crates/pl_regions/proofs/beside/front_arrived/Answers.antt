@@ -1,6 +1,6 @@
 use Rattle.std.proofs.Common.{length, ap, arith, Bor, List, ℕ}
 use Rattle.std.proofs.lemmas.List.{length-map}
-use Rattle.pl_regions.proofs.arriving.front_arrived.Goals as goal
+use Rattle.pl_regions.proofs.beside.front_arrived.Goals as goal
 
 pub put_regions-requires : goal.put_regions-requires
 put_regions-requires c = λ k d inside.

@@ -2,7 +2,7 @@ use Rattle.std.proofs.Common.{◌≡◌, length}
 use Rattle.pl_write.specs.Options.{cell_options}
 use Rattle.pl_regions.specs.Regions.{ArePlaced}
 use Rattle.pl_intake.proofs.TextLaws.{values_of}
-use Rattle.pl_regions.proofs.arriving.front_arrived.Given as goal
+use Rattle.pl_regions.proofs.beside.front_arrived.Given as goal
 
 abbrev pub invariant-loop-taken : goal.invariant-loop-taken
 invariant-loop-taken l = record {

@@ -3,7 +3,7 @@ use Rattle.std.specs.List.{concat}
 use Rattle.pl_intake.specs.Intake.{HasGiven}
 use Rattle.pl_intake.proofs.TextLaws.{values_of, HasGiven-first}
 use Rattle.pl_intake.proofs.IntakeLaws.{IsTooLong-behind, HasStopped-behind}
-use Rattle.pl_regions.proofs.arriving.read_and_print.Goals as goal
+use Rattle.pl_regions.proofs.beside.read_and_print.Goals as goal
 
 pub read_beside-requires-clause-within : goal.read_beside-requires-clause-within
 read_beside-requires-clause-within g c κs within =

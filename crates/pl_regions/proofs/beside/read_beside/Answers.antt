@@ -5,7 +5,7 @@ use Rattle.pl_write.specs.Options.{cell_options}
 use Rattle.pl_regions.specs.Arriving.{IsTaken}
 use Rattle.pl_regions.specs.declared.taken.Taken.{Taken}
 use Rattle.pl_regions.proofs.RegionLaws.{ok-holds}
-use Rattle.pl_regions.proofs.arriving.read_beside.Goals as goal
+use Rattle.pl_regions.proofs.beside.read_beside.Goals as goal
 
 -- what holds of a success holds of its value
 ok-at : {A E : Type 0} (result : Result A E) (P : A → Type 0) (value : A) → result ≡ Ok value → IfOk result P → P value

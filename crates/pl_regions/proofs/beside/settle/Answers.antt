@@ -4,7 +4,7 @@ use Rattle.pl_write.specs.Options.{cell_options}
 use Rattle.pl_regions.specs.Arriving.{IsTaken}
 use Rattle.pl_intake.proofs.TextLaws.{Token, token-at}
 use Rattle.pl_regions.proofs.RegionLaws.{next-of}
-use Rattle.pl_regions.proofs.arriving.settle.Goals as goal
+use Rattle.pl_regions.proofs.beside.settle.Goals as goal
 
 pub agrees-requires : goal.agrees-requires
 agrees-requires c =

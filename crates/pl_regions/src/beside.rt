@@ -1,0 +1,335 @@
+//! Texts of a source, read and printed by workers: each text is printed while those behind it are read.
+ghost use Rattle.std.specs.Prelude.{◌≡◌, ◌++◌, ◌<◌, ◌≤◌, ℕ, List, Option, true, All, IfOk, OnOk, IsErrOf, drop, length, map};
+ghost use Rattle.pl_intake.specs.declared.intake.Intake.{Intake};
+ghost use Rattle.std.specs.Io.KnownBytes.{IsAtEnd};
+ghost use Rattle.std.specs.List.{concat};
+ghost use Rattle.std.specs.Thread.{IsSync};
+ghost use Rattle.pl_frame.specs.Causes.{Rose};
+ghost use Rattle.pl_write.specs.Options.{cell_options};
+ghost use Rattle.pl_verbatim.specs.PrintedTexts.{CanPrint, IsFrontPrinted};
+ghost use Rattle.std.specs.Cow.{cow_slice_items};
+ghost use Rattle.pl_verbatim.specs.Verbatim.{IsVerbatimOf};
+ghost use Rattle.pl_intake.specs.Intake.{HasGiven, HasStopped, IsPastLimit};
+ghost use Rattle.pl_intake.specs.Texts.{AreSetIn};
+ghost use Rattle.pl_regions.specs.Arriving.{IsTaken, HasArrived};
+ghost use Rattle.pl_regions.specs.Printing.{IsLeftBehind, IsPrinted};
+ghost use Rattle.pl_regions.specs.Regions.{IsRegionOf};
+
+use crate::front::front_of;
+use crate::kept::Arrived;
+use crate::region::Region;
+use crate::taken::Taken;
+use crate::taking::{empty_places, put_regions};
+use crate::texts::{take_each, take_texts};
+use pl_frame::read_all::ReadAllFault;
+use pl_frame::schema::Schema;
+use pl_frame::source::Source;
+use pl_intake::intake::Intake;
+use pl_intake::rooms::Rooms;
+use pl_intake::texts::{FEW, close_cells, left_behind, read_texts, texts_of};
+use pl_rows::plan::RangePlan;
+use pl_rows::push::push;
+use pl_verbatim::verbatim::Verbatim;
+use pl_write::options::SerializeOptions;
+use std::alloc::{AllocError, Global};
+use std::sync::atomic::AtomicUsize;
+use std::sync::{Mutex, OnceLock, OnceToken, Wait};
+use std::thread;
+use std::thread::Threads;
+
+// Regions that were taken, as regions of the texts that these tokens show.
+fn settle<'a>(
+    alloc: Global,
+    cells: &'a [OnceLock<Vec<u8>>],
+    tokens: &Vec<OnceToken<'a, Vec<u8>>>,
+    all: Vec<Taken<'a>>,
+    schema: &Schema,
+    plan: &RangePlan<'_>,
+    options: &SerializeOptions,
+) -> Result<Vec<Region<'a>>, AllocError>
+    requires set { AreSetIn cells.now tokens.now.items }
+    requires taken { All (IsTaken plan.now schema.now (cell_options options.now) cells.now) all.items }
+    ensures { IfOk result (λ regions. All (IsRegionOf plan.now schema.now (cell_options options.now) (map (λ token. token.value.items) tokens.now.items)) regions.items) }
+{
+    let mut regions = Vec::new(alloc);
+    for taken in all {
+        let Taken { region, token } = taken;
+        if region.place < tokens.len() {
+            tokens[region.place].agrees(&token);
+            push(&mut regions, region)?;
+        }
+    }
+    Ok(regions)
+}
+
+/// The front of the texts that these tokens show, whose regions were taken, and what is left of them and of what stands behind them.
+pub(crate) fn front_arrived<'a>(
+    alloc: Global,
+    cells: &'a [OnceLock<Vec<u8>>],
+    tokens: &Vec<OnceToken<'a, Vec<u8>>>,
+    all: Vec<Vec<Taken<'a>>>,
+    rest: &[u8],
+    schema: &Schema,
+    plan: &RangePlan<'_>,
+    options: &SerializeOptions,
+) -> Result<Arrived<'a>, AllocError>
+    requires can { CanPrint plan.now schema.now }
+    requires set { AreSetIn cells.now tokens.now.items }
+    requires taken { All (λ taken. All (IsTaken plan.now schema.now (cell_options options.now) cells.now) taken.items) all.items }
+    ensures front { IfOk result (λ arrived. IsFrontPrinted plan.now schema.now (cell_options options.now)
+        (concat (map (λ token. token.value.items) tokens.now.items) ++ rest.now) arrived.front.end arrived.front.rows (concat (map cow_slice_items arrived.front.lines.items))) }
+    ensures left { IfOk result (λ arrived. arrived.left.items ≡ drop arrived.front.end (concat (map (λ token. token.value.items) tokens.now.items) ++ rest.now)) }
+{
+    let texts = texts_of(alloc, cells, tokens)?;
+    let mut places = empty_places(alloc, texts.len())?;
+    for taken in all {
+        let regions = settle(alloc, cells, tokens, taken, schema, plan, options)?;
+        put_regions(&mut places, regions);
+    }
+    let front = front_of(alloc, &texts, places, schema, plan, options)?;
+    let end = front.end;
+    match left_behind(alloc, &texts, rest, end) {
+        Ok(left) => Ok(Arrived { front, left }),
+        Err(fault) => Err(fault),
+    }
+}
+
+// Cells, what shows the texts of the first of them, and the regions that were taken by who reads.
+#[derive(Drop)]
+struct Reading<'a> {
+    cells: &'a [OnceLock<Vec<u8>>],
+    tokens: Vec<OnceToken<'a, Vec<u8>>>,
+    taken: Vec<Taken<'a>>,
+}
+
+// Reads the texts of a source, tells so many other workers that there are no more, and takes regions as they do.
+fn read_and_take<'a, W: Wait, So: Source>(
+    rt: &W,
+    alloc: Global,
+    others: usize,
+    reading: &mut Reading<'a>,
+    rooms: &Mutex<Rooms>,
+    next: &AtomicUsize,
+    intake: &mut Intake,
+    source: &mut So,
+    limit: usize,
+    schema: &Schema,
+    plan: &RangePlan<'_>,
+    options: &SerializeOptions,
+    verbatim: &Verbatim,
+    piece_size: usize,
+) -> Result<(), ReadAllFault>
+    requires can { CanPrint plan.now schema.now }
+    requires verbatim { IsVerbatimOf plan.now schema.now (cell_options options.now) verbatim.now }
+    requires size { 0 < piece_size }
+    requires within { intake.old.size ≤ limit }
+    requires ended { intake.old.is_ended ≡ true → IsAtEnd (So.left source.old) }
+    requires set { AreSetIn reading.old.cells.now reading.old.tokens.items }
+    ensures set { OnOk result (AreSetIn reading.old.cells.now reading.new.tokens.items) }
+    ensures given { (before : Option (List ℕ)) (first : Intake) → HasGiven before (So.left source.old) limit first intake.old (concat (map (λ token. token.value.items) reading.old.tokens.items))
+        → OnOk result (HasGiven before (So.left source.new) limit first intake.new (concat (map (λ token. token.value.items) reading.new.tokens.items))) }
+    ensures taken { OnOk result (All (IsTaken plan.now schema.now (cell_options options.now) reading.old.cells.now) reading.new.taken.items) }
+    ensures too_long { IsErrOf result ReadAllFault.TooLong → IsPastLimit (So.left source.old) (So.left source.new) limit intake.old.size }
+    ensures failed { IsErrOf result ReadAllFault.Source → HasStopped (So.left source.old) (So.left source.new) limit intake.old.size }
+    ensures cause { IsErrOf result ReadAllFault.Source → Rose (So.faults source.old) (So.faults source.new) }
+    ensures later { So.faults source.old ≤ So.faults source.new }
+{
+    let cells = reading.cells;
+    let tokens = &mut reading.tokens;
+    let count = cells.len();
+    match read_texts(
+        rt,
+        alloc,
+        cells,
+        rooms,
+        tokens,
+        count,
+        intake,
+        source,
+        limit,
+        &plan.dialect,
+        plan.projection.width,
+        piece_size,
+    ) {
+        Ok(()) => {
+            close_cells(rt, alloc, cells, tokens.len(), others.saturating_add(1));
+            reading.taken = take_texts(
+                rt, alloc, cells, rooms, next, schema, plan, options, verbatim, piece_size,
+            );
+            Ok(())
+        }
+        Err(fault) => {
+            close_cells(rt, alloc, cells, 0, count);
+            Err(fault)
+        }
+    }
+}
+
+// Reads the texts of a source while so many other workers take regions. Answers the regions that each took.
+fn read_beside<'a, W: Threads + Wait + Sync, So: Source>(
+    rt: &W,
+    alloc: Global,
+    others: usize,
+    cells: &'a [OnceLock<Vec<u8>>],
+    rooms: &Mutex<Rooms>,
+    tokens: &mut Vec<OnceToken<'a, Vec<u8>>>,
+    intake: &mut Intake,
+    source: &mut So,
+    limit: usize,
+    schema: &Schema,
+    plan: &RangePlan<'_>,
+    options: &SerializeOptions,
+    verbatim: &Verbatim,
+    piece_size: usize,
+) -> Result<Vec<Vec<Taken<'a>>>, ReadAllFault>
+    requires can { CanPrint plan.now schema.now }
+    requires verbatim { IsVerbatimOf plan.now schema.now (cell_options options.now) verbatim.now }
+    requires size { 0 < piece_size }
+    requires within { intake.old.size ≤ limit }
+    requires ended { intake.old.is_ended ≡ true → IsAtEnd (So.left source.old) }
+    requires set { AreSetIn cells.now tokens.old.items }
+    ensures set { OnOk result (AreSetIn cells.now tokens.new.items) }
+    ensures given { (before : Option (List ℕ)) (first : Intake) → HasGiven before (So.left source.old) limit first intake.old (concat (map (λ token. token.value.items) tokens.old.items))
+        → OnOk result (HasGiven before (So.left source.new) limit first intake.new (concat (map (λ token. token.value.items) tokens.new.items))) }
+    ensures taken { IfOk result (λ all. All (λ taken. All (IsTaken plan.now schema.now (cell_options options.now) cells.now) taken.items) all.items) }
+    ensures too_long { IsErrOf result ReadAllFault.TooLong → IsPastLimit (So.left source.old) (So.left source.new) limit intake.old.size }
+    ensures failed { IsErrOf result ReadAllFault.Source → HasStopped (So.left source.old) (So.left source.new) limit intake.old.size }
+    ensures cause { IsErrOf result ReadAllFault.Source → Rose (So.faults source.old) (So.faults source.new) }
+    ensures later { So.faults source.old ≤ So.faults source.new }
+{
+    let next = AtomicUsize::new(0);
+    let mut reading = Reading {
+        cells,
+        tokens: std::mem::replace(tokens, Vec::new(alloc)),
+        taken: Vec::new(alloc),
+    };
+    let mut take = ||
+        requires sync { IsSync W.row }
+        requires can { CanPrint plan.now schema.now }
+        requires verbatim { IsVerbatimOf plan.now schema.now (cell_options options.now) verbatim.now }
+        requires size { 0 < piece_size }
+    {
+        take_each(
+            rt, alloc, others, cells, rooms, &next, schema, plan, options, verbatim, piece_size,
+        )
+    };
+    let mut read = ||
+        requires can { CanPrint plan.now schema.now }
+        requires verbatim { IsVerbatimOf plan.now schema.now (cell_options options.now) verbatim.now }
+        requires size { 0 < piece_size }
+        requires within { intake.now.size ≤ limit }
+        requires ended { intake.now.is_ended ≡ true → IsAtEnd (So.left source.now) }
+        requires set { AreSetIn reading.cells.now reading.tokens.items }
+    {
+        read_and_take(
+            rt,
+            alloc,
+            others,
+            &mut reading,
+            rooms,
+            &next,
+            intake,
+            source,
+            limit,
+            schema,
+            plan,
+            options,
+            verbatim,
+            piece_size,
+        )
+    };
+    let (printed, read) = thread::join_mut(rt, &mut take, &mut read);
+    let Reading {
+        cells: _,
+        tokens: shown,
+        taken,
+    } = reading;
+    *tokens = shown;
+    read?;
+    let Ok(mut all) = printed else {
+        return Err(ReadAllFault::OutOfMemory);
+    };
+    if push(&mut all, taken).is_err() {
+        return Err(ReadAllFault::OutOfMemory);
+    }
+    Ok(all)
+}
+
+/// Reads the first texts of a source, and then those of the other cells while workers take regions. Where the first texts are all, no more workers
+/// take regions than there are texts. Answers what shows the texts, and the regions that each took.
+///
+/// Refuses as `read_all` does, with those bytes that came before counted in.
+pub(crate) fn read_and_print<'a, W: Threads + Wait + Sync, So: Source>(
+    rt: &W,
+    alloc: Global,
+    workers: usize,
+    cells: &'a [OnceLock<Vec<u8>>],
+    rooms: &Mutex<Rooms>,
+    intake: &mut Intake,
+    source: &mut So,
+    limit: usize,
+    schema: &Schema,
+    plan: &RangePlan<'_>,
+    options: &SerializeOptions,
+    verbatim: &Verbatim,
+    piece_size: usize,
+) -> Result<(Vec<OnceToken<'a, Vec<u8>>>, Vec<Vec<Taken<'a>>>), ReadAllFault>
+    requires can { CanPrint plan.now schema.now }
+    requires verbatim { IsVerbatimOf plan.now schema.now (cell_options options.now) verbatim.now }
+    requires size { 0 < piece_size }
+    requires within { intake.old.size ≤ limit }
+    requires ended { intake.old.is_ended ≡ true → IsAtEnd (So.left source.old) }
+    ensures set { IfOk result (λ read. AreSetIn cells.now read.0.items) }
+    ensures given { IfOk result (λ read. HasGiven (So.left source.old) (So.left source.new) limit intake.old intake.new (concat (map (λ token. token.value.items) read.0.items))) }
+    ensures taken { IfOk result (λ read. All (λ taken. All (IsTaken plan.now schema.now (cell_options options.now) cells.now) taken.items) read.1.items) }
+    ensures too_long { IsErrOf result ReadAllFault.TooLong → IsPastLimit (So.left source.old) (So.left source.new) limit intake.old.size }
+    ensures failed { IsErrOf result ReadAllFault.Source → HasStopped (So.left source.old) (So.left source.new) limit intake.old.size }
+    ensures cause { IsErrOf result ReadAllFault.Source → Rose (So.faults source.old) (So.faults source.new) }
+    ensures later { So.faults source.old ≤ So.faults source.new }
+{
+    let mut tokens = Vec::new(alloc);
+    read_texts(
+        rt,
+        alloc,
+        cells,
+        rooms,
+        &mut tokens,
+        FEW,
+        intake,
+        source,
+        limit,
+        &plan.dialect,
+        plan.projection.width,
+        piece_size,
+    )?;
+    if intake.is_ended() {
+        let workers = workers.min(tokens.len());
+        let next = AtomicUsize::new(0);
+        close_cells(rt, alloc, cells, tokens.len(), workers);
+        let Ok(all) = take_each(
+            rt, alloc, workers, cells, rooms, &next, schema, plan, options, verbatim, piece_size,
+        ) else {
+            return Err(ReadAllFault::OutOfMemory);
+        };
+        return Ok((tokens, all));
+    }
+    let others = workers.saturating_sub(1);
+    let all = read_beside(
+        rt,
+        alloc,
+        others,
+        cells,
+        rooms,
+        &mut tokens,
+        intake,
+        source,
+        limit,
+        schema,
+        plan,
+        options,
+        verbatim,
+        piece_size,
+    )?;
+    Ok((tokens, all))
+}
+

@@ -1,0 +1,139 @@
+//! The texts of a source, printed by workers round by round, each round in the memory of the one before it.
+ghost use Rattle.std.specs.Prelude.{◌≡◌, ◌<◌, ◌≤◌, ℕ, List, Option, true, IfOk, OnOk, IsErrOf};
+ghost use Rattle.std.specs.Io.KnownBytes.{IsAtEnd};
+ghost use Rattle.pl_frame.specs.Causes.{Rose};
+ghost use Rattle.pl_intake.specs.declared.intake.Intake.{Intake};
+ghost use Rattle.pl_intake.specs.Intake.{HasStopped, IsPastLimit};
+ghost use Rattle.pl_write.specs.Options.{cell_options};
+ghost use Rattle.pl_verbatim.specs.PrintedTexts.{CanPrint};
+ghost use Rattle.pl_verbatim.specs.Verbatim.{IsVerbatimOf};
+ghost use Rattle.pl_regions.specs.Arriving.{HasPrinted};
+
+use crate::beside::{front_arrived, read_and_print};
+use crate::front::Front;
+use crate::in_turn::PART;
+use crate::kept::keep_front;
+use pl_frame::read_all::ReadAllFault;
+use pl_frame::schema::Schema;
+use pl_frame::source::Source;
+use pl_intake::intake::Intake;
+use pl_intake::rooms::Rooms;
+use pl_intake::texts::make_cells;
+use pl_rows::plan::RangePlan;
+use pl_verbatim::verbatim::Verbatim;
+use pl_write::options::SerializeOptions;
+use std::alloc::Global;
+use std::sync::{Mutex, OnceLock, Wait};
+use std::thread::Threads;
+
+// A round has about so many bytes, whose memory is used again in the next one,
+const ROUND: usize = 10 << 20;
+
+// and no fewer texts than this,
+const FEWEST: usize = 32;
+
+// nor more than this.
+const MOST: usize = 80;
+
+// So many rounds there are at most; what comes behind them is read as a whole.
+const ROUNDS: usize = 1 << 20;
+
+// Keeps the memory of texts that are not needed any more, the first of them on top.
+fn keep_rooms<W: Wait>(rt: &W, rooms: &Mutex<Rooms>, cells: Vec<OnceLock<Vec<u8>>>) {
+    for cell in cells.into_iter().rev() {
+        if let Some(text) = cell.into_inner() {
+            rooms.lock(rt).give(text);
+        }
+    }
+}
+
+// Reads texts of a source and prints them by workers. What is left behind the front of them is taken back. Tells whether nothing is.
+fn print_round<'a, W: Threads + Wait + Sync, So: Source>(
+    rt: &W,
+    alloc: Global,
+    workers: usize,
+    front: &mut Front<'a>,
+    rooms: &Mutex<Rooms>,
+    intake: &mut Intake,
+    source: &mut So,
+    limit: usize,
+    schema: &Schema,
+    plan: &RangePlan<'_>,
+    options: &SerializeOptions,
+    verbatim: &Verbatim,
+    piece_size: usize,
+) -> Result<bool, ReadAllFault>
+    requires can { CanPrint plan.now schema.now }
+    requires verbatim { IsVerbatimOf plan.now schema.now (cell_options options.now) verbatim.now }
+    requires size { 0 < piece_size }
+    requires within { intake.old.size ≤ limit }
+    requires ended { intake.old.is_ended ≡ true → IsAtEnd (So.left source.old) }
+    ensures printed { (before : Option (List ℕ)) (first : Intake) → HasPrinted plan.now schema.now (cell_options options.now) before (So.left source.old) limit first intake.old front.old
+        → OnOk result (HasPrinted plan.now schema.now (cell_options options.now) before (So.left source.new) limit first intake.new front.new) }
+    ensures too_long { IsErrOf result ReadAllFault.TooLong → IsPastLimit (So.left source.old) (So.left source.new) limit intake.old.size }
+    ensures failed { IsErrOf result ReadAllFault.Source → HasStopped (So.left source.old) (So.left source.new) limit intake.old.size }
+    ensures cause { IsErrOf result ReadAllFault.Source → Rose (So.faults source.old) (So.faults source.new) }
+    ensures later { So.faults source.old ≤ So.faults source.new }
+{
+    let Ok(cells) = make_cells(alloc, (ROUND / piece_size).max(FEWEST).min(MOST)) else {
+        return Err(ReadAllFault::OutOfMemory);
+    };
+    let (tokens, all) = read_and_print(
+        rt, alloc, workers, &cells, rooms, intake, source, limit, schema, plan, options, verbatim,
+        piece_size,
+    )?;
+    let Ok(arrived) = front_arrived(alloc, &cells, &tokens, all, &[], schema, plan, options) else {
+        return Err(ReadAllFault::OutOfMemory);
+    };
+    let Ok(is_all) = keep_front(alloc, front, arrived, intake) else {
+        return Err(ReadAllFault::OutOfMemory);
+    };
+    drop(tokens);
+    keep_rooms(rt, rooms, cells);
+    Ok(is_all)
+}
+
+/// Reads texts of a source and prints them by workers, round by round, until it has no more or one is not printed to its end: what is left of that
+/// is kept, and what is left of the source is not read.
+///
+/// Refuses as `read_all` does, with those bytes that came before counted in.
+pub(crate) fn print_rounds<'a, W: Threads + Wait + Sync, So: Source>(
+    rt: &W,
+    alloc: Global,
+    workers: usize,
+    intake: &mut Intake,
+    source: &mut So,
+    limit: usize,
+    schema: &Schema,
+    plan: &RangePlan<'_>,
+    options: &SerializeOptions,
+    verbatim: &Verbatim,
+    piece_size: usize,
+) -> Result<Front<'a>, ReadAllFault>
+    requires can { CanPrint plan.now schema.now }
+    requires verbatim { IsVerbatimOf plan.now schema.now (cell_options options.now) verbatim.now }
+    requires size { 0 < piece_size }
+    requires within { intake.old.size ≤ limit }
+    requires ended { intake.old.is_ended ≡ true → IsAtEnd (So.left source.old) }
+    ensures printed { IfOk result (HasPrinted plan.now schema.now (cell_options options.now) (So.left source.old) (So.left source.new) limit intake.old intake.new) }
+    ensures too_long { IsErrOf result ReadAllFault.TooLong → IsPastLimit (So.left source.old) (So.left source.new) limit intake.old.size }
+    ensures failed { IsErrOf result ReadAllFault.Source → HasStopped (So.left source.old) (So.left source.new) limit intake.old.size }
+    ensures cause { IsErrOf result ReadAllFault.Source → Rose (So.faults source.old) (So.faults source.new) }
+    ensures later { So.faults source.old ≤ So.faults source.new }
+{
+    let rooms = Mutex::new(Rooms::new(alloc));
+    let mut front = Front::new(alloc);
+    for _ in 0..ROUNDS {
+        if intake.is_ended() {
+            return Ok(front);
+        }
+        let size = piece_size.max(front.end / PART);
+        if !print_round(
+            rt, alloc, workers, &mut front, &rooms, intake, source, limit, schema, plan, options,
+            verbatim, size,
+        )? {
+            return Ok(front);
+        }
+    }
+    Ok(front)
+}

@@ -20,7 +20,7 @@ use pl_read::preparing::{Prepared, prepare};
 use pl_read::reading::plan_of;
 use pl_read::workers::{piece_size_for, worker_count};
 use pl_regions::arriving::print_arriving;
-use pl_write::options::{CsvWriterOptions, QuoteStyle};
+use pl_write::options::CsvWriterOptions;
 use std::alloc::Global;
 use std::sync::{OnceLock, Wait};
 use std::thread::Threads;
@@ -70,29 +70,19 @@ fn unread(fault: ReadAllFault) -> Unconverted
     }
 }
 
-// Whether lines are written otherwise than they are read, so that hardly any can be lent from there.
-fn writes_otherwise(read: &CsvReadOptions, write: &CsvWriterOptions) -> bool {
-    let options = &write.serialize_options;
-    options.separator != read.parse_options.separator
-        || options.quote_style != QuoteStyle::Necessary
-        || options.line_terminator.as_str() != "\n"
-        || !options.null.as_str().is_empty()
-}
-
-// Whether a front of the input can tell what the rows are read by, and there are workers to read them.
+// Whether a front of the input can tell what the rows are read by.
 fn reads_ahead(read: &CsvReadOptions, write: &CsvWriterOptions) -> bool
     ensures { OnTrue result (MayReadAhead read.now write.now) }
 {
     read.schema.is_some()
         && read.n_rows.is_none()
         && read.skip_lines == 0
-        && (worker_count(read.n_threads) > 1 || writes_otherwise(read, write))
         && write.serialize_options.quote_char.is_ascii()
         && check_options(read).is_ok()
 }
 
 // What the rows of an input are read by that begins with these bytes, where they tell it: they are not all of it, they end with a line end,
-// and the rows begin within them. None also where there is address space for one worker alone.
+// and the rows begin within them.
 fn prepare_ahead(
     alloc: Global,
     first: &[u8],
@@ -108,8 +98,7 @@ fn prepare_ahead(
     }
     match prepare(alloc, first, read) {
         Ok(prepared) => {
-            let workers = count_with_space(alloc, worker_count(prepared.n_threads), FIRST);
-            if (workers > 1 || writes_otherwise(read, write)) && prepared.start < first.len() && is_row_by_row(read, &prepared) {
+            if prepared.start < first.len() && is_row_by_row(read, &prepared) {
                 return Some(prepared);
             }
             drop(prepared);
@@ -241,9 +230,9 @@ fn convert_ahead<W: Threads + Wait + Sync, So: Source, S: Sink>(
 }
 
 /// Reads the input that a source gives, and converts it: what `convert` does of the input as a whole. Where a front of the input tells what its
-/// rows are read by, they are printed as they come, by the workers beside the one that reads: where a schema is given and no column that
-/// is read has categories, no lines are skipped, no limit and no row index are asked, there are two workers or more and address space for them,
-/// and the rows begin within the first 64 KiB, or within a piece where that is shorter, and don't end there.
+/// rows are read by, they are printed as they come, by the workers beside the one that reads, or by that one where there is no other: where a
+/// schema is given and no column that is read has categories, no lines are skipped, no limit and no row index are asked, the rows begin within the
+/// first 64 KiB, or within a piece where that is shorter, and don't end there.
 ///
 /// Refuses a source that fails, and one that gives more than 2^36 bytes, whatever the input means; then as `convert` does. Before the last
 /// byte came, nothing is written.

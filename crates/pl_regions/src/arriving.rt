@@ -17,16 +17,14 @@ ghost use Rattle.pl_regions.specs.Regions.{IsRegionOf};
 
 use crate::beside::{front_arrived, read_and_print};
 use crate::front::{are_lent, make_room};
-use crate::in_turn::print_in_turn;
 use crate::kept::Arrived;
-use crate::printing::{PrintedRows, print_rest};
-use crate::rounds::print_rounds;
+use crate::printing::{PrintedRows, print_front, print_rest};
+use crate::rounds::print_again;
 use pl_frame::read_all::ReadAllFault;
 use pl_frame::schema::Schema;
 use pl_frame::source::Source;
 use pl_intake::intake::Intake;
 use pl_intake::rooms::Rooms;
-use pl_intake::texts::left_behind;
 use pl_rows::plan::RangePlan;
 use pl_rows::push::push;
 use pl_verbatim::verbatim::Verbatim;
@@ -135,18 +133,88 @@ fn print_kept<'a, W: Threads + Wait + Sync, So: Source>(
     ensures cause { IsErrOf result ReadAllFault.Source → Rose (So.faults source.old) (So.faults source.new) }
     ensures later { So.faults source.old ≤ So.faults source.new }
 {
-    let front = if workers == 1 {
-        print_in_turn(
-            alloc, intake, source, limit, schema, plan, options, verbatim, piece_size,
-        )?
-    } else {
-        print_rounds(
-            rt, alloc, workers, intake, source, limit, schema, plan, options, verbatim, piece_size,
-        )?
-    };
+    let front = print_again(
+        rt, alloc, workers, intake, source, limit, schema, plan, options, verbatim, piece_size,
+    )?;
     intake.read_on(source, limit)?;
-    match left_behind(alloc, &[], intake.rest(), 0) {
-        Ok(left) => Ok(Arrived { front, left }),
+    let left = std::mem::replace(intake, Intake::new(alloc)).into_rest();
+    Ok(Arrived { front, left })
+}
+
+// Reads what is left of a source, and prints the records meanwhile: texts are kept where lines are lent from there.
+//
+// Refuses as `read_all` does, with those bytes that came before counted in.
+fn print_texts<'a, W: Threads + Wait + Sync, So: Source>(
+    rt: &W,
+    alloc: Global,
+    workers: usize,
+    is_lent: bool,
+    cells: &'a [OnceLock<Vec<u8>>],
+    intake: &mut Intake,
+    source: &mut So,
+    limit: usize,
+    schema: &Schema,
+    plan: &RangePlan<'_>,
+    options: &SerializeOptions,
+    verbatim: &Verbatim,
+    piece_size: usize,
+) -> Result<Arrived<'a>, ReadAllFault>
+    requires can { CanPrint plan.now schema.now }
+    requires verbatim { IsVerbatimOf plan.now schema.now (cell_options options.now) verbatim.now }
+    requires size { 0 < piece_size }
+    requires within { intake.old.size ≤ limit }
+    requires ended { intake.old.is_ended ≡ true → IsAtEnd (So.left source.old) }
+    ensures arrived { IfOk result (HasAllCome plan.now schema.now (cell_options options.now) (So.left source.old) (So.left source.new) limit intake.old) }
+    ensures too_long { IsErrOf result ReadAllFault.TooLong → IsPastLimit (So.left source.old) (So.left source.new) limit intake.old.size }
+    ensures failed { IsErrOf result ReadAllFault.Source → HasStopped (So.left source.old) (So.left source.new) limit intake.old.size }
+    ensures cause { IsErrOf result ReadAllFault.Source → Rose (So.faults source.old) (So.faults source.new) }
+    ensures later { So.faults source.old ≤ So.faults source.new }
+{
+    if is_lent {
+        return print_lent(
+            rt, alloc, workers, cells, intake, source, limit, schema, plan, options, verbatim,
+            piece_size,
+        );
+    }
+    print_kept(
+        rt, alloc, workers, intake, source, limit, schema, plan, options, verbatim, piece_size,
+    )
+}
+
+// Reads what is left of a source, which is put into a cell of its own, and prints the records by the caller alone.
+//
+// Refuses as `read_all` does, with those bytes that came before counted in. A cell that holds something already counts as out of memory.
+fn print_whole<'a, W: Threads + Wait + Sync, So: Source>(
+    rt: &W,
+    alloc: Global,
+    last: &'a OnceLock<Vec<u8>>,
+    intake: &mut Intake,
+    source: &mut So,
+    limit: usize,
+    schema: &Schema,
+    plan: &RangePlan<'_>,
+    options: &SerializeOptions,
+    piece_size: usize,
+) -> Result<PrintedRows<'a>, ReadAllFault>
+    requires can { CanPrint plan.now schema.now }
+    requires last { plan.now.last ≡ true }
+    requires size { 0 < piece_size }
+    requires within { intake.old.size ≤ limit }
+    requires ended { intake.old.is_ended ≡ true → IsAtEnd (So.left source.old) }
+    ensures arrived { IfOk result (HasArrived plan.now schema.now (cell_options options.now) (So.left source.old) (So.left source.new) limit intake.old) }
+    ensures too_long { IsErrOf result ReadAllFault.TooLong → IsPastLimit (So.left source.old) (So.left source.new) limit intake.old.size }
+    ensures failed { IsErrOf result ReadAllFault.Source → HasStopped (So.left source.old) (So.left source.new) limit intake.old.size }
+    ensures cause { IsErrOf result ReadAllFault.Source → Rose (So.faults source.old) (So.faults source.new) }
+    ensures later { So.faults source.old ≤ So.faults source.new }
+{
+    intake.read_on(source, limit)?;
+    let records = std::mem::replace(intake, Intake::new(alloc)).into_rest();
+    let Ok(token) = last.set(rt, records) else {
+        return Err(ReadAllFault::OutOfMemory);
+    };
+    let records = last.value(&token).as_slice();
+    match print_front(rt, alloc, 1, records, schema, plan, options, piece_size) {
+        Ok(printed) => Ok(printed),
         Err(_) => Err(ReadAllFault::OutOfMemory),
     }
 }
@@ -156,8 +224,9 @@ fn print_kept<'a, W: Threads + Wait + Sync, So: Source>(
 /// front of them. What is not printed so without a gap is copied into one cell more, the last one, and printed as by `print_rest`. The answer is
 /// that of `print_front` for the records.
 ///
-/// What was kept tells whether most lines are written as they were read: then all texts are kept, and such lines are lent from there. Otherwise
-/// the memory of a text is used again for those behind it, and one worker reads and prints text by text.
+/// What was kept tells whether most lines are written as they were read: then all texts are kept, and such lines are lent from there; a worker that
+/// is alone reads all that is left first. Otherwise the memory of a text is used again for those behind it, and one worker reads and prints text by
+/// text.
 ///
 /// The first eight texts are read before workers start. Where a source has no more, there are no more workers than texts.
 ///
@@ -193,24 +262,17 @@ pub fn print_arriving<'a, W: Threads + Wait + Sync, So: Source>(
     let Ok(verbatim) = Verbatim::of(alloc, schema, plan, options) else {
         return Err(ReadAllFault::OutOfMemory);
     };
-    let arrived = if are_lent(
-        alloc,
-        intake.rest(),
-        schema,
-        plan,
-        options,
-        &verbatim,
+    let rest = intake.rest();
+    let is_lent = are_lent(alloc, rest, schema, plan, options, &verbatim, piece_size);
+    if is_lent && workers == 1 {
+        return print_whole(
+            rt, alloc, last, intake, source, limit, schema, plan, options, piece_size,
+        );
+    }
+    let arrived = print_texts(
+        rt, alloc, workers, is_lent, cells, intake, source, limit, schema, plan, options, &verbatim,
         piece_size,
-    ) {
-        print_lent(
-            rt, alloc, workers, cells, intake, source, limit, schema, plan, options, &verbatim,
-            piece_size,
-        )?
-    } else {
-        print_kept(
-            rt, alloc, workers, intake, source, limit, schema, plan, options, &verbatim, piece_size,
-        )?
-    };
+    )?;
     match print_left(
         rt, alloc, workers, last, arrived, schema, plan, options, piece_size,
     ) {

@@ -11,7 +11,7 @@ ghost use Rattle.pl_regions.specs.Arriving.{HasPrinted};
 
 use crate::beside::{front_arrived, read_and_print};
 use crate::front::Front;
-use crate::in_turn::PART;
+use crate::in_turn::{PART, print_in_turn};
 use crate::kept::keep_front;
 use pl_frame::read_all::ReadAllFault;
 use pl_frame::schema::Schema;
@@ -93,11 +93,11 @@ fn print_round<'a, W: Threads + Wait + Sync, So: Source>(
     Ok(is_all)
 }
 
-/// Reads texts of a source and prints them by workers, round by round, until it has no more or one is not printed to its end: what is left of that
-/// is kept, and what is left of the source is not read.
-///
-/// Refuses as `read_all` does, with those bytes that came before counted in.
-pub(crate) fn print_rounds<'a, W: Threads + Wait + Sync, So: Source>(
+// Reads texts of a source and prints them by workers, round by round, until it has no more or one is not printed to its end: what is left of that
+// is kept, and what is left of the source is not read.
+//
+// Refuses as `read_all` does, with those bytes that came before counted in.
+fn print_rounds<'a, W: Threads + Wait + Sync, So: Source>(
     rt: &W,
     alloc: Global,
     workers: usize,
@@ -136,4 +136,42 @@ pub(crate) fn print_rounds<'a, W: Threads + Wait + Sync, So: Source>(
         }
     }
     Ok(front)
+}
+
+/// Reads texts of a source and prints them, by one worker text by text, by several round by round, until it has no more or one is not printed to its
+/// end: what is left of that is kept, and what is left of the source is not read.
+///
+/// Refuses as `read_all` does, with those bytes that came before counted in.
+pub(crate) fn print_again<'a, W: Threads + Wait + Sync, So: Source>(
+    rt: &W,
+    alloc: Global,
+    workers: usize,
+    intake: &mut Intake,
+    source: &mut So,
+    limit: usize,
+    schema: &Schema,
+    plan: &RangePlan<'_>,
+    options: &SerializeOptions,
+    verbatim: &Verbatim,
+    piece_size: usize,
+) -> Result<Front<'a>, ReadAllFault>
+    requires can { CanPrint plan.now schema.now }
+    requires verbatim { IsVerbatimOf plan.now schema.now (cell_options options.now) verbatim.now }
+    requires size { 0 < piece_size }
+    requires within { intake.old.size ≤ limit }
+    requires ended { intake.old.is_ended ≡ true → IsAtEnd (So.left source.old) }
+    ensures printed { IfOk result (HasPrinted plan.now schema.now (cell_options options.now) (So.left source.old) (So.left source.new) limit intake.old intake.new) }
+    ensures too_long { IsErrOf result ReadAllFault.TooLong → IsPastLimit (So.left source.old) (So.left source.new) limit intake.old.size }
+    ensures failed { IsErrOf result ReadAllFault.Source → HasStopped (So.left source.old) (So.left source.new) limit intake.old.size }
+    ensures cause { IsErrOf result ReadAllFault.Source → Rose (So.faults source.old) (So.faults source.new) }
+    ensures later { So.faults source.old ≤ So.faults source.new }
+{
+    if workers == 1 {
+        return print_in_turn(
+            alloc, intake, source, limit, schema, plan, options, verbatim, piece_size,
+        );
+    }
+    print_rounds(
+        rt, alloc, workers, intake, source, limit, schema, plan, options, verbatim, piece_size,
+    )
 }

@@ -27,14 +27,6 @@ pub record IsFormOf (o : WriteOptions) (quote : ℕ) (form : Form) : Type 0 wher
   pub null_is : form.null.items ≡ written_null o
   pub terminator_is : form.terminator.items ≡ o.terminator
 
--- cells are quoted where necessary, with nothing for a null and a line feed behind a line, and no text means null
-pub record IsSwap (form : Form) : Type 0 where
-  pub numbers : form.quotes_numbers ≡ false
-  pub values : form.quotes_values ≡ false
-  pub null : form.null.items ≡ []
-  pub nulls : form.nulls ≡ None
-  pub terminator : form.terminator.items ≡ 10 ∷ []
-
 -- ---- texts that mean null
 
 -- a field is null, whatever the type of its column

@@ -1,7 +1,5 @@
 //! How rows are written that are written otherwise than they were read.
 ghost use Rattle.std.specs.Prelude.{◌≡◌, true};
-ghost use Rattle.std.specs.Bool.{OnTrue};
-ghost use Rattle.pl_verbatim.specs.Changes.{IsSwap};
 ghost use Rattle.pl_verbatim.specs.Nulls.{are_alike};
 
 use pl_cells::null_values::NullValuesCompiled;
@@ -22,17 +20,4 @@ pub(crate) struct Form {
     // The texts that mean null, in each column the same.
     pub(crate) nulls: Option<NullValuesCompiled>,
     ghost alike: { are_alike nulls ≡ true },
-}
-
-impl Form {
-    /// Whether a cell without a quote is written as it was read, unless the separator that is written stands in it.
-    pub(crate) fn swaps(&self) -> bool
-        ensures { OnTrue result (IsSwap self.now) }
-    {
-        !self.quotes_numbers
-            && !self.quotes_values
-            && self.null.is_empty()
-            && self.nulls.is_none()
-            && matches!(self.terminator.as_slice(), [b'\n'])
-    }
 }

@@ -1,5 +1,5 @@
 //! The rows at the front of a text that are written as they were read, by a test that is made for a reading and a way of writing.
-ghost use Rattle.std.specs.Prelude.{◌≡◌, ◌<◌, ◌≤◌, true, List, None, Some, false, length, take, slice_range, IfOk, IfSome};
+ghost use Rattle.std.specs.Prelude.{◌≡◌, ◌<◌, ◌≤◌, true, List, None, Some, false, length, take, IfOk, IfSome};
 ghost use Rattle.std.specs.Bool.{OnTrue};
 ghost use Rattle.std.specs.List.{All, range_with_len};
 ghost use Rattle.std.specs.Option.{option_map};
@@ -12,8 +12,6 @@ ghost use Rattle.pl_write.specs.Options.{cell_options};
 ghost use Rattle.pl_verbatim.specs.Kinds.{AreReadable, AreKindsOf, is_sound_kind};
 ghost use Rattle.pl_verbatim.specs.PrintedTexts.{CanPrint, IsFrontPrinted};
 ghost use Rattle.pl_verbatim.specs.CellTexts.{as_read};
-ghost use Rattle.pl_verbatim.specs.Changes.{IsSwap};
-ghost use Rattle.pl_verbatim.specs.Swaps.{AreFree, AreRowsSwapped};
 ghost use Rattle.pl_verbatim.specs.Verbatim.{IsReadSo, IsVerbatimOf, AreRowsCopied};
 
 use crate::changes::put_row;
@@ -21,7 +19,6 @@ use crate::form::Form;
 use crate::kinds::{Kind, kind_of};
 use crate::marks::Marks;
 use crate::rows::{copy_row, row_end};
-use crate::swaps::{append_swapped, free_end};
 use crate::verbatim::{Verbatim, VerbatimFront};
 use pl_cells::null_values::NullValuesCompiled;
 use pl_frame::schema::Schema;
@@ -214,27 +211,20 @@ impl Verbatim {
         VerbatimFront { end, rows }
     }
 
-    // What `copy` does of rows that are written by a form, of so many rows at most, which are put together in a block.
-    fn change(
-        &self,
-        text: &[u8],
-        from: usize,
-        form: &Form,
-        most: usize,
-        block: &mut [u8; BLOCK],
-        lines: &mut Vec<u8>,
-    ) -> VerbatimFront
+    // What `copy` does of rows that are written by a form.
+    fn change(&self, text: &[u8], from: usize, form: &Form, lines: &mut Vec<u8>) -> VerbatimFront
         requires inside { from ≤ length text.now }
         requires form { self.now.form ≡ Some form.now }
         ensures { AreRowsCopied self.now text.now from result.end result.rows lines.old.items lines.new.items }
     {
         rows_return();
+        let mut block = [0u8; BLOCK];
         let mut place = 0;
         let mut kept = VerbatimFront { end: from, rows: 0 };
         let mut end = from;
         let mut rows = 0;
         let mut marks = Marks::later(end);
-        while end < text.len() && rows < most {
+        while end < text.len() {
             match put_row(
                 text,
                 end,
@@ -243,7 +233,7 @@ impl Verbatim {
                 self.quote_char,
                 form,
                 &mut marks,
-                block,
+                &mut block,
                 place,
             ) {
                 Some((next, behind)) => {
@@ -267,79 +257,6 @@ impl Verbatim {
         VerbatimFront { end, rows }
     }
 
-    // The rows of a text from a place on of which only the separator is written otherwise, as far as they are found before another place, up to which no
-    // quote stands in the text and no separator that is written.
-    fn front_swapped(&self, text: &[u8], from: usize, to: usize, form: &Form) -> VerbatimFront
-        requires order { from ≤ to }
-        requires inside { to ≤ length text.now }
-        requires free { AreFree self.now.quote_char form.now.separator (slice_range text.now from to) }
-        requires form { self.now.form ≡ Some form.now }
-        requires swap { IsSwap form.now }
-        ensures { AreRowsSwapped self.now form.now.separator text.now from result.end result.rows }
-    {
-        rows_return();
-        let text = &text[..to];
-        let mut end = from;
-        let mut rows = 0;
-        let mut marks = Marks::later(end);
-        while end < text.len() {
-            match row_end(
-                text,
-                end,
-                &self.kinds,
-                self.separator,
-                self.quote_char,
-                &mut marks,
-            ) {
-                Some(next) => end = next,
-                None => break,
-            }
-            rows += 1;
-        }
-        VerbatimFront { end, rows }
-    }
-
-    // What `copy` does of rows at a place of which only the separator is written otherwise: their bytes are copied, with one separator for the other.
-    fn copy_swapped(&self, text: &[u8], from: usize, form: &Form, lines: &mut Vec<u8>) -> VerbatimFront
-        requires inside { from ≤ length text.now }
-        requires form { self.now.form ≡ Some form.now }
-        requires swap { IsSwap form.now }
-        ensures { AreRowsCopied self.now text.now from result.end result.rows lines.old.items lines.new.items }
-    {
-        let to = free_end(text, from, self.quote_char, form.separator);
-        let front = self.front_swapped(text, from, to, form);
-        if append_swapped(lines, &text[from..front.end], self.separator, form.separator) {
-            front
-        } else {
-            VerbatimFront { end: from, rows: 0 }
-        }
-    }
-
-    // What `copy` does of rows of most of which only the separator is written otherwise. Behind these some others are put together, the more the fewer
-    // of these stand in between.
-    fn swap(&self, text: &[u8], from: usize, form: &Form, lines: &mut Vec<u8>) -> VerbatimFront
-        requires inside { from ≤ length text.now }
-        requires form { self.now.form ≡ Some form.now }
-        requires swap { IsSwap form.now }
-        ensures { AreRowsCopied self.now text.now from result.end result.rows lines.old.items lines.new.items }
-    {
-        let mut block = [0u8; BLOCK];
-        let mut end = from;
-        let mut rows = 0;
-        let mut most = 1;
-        while end < text.len() {
-            let same = self.copy_swapped(text, end, form, lines);
-            let other = self.change(text, same.end, form, most, &mut block, lines);
-            rows += same.rows + other.rows;
-            if other.end == end {
-                break;
-            }
-            end = other.end;
-            most = if same.rows > most { 1 } else { most.saturating_mul(2) };
-        }
-        VerbatimFront { end, rows }
-    }
-
     /// The rows of a text from a place on whose cells stand as they are printed, between quotes or without, or are datetimes without a fraction: appends
     /// what is written of them to lines, as far as they are found and memory suffices, and answers where they end, and how many they are.
     pub fn copy(&self, text: &[u8], from: usize, lines: &mut Vec<u8>) -> VerbatimFront
@@ -347,11 +264,7 @@ impl Verbatim {
         ensures { AreRowsCopied self.now text.now from result.end result.rows lines.old.items lines.new.items }
     {
         match &self.form {
-            Some(form) if form.swaps() => self.swap(text, from, form, lines),
-            Some(form) => {
-                let mut block = [0u8; BLOCK];
-                self.change(text, from, form, usize::MAX, &mut block, lines)
-            }
+            Some(form) => self.change(text, from, form, lines),
             None => self.copy_same(text, from, lines),
         }
     }

@@ -17,7 +17,6 @@ mod marks;
 mod moments;
 mod nulls;
 mod rows;
-mod swaps;
 mod texts;
 pub mod verbatim;
 mod wholes;

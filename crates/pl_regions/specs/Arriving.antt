@@ -1,6 +1,5 @@
 -- Texts that are printed while those behind them are read (docs/workers.md, "From a source to regions").
 use Rattle.std.specs.Prelude.{◌≡◌, ◌+◌, ◌<◌, ◌≤◌, ℕ, List, ◌++◌, length, map, drop, Option, slice_index_or}
-use Rattle.std.specs.Cow.{cow_slice_items}
 use Rattle.std.specs.List.{concat}
 use Rattle.std.specs.Sync.OnceLock.{Named}
 use Rattle.std.specs.Io.KnownBytes.{Consumes, IsAtEnd}
@@ -12,7 +11,7 @@ use Rattle.pl_regions.specs.Printing.{IsPrinted, IsPrintedFront}
 use Rattle.pl_regions.specs.Regions.{IsRegionPrinted}
 use Rattle.pl_intake.specs.Intake.{HasGiven}
 use Rattle.pl_intake.specs.declared.intake.Intake.{Intake}
-use Rattle.pl_regions.specs.declared.front.Front.{Front}
+use Rattle.pl_regions.specs.declared.kept.Kept.{Kept}
 use Rattle.pl_regions.specs.declared.kept.Arrived.{Arrived}
 use Rattle.pl_regions.specs.declared.printing.PrintedRows.{PrintedRows}
 use Rattle.pl_regions.specs.declared.taken.Taken.{Taken}
@@ -29,23 +28,23 @@ pub record IsTaken (plan : RangePlan) (schema : List Entry) (o : WriteOptions) (
 -- ---- texts whose memory is used again
 
 -- the lines of a text, all of it
-pub record AreAllPrinted (plan : RangePlan) (schema : List Entry) (o : WriteOptions) (text : List ℕ) (front : Front) : Type 0 where
-  pub end_is : front.end ≡ length text
-  pub is : IsTextPrinted plan schema o text front.rows (concat (map cow_slice_items front.lines.items))
+pub record AreAllPrinted (plan : RangePlan) (schema : List Entry) (o : WriteOptions) (text : List ℕ) (kept : Kept) : Type 0 where
+  pub end_is : kept.end ≡ length text
+  pub is : IsTextPrinted plan schema o text kept.rows (concat (map (λ text. text.items) kept.lines.items))
 
 -- the lines of the front of a text, and what stands behind that was taken back
-pub record IsPrintedOn (plan : RangePlan) (schema : List Entry) (o : WriteOptions) (text : List ℕ) (intake next : Intake) (front : Front) : Type 0 where
+pub record IsPrintedOn (plan : RangePlan) (schema : List Entry) (o : WriteOptions) (text : List ℕ) (intake next : Intake) (kept : Kept) : Type 0 where
   pub printed : List ℕ
-  pub is : AreAllPrinted plan schema o printed front
+  pub is : AreAllPrinted plan schema o printed kept
   pub are : text ++ intake.rest.items ≡ printed ++ next.rest.items
   pub size_is : next.size ≡ intake.size
   pub ended_is : next.is_ended ≡ intake.is_ended
 
 -- what came of a source, behind what was kept of it before, and is not kept: these are the lines of it
-pub record HasPrinted (plan : RangePlan) (schema : List Entry) (o : WriteOptions) (before now : Option (List ℕ)) (limit : ℕ) (intake next : Intake) (front : Front) : Type 0 where
+pub record HasPrinted (plan : RangePlan) (schema : List Entry) (o : WriteOptions) (before now : Option (List ℕ)) (limit : ℕ) (intake next : Intake) (kept : Kept) : Type 0 where
   pub text : List ℕ
   pub given : HasGiven before now limit intake next text
-  pub is : AreAllPrinted plan schema o text front
+  pub is : AreAllPrinted plan schema o text kept
 
 -- ---- what came of a source
 

@@ -11,13 +11,13 @@ ghost use Rattle.std.specs.Cow.{cow_slice_items};
 ghost use Rattle.pl_verbatim.specs.Verbatim.{IsVerbatimOf};
 ghost use Rattle.pl_intake.specs.Intake.{HasGiven, HasStopped, IsPastLimit};
 ghost use Rattle.pl_intake.specs.Texts.{AreSetIn};
-ghost use Rattle.pl_regions.specs.Arriving.{IsTaken, HasArrived};
+ghost use Rattle.pl_regions.specs.Arriving.{HasAllCome, HasArrived};
 ghost use Rattle.pl_regions.specs.Printing.{IsLeftBehind, IsPrinted};
 ghost use Rattle.pl_regions.specs.Regions.{IsRegionOf};
 
 use crate::beside::{front_arrived, read_and_print};
 use crate::front::{are_lent, make_room};
-use crate::kept::Arrived;
+use crate::kept::{Arrived, front_of_kept};
 use crate::printing::{PrintedRows, print_front, print_rest};
 use crate::rounds::print_again;
 use pl_frame::read_all::ReadAllFault;
@@ -133,12 +133,15 @@ fn print_kept<'a, W: Threads + Wait + Sync, So: Source>(
     ensures cause { IsErrOf result ReadAllFault.Source → Rose (So.faults source.old) (So.faults source.new) }
     ensures later { So.faults source.old ≤ So.faults source.new }
 {
-    let front = print_again(
+    let kept = print_again(
         rt, alloc, workers, intake, source, limit, schema, plan, options, verbatim, piece_size,
     )?;
     intake.read_on(source, limit)?;
     let left = std::mem::replace(intake, Intake::new(alloc)).into_rest();
-    Ok(Arrived { front, left })
+    match front_of_kept(alloc, kept) {
+        Ok(front) => Ok(Arrived { front, left }),
+        Err(_) => Err(ReadAllFault::OutOfMemory),
+    }
 }
 
 // Reads what is left of a source, and prints the records meanwhile: texts are kept where lines are lent from there.

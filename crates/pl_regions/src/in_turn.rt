@@ -10,8 +10,8 @@ ghost use Rattle.pl_verbatim.specs.Verbatim.{IsVerbatimOf};
 ghost use Rattle.pl_regions.specs.Arriving.{HasPrinted};
 ghost use Rattle.pl_regions.specs.Printing.{IsPrintedFront};
 
-use crate::front::{Front, print_text};
-use crate::kept::{Arrived, keep_front};
+use crate::front::print_text;
+use crate::kept::{Arrived, Kept, keep_front};
 use pl_frame::read_all::ReadAllFault;
 use pl_frame::schema::Schema;
 use pl_frame::source::Source;
@@ -55,9 +55,9 @@ fn print_one<'a>(
 
 // Reads the next text of a source into memory, which it gives back, and prints it. Gives none where something was taken back: then there is
 // nothing to be printed so any more.
-fn print_next<'a, So: Source>(
+fn print_next<So: Source>(
     alloc: Global,
-    front: &mut Front<'a>,
+    kept: &mut Kept,
     printer: &mut RowPrinter,
     room: Vec<u8>,
     intake: &mut Intake,
@@ -73,8 +73,8 @@ fn print_next<'a, So: Source>(
     requires verbatim { IsVerbatimOf plan.now schema.now (cell_options options.now) verbatim.now }
     requires size { 0 < piece_size }
     requires within { intake.old.size ≤ limit }
-    ensures printed { (before : Option (List ℕ)) (first : Intake) → HasPrinted plan.now schema.now (cell_options options.now) before (So.left source.old) limit first intake.old front.old
-        → OnOk result (HasPrinted plan.now schema.now (cell_options options.now) before (So.left source.new) limit first intake.new front.new) }
+    ensures printed { (before : Option (List ℕ)) (first : Intake) → HasPrinted plan.now schema.now (cell_options options.now) before (So.left source.old) limit first intake.old kept.old
+        → OnOk result (HasPrinted plan.now schema.now (cell_options options.now) before (So.left source.new) limit first intake.new kept.new) }
     ensures too_long { IsErrOf result ReadAllFault.TooLong → IsPastLimit (So.left source.old) (So.left source.new) limit intake.old.size }
     ensures failed { IsErrOf result ReadAllFault.Source → HasStopped (So.left source.old) (So.left source.new) limit intake.old.size }
     ensures cause { IsErrOf result ReadAllFault.Source → Rose (So.faults source.old) (So.faults source.new) }
@@ -87,7 +87,7 @@ fn print_next<'a, So: Source>(
     ) else {
         return Err(ReadAllFault::OutOfMemory);
     };
-    match keep_front(alloc, front, arrived, intake) {
+    match keep_front(alloc, kept, arrived, intake) {
         Ok(true) => Ok(Some(text)),
         Ok(false) => Ok(None),
         Err(_) => Err(ReadAllFault::OutOfMemory),
@@ -98,7 +98,7 @@ fn print_next<'a, So: Source>(
 /// and what is left of the source is not read.
 ///
 /// Refuses as `read_all` does, with those bytes that came before counted in.
-pub(crate) fn print_in_turn<'a, So: Source>(
+pub(crate) fn print_in_turn<So: Source>(
     alloc: Global,
     intake: &mut Intake,
     source: &mut So,
@@ -108,7 +108,7 @@ pub(crate) fn print_in_turn<'a, So: Source>(
     options: &SerializeOptions,
     verbatim: &Verbatim,
     piece_size: usize,
-) -> Result<Front<'a>, ReadAllFault>
+) -> Result<Kept, ReadAllFault>
     requires can { CanPrint plan.now schema.now }
     requires verbatim { IsVerbatimOf plan.now schema.now (cell_options options.now) verbatim.now }
     requires size { 0 < piece_size }
@@ -123,16 +123,16 @@ pub(crate) fn print_in_turn<'a, So: Source>(
     let Ok(mut printer) = RowPrinter::new(alloc) else {
         return Err(ReadAllFault::OutOfMemory);
     };
-    let mut front = Front::new(alloc);
+    let mut kept = Kept::none(alloc);
     let mut room = Vec::new(alloc);
     for _ in 0..TEXTS {
         if intake.is_ended() {
-            return Ok(front);
+            return Ok(kept);
         }
-        let size = piece_size.max(front.end / PART);
+        let size = piece_size.max(kept.end / PART);
         match print_next(
             alloc,
-            &mut front,
+            &mut kept,
             &mut printer,
             room,
             intake,
@@ -145,8 +145,8 @@ pub(crate) fn print_in_turn<'a, So: Source>(
             size,
         )? {
             Some(text) => room = text,
-            None => return Ok(front),
+            None => return Ok(kept),
         }
     }
-    Ok(front)
+    Ok(kept)
 }

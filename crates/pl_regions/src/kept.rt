@@ -1,5 +1,5 @@
-//! The front of what came of a source, whose lines are its own: the memory of the texts that they were read from is used again.
-ghost use Rattle.std.specs.Prelude.{◌≡◌, ◌++◌, ℕ, List, [], OnOk, drop, map};
+//! The lines of what came of a source, which are kept apart from the texts that they were read from: the memory of these is used again.
+ghost use Rattle.std.specs.Prelude.{◌≡◌, ◌++◌, ℕ, List, [], IfOk, OnOk, drop, map};
 ghost use Rattle.std.specs.Cow.{cow_slice_items};
 ghost use Rattle.std.specs.List.{concat};
 ghost use Rattle.pl_frame.specs.Dialect.{IsDialect};
@@ -11,7 +11,6 @@ ghost use Rattle.pl_regions.specs.Arriving.{AreAllPrinted, IsPrintedOn};
 ghost use Rattle.pl_regions.specs.Printing.{IsPrintedFront};
 
 use crate::front::Front;
-use crate::printing::push_text;
 use pl_intake::intake::Intake;
 use std::alloc::{AllocError, Global};
 use std::borrow::CowSlice;
@@ -23,43 +22,86 @@ pub(crate) struct Arrived<'a> {
     pub(crate) left: Vec<u8>,
 }
 
+/// The lines of all rows of texts that follow one another: how many bytes these have, how many rows, and their lines.
+#[derive(Drop)]
+pub(crate) struct Kept {
+    pub(crate) end: usize,
+    pub(crate) rows: usize,
+    pub(crate) lines: Vec<Vec<u8>>,
+}
+
+impl Kept {
+    /// Those of no text.
+    pub(crate) fn none(alloc: Global) -> Kept
+        ensures end { result.end ≡ 0 }
+        ensures rows { result.rows ≡ 0 }
+        ensures lines { result.lines.items ≡ [] }
+    {
+        Kept {
+            end: 0,
+            rows: 0,
+            lines: Vec::new(alloc),
+        }
+    }
+}
+
 // Appends lines to others, and copies those that are lent. Refuses only want of memory.
-fn append_own<'a>(
+fn append_own(
     alloc: Global,
-    lines: &mut Vec<CowSlice<'a, u8, Global>>,
+    lines: &mut Vec<Vec<u8>>,
     more: Vec<CowSlice<'_, u8, Global>>,
 ) -> Result<(), AllocError>
-    ensures { OnOk result (concat (map cow_slice_items lines.new.items) ≡ concat (map cow_slice_items lines.old.items) ++ concat (map cow_slice_items more.entry.items)) }
+    ensures { OnOk result (concat (map (λ text. text.items) lines.new.items) ≡ concat (map (λ text. text.items) lines.old.items) ++ concat (map cow_slice_items more.entry.items)) }
 {
     for text in more {
-        push_text(lines, text.into_owned(alloc)?)?;
+        let own = text.into_owned(alloc)?;
+        lines.push(own)?;
     }
     Ok(())
 }
 
-/// Puts the front of a text behind a front of all that came before it, with lines of its own, and what is left of the text back. Tells whether
-/// nothing is. Refuses only want of memory.
-pub(crate) fn keep_front<'a>(
+/// Puts the lines of the front of a text behind those of all that came before it, and what is left of the text back. Tells whether nothing is.
+/// Refuses only want of memory.
+pub(crate) fn keep_front(
     alloc: Global,
-    front: &mut Front<'a>,
+    kept: &mut Kept,
     arrived: Arrived<'_>,
     intake: &mut Intake,
 ) -> Result<bool, AllocError>
     ensures { (plan : RangePlan) (schema : List Entry) (o : WriteOptions) (before text : List ℕ) → IsDialect (marks_of plan.dialect) (comment_of plan.dialect)
-        → AreAllPrinted plan schema o before front.old → IsPrintedFront plan schema o text arrived.entry.front → arrived.entry.left.items ≡ drop arrived.entry.front.end text
-        → OnOk result (IsPrintedOn plan schema o (before ++ text) intake.old intake.new front.new) }
+        → AreAllPrinted plan schema o before kept.old → IsPrintedFront plan schema o text arrived.entry.front → arrived.entry.left.items ≡ drop arrived.entry.front.end text
+        → OnOk result (IsPrintedOn plan schema o (before ++ text) intake.old intake.new kept.new) }
 {
-    let Arrived { front: next, left } = arrived;
-    let Some(end) = front.end.checked_add(next.end) else {
+    let Arrived { front, left } = arrived;
+    let Front { end, rows, lines } = front;
+    let Some(end) = kept.end.checked_add(end) else {
         return Err(AllocError);
     };
-    let Some(rows) = front.rows.checked_add(next.rows) else {
+    let Some(rows) = kept.rows.checked_add(rows) else {
         return Err(AllocError);
     };
-    append_own(alloc, &mut front.lines, next.lines)?;
-    front.end = end;
-    front.rows = rows;
+    append_own(alloc, &mut kept.lines, lines)?;
+    kept.end = end;
+    kept.rows = rows;
     let is_all = left.is_empty();
     intake.put_back(left)?;
     Ok(is_all)
+}
+
+/// The front that these lines are. Refuses only want of memory.
+pub(crate) fn front_of_kept<'a>(alloc: Global, kept: Kept) -> Result<Front<'a>, AllocError>
+    ensures end { IfOk result (λ front. front.end ≡ kept.end) }
+    ensures rows { IfOk result (λ front. front.rows ≡ kept.rows) }
+    ensures lines { IfOk result (λ front. concat (map cow_slice_items front.lines.items) ≡ concat (map (λ text. text.items) kept.lines.items)) }
+{
+    let Kept {
+        end,
+        rows,
+        lines: own,
+    } = kept;
+    let mut lines = Vec::new(alloc);
+    for text in own {
+        lines.push(CowSlice::Owned(text))?;
+    }
+    Ok(Front { end, rows, lines })
 }

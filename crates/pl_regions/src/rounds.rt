@@ -10,9 +10,8 @@ ghost use Rattle.pl_verbatim.specs.Verbatim.{IsVerbatimOf};
 ghost use Rattle.pl_regions.specs.Arriving.{HasPrinted};
 
 use crate::beside::{front_arrived, read_and_print};
-use crate::front::Front;
 use crate::in_turn::{PART, print_in_turn};
-use crate::kept::keep_front;
+use crate::kept::{Kept, keep_front};
 use pl_frame::read_all::ReadAllFault;
 use pl_frame::schema::Schema;
 use pl_frame::source::Source;
@@ -48,11 +47,11 @@ fn keep_rooms<W: Wait>(rt: &W, rooms: &Mutex<Rooms>, cells: Vec<OnceLock<Vec<u8>
 }
 
 // Reads texts of a source and prints them by workers. What is left behind the front of them is taken back. Tells whether nothing is.
-fn print_round<'a, W: Threads + Wait + Sync, So: Source>(
+fn print_round<W: Threads + Wait + Sync, So: Source>(
     rt: &W,
     alloc: Global,
     workers: usize,
-    front: &mut Front<'a>,
+    kept: &mut Kept,
     rooms: &Mutex<Rooms>,
     intake: &mut Intake,
     source: &mut So,
@@ -68,8 +67,8 @@ fn print_round<'a, W: Threads + Wait + Sync, So: Source>(
     requires size { 0 < piece_size }
     requires within { intake.old.size ≤ limit }
     requires ended { intake.old.is_ended ≡ true → IsAtEnd (So.left source.old) }
-    ensures printed { (before : Option (List ℕ)) (first : Intake) → HasPrinted plan.now schema.now (cell_options options.now) before (So.left source.old) limit first intake.old front.old
-        → OnOk result (HasPrinted plan.now schema.now (cell_options options.now) before (So.left source.new) limit first intake.new front.new) }
+    ensures printed { (before : Option (List ℕ)) (first : Intake) → HasPrinted plan.now schema.now (cell_options options.now) before (So.left source.old) limit first intake.old kept.old
+        → OnOk result (HasPrinted plan.now schema.now (cell_options options.now) before (So.left source.new) limit first intake.new kept.new) }
     ensures too_long { IsErrOf result ReadAllFault.TooLong → IsPastLimit (So.left source.old) (So.left source.new) limit intake.old.size }
     ensures failed { IsErrOf result ReadAllFault.Source → HasStopped (So.left source.old) (So.left source.new) limit intake.old.size }
     ensures cause { IsErrOf result ReadAllFault.Source → Rose (So.faults source.old) (So.faults source.new) }
@@ -85,7 +84,7 @@ fn print_round<'a, W: Threads + Wait + Sync, So: Source>(
     let Ok(arrived) = front_arrived(alloc, &cells, &tokens, all, &[], schema, plan, options) else {
         return Err(ReadAllFault::OutOfMemory);
     };
-    let Ok(is_all) = keep_front(alloc, front, arrived, intake) else {
+    let Ok(is_all) = keep_front(alloc, kept, arrived, intake) else {
         return Err(ReadAllFault::OutOfMemory);
     };
     drop(tokens);
@@ -97,7 +96,7 @@ fn print_round<'a, W: Threads + Wait + Sync, So: Source>(
 // is kept, and what is left of the source is not read.
 //
 // Refuses as `read_all` does, with those bytes that came before counted in.
-fn print_rounds<'a, W: Threads + Wait + Sync, So: Source>(
+fn print_rounds<W: Threads + Wait + Sync, So: Source>(
     rt: &W,
     alloc: Global,
     workers: usize,
@@ -109,7 +108,7 @@ fn print_rounds<'a, W: Threads + Wait + Sync, So: Source>(
     options: &SerializeOptions,
     verbatim: &Verbatim,
     piece_size: usize,
-) -> Result<Front<'a>, ReadAllFault>
+) -> Result<Kept, ReadAllFault>
     requires can { CanPrint plan.now schema.now }
     requires verbatim { IsVerbatimOf plan.now schema.now (cell_options options.now) verbatim.now }
     requires size { 0 < piece_size }
@@ -122,27 +121,27 @@ fn print_rounds<'a, W: Threads + Wait + Sync, So: Source>(
     ensures later { So.faults source.old ≤ So.faults source.new }
 {
     let rooms = Mutex::new(Rooms::new(alloc));
-    let mut front = Front::new(alloc);
+    let mut kept = Kept::none(alloc);
     for _ in 0..ROUNDS {
         if intake.is_ended() {
-            return Ok(front);
+            return Ok(kept);
         }
-        let size = piece_size.max(front.end / PART);
+        let size = piece_size.max(kept.end / PART);
         if !print_round(
-            rt, alloc, workers, &mut front, &rooms, intake, source, limit, schema, plan, options,
+            rt, alloc, workers, &mut kept, &rooms, intake, source, limit, schema, plan, options,
             verbatim, size,
         )? {
-            return Ok(front);
+            return Ok(kept);
         }
     }
-    Ok(front)
+    Ok(kept)
 }
 
 /// Reads texts of a source and prints them, by one worker text by text, by several round by round, until it has no more or one is not printed to its
 /// end: what is left of that is kept, and what is left of the source is not read.
 ///
 /// Refuses as `read_all` does, with those bytes that came before counted in.
-pub(crate) fn print_again<'a, W: Threads + Wait + Sync, So: Source>(
+pub(crate) fn print_again<W: Threads + Wait + Sync, So: Source>(
     rt: &W,
     alloc: Global,
     workers: usize,
@@ -154,7 +153,7 @@ pub(crate) fn print_again<'a, W: Threads + Wait + Sync, So: Source>(
     options: &SerializeOptions,
     verbatim: &Verbatim,
     piece_size: usize,
-) -> Result<Front<'a>, ReadAllFault>
+) -> Result<Kept, ReadAllFault>
     requires can { CanPrint plan.now schema.now }
     requires verbatim { IsVerbatimOf plan.now schema.now (cell_options options.now) verbatim.now }
     requires size { 0 < piece_size }

@@ -5,6 +5,6 @@ use Rattle.pl_regions.proofs.rounds.print_rounds.Given as goal
 
 abbrev pub invariant-loop : goal.invariant-loop
 invariant-loop g l = record {
-  printed : HasPrinted l.fn.plan l.fn.schema (cell_options l.fn.options) (g.So.Source.left l.initial.source) (g.So.Source.left l.source) l.fn.limit l.initial.intake l.intake l.front;
+  printed : HasPrinted l.fn.plan l.fn.schema (cell_options l.fn.options) (g.So.Source.left l.initial.source) (g.So.Source.left l.source) l.fn.limit l.initial.intake l.intake l.kept;
   later : g.So.Source.faults l.initial.source ≤ g.So.Source.faults l.source;
 }

@@ -1,19 +1,14 @@
 //! The records of a source, read and printed by workers while the source is read.
-ghost use Rattle.std.specs.Prelude.{◌≡◌, ◌++◌, ◌<◌, ◌≤◌, ℕ, List, Option, true, All, IfOk, OnOk, IsErrOf, drop, length, map};
+ghost use Rattle.std.specs.Prelude.{◌≡◌, ◌<◌, ◌≤◌, ℕ, List, true, IfOk, IsErrOf, length};
 ghost use Rattle.pl_intake.specs.declared.intake.Intake.{Intake};
 ghost use Rattle.std.specs.Io.KnownBytes.{IsAtEnd};
-ghost use Rattle.std.specs.List.{concat};
-ghost use Rattle.std.specs.Thread.{IsSync};
 ghost use Rattle.pl_frame.specs.Causes.{Rose};
 ghost use Rattle.pl_write.specs.Options.{cell_options};
-ghost use Rattle.pl_verbatim.specs.PrintedTexts.{CanPrint, IsFrontPrinted};
-ghost use Rattle.std.specs.Cow.{cow_slice_items};
+ghost use Rattle.pl_verbatim.specs.PrintedTexts.{CanPrint};
 ghost use Rattle.pl_verbatim.specs.Verbatim.{IsVerbatimOf};
-ghost use Rattle.pl_intake.specs.Intake.{HasGiven, HasStopped, IsPastLimit};
-ghost use Rattle.pl_intake.specs.Texts.{AreSetIn};
+ghost use Rattle.pl_intake.specs.Intake.{HasStopped, IsPastLimit};
 ghost use Rattle.pl_regions.specs.Arriving.{HasAllCome, HasArrived};
 ghost use Rattle.pl_regions.specs.Printing.{IsLeftBehind, IsPrinted};
-ghost use Rattle.pl_regions.specs.Regions.{IsRegionOf};
 
 use crate::beside::{front_arrived, read_and_print};
 use crate::front::{are_lent, make_room};
@@ -26,13 +21,10 @@ use pl_frame::source::Source;
 use pl_intake::intake::Intake;
 use pl_intake::rooms::Rooms;
 use pl_rows::plan::RangePlan;
-use pl_rows::push::push;
 use pl_verbatim::verbatim::Verbatim;
 use pl_write::options::SerializeOptions;
 use std::alloc::{AllocError, Global};
-use std::sync::atomic::AtomicUsize;
-use std::sync::{Mutex, OnceLock, OnceToken, Wait};
-use std::thread;
+use std::sync::{Mutex, OnceLock, Wait};
 use std::thread::Threads;
 
 // Prints what is left of what came, which is put into a cell of its own. Refuses want of memory, and so where the cell holds something.
@@ -273,8 +265,8 @@ pub fn print_arriving<'a, W: Threads + Wait + Sync, So: Source>(
         );
     }
     let arrived = print_texts(
-        rt, alloc, workers, is_lent, cells, intake, source, limit, schema, plan, options, &verbatim,
-        piece_size,
+        rt, alloc, workers, is_lent, cells, intake, source, limit, schema, plan, options,
+        &verbatim, piece_size,
     )?;
     match print_left(
         rt, alloc, workers, last, arrived, schema, plan, options, piece_size,

@@ -1,5 +1,5 @@
 //! Texts of a source, read and printed by workers: each text is printed while those behind it are read.
-ghost use Rattle.std.specs.Prelude.{◌≡◌, ◌++◌, ◌<◌, ◌≤◌, ℕ, List, Option, true, All, IfOk, OnOk, IsErrOf, drop, length, map};
+ghost use Rattle.std.specs.Prelude.{◌≡◌, ◌++◌, ◌<◌, ◌≤◌, ℕ, List, Option, true, All, IfOk, OnOk, IsErrOf, drop, map};
 ghost use Rattle.pl_intake.specs.declared.intake.Intake.{Intake};
 ghost use Rattle.std.specs.Io.KnownBytes.{IsAtEnd};
 ghost use Rattle.std.specs.List.{concat};
@@ -11,8 +11,7 @@ ghost use Rattle.std.specs.Cow.{cow_slice_items};
 ghost use Rattle.pl_verbatim.specs.Verbatim.{IsVerbatimOf};
 ghost use Rattle.pl_intake.specs.Intake.{HasGiven, HasStopped, IsPastLimit};
 ghost use Rattle.pl_intake.specs.Texts.{AreSetIn};
-ghost use Rattle.pl_regions.specs.Arriving.{IsTaken, HasArrived};
-ghost use Rattle.pl_regions.specs.Printing.{IsLeftBehind, IsPrinted};
+ghost use Rattle.pl_regions.specs.Arriving.{IsTaken};
 ghost use Rattle.pl_regions.specs.Regions.{IsRegionOf};
 
 use crate::front::front_of;
@@ -332,4 +331,3 @@ pub(crate) fn read_and_print<'a, W: Threads + Wait + Sync, So: Source>(
     )?;
     Ok((tokens, all))
 }
-

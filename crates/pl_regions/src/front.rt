@@ -71,7 +71,14 @@ pub(crate) fn are_lent(
         return true;
     };
     let front = print_text(
-        alloc, text, &mut printer, schema, plan, options, verbatim, piece_size,
+        alloc,
+        text,
+        &mut printer,
+        schema,
+        plan,
+        options,
+        verbatim,
+        piece_size,
     );
     lent_len(&front.lines) >= front.end / 2
 }

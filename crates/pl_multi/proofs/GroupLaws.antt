@@ -1,11 +1,10 @@
 -- Parts that are read one after another and printed side by side.
-use Rattle.std.proofs.Common.{◌≡◌, ℕ, true, false, zero, suc, ◌+◌, ◌<◌, List, [], ◌∷◌, ◌++◌, map, length, length-append, get_or, set, Option, Some, None, Vec, Global, refl, sym, ◌∙◌, ap, subst, arith, inl, inr}
-use Rattle.std.specs.Prelude.{◌≤◌, All, Result, Ok, Err, is_ok, IfOk, IfErr, OnOk, OnErr}
+use Rattle.std.proofs.Common.{◌≡◌, ℕ, true, zero, suc, ◌+◌, ◌<◌, List, [], ◌∷◌, ◌++◌, map, length, length-append, get_or, set, Option, Some, None, Vec, Global, refl, sym, ◌∙◌, ap, subst, arith, inl, inr}
+use Rattle.std.specs.Prelude.{◌≤◌, All, Result, Ok, Err, is_ok, IfOk, IfErr, OnOk}
 use Rattle.std.proofs.lemmas.List.{append-nil, append_assoc, length-map, map-append, get_or_append_left, get_or-map}
 use Rattle.std.proofs.lemmas.List.Elements.{All-set}
 use Rattle.std.specs.Iterator.{Yields}
 use Rattle.std.specs.Vec.Iter.{into_iter_items, into_iter_steps}
-use Rattle.std.specs.declared.alloc.AllocError.{AllocError}
 use Rattle.std.specs.declared.vec.IntoIter.{IntoIter}
 use Rattle.pl_cells.proofs.CastWorkerLaws.{taken_front}
 use Rattle.pl_frame.specs.declared.error.PolarsError.{PolarsError}
@@ -20,7 +19,7 @@ use Rattle.pl_multi.specs.Lines.{found_text}
 use Rattle.pl_multi.specs.Joining.{IsSound, IsPartFault, IsJoinFault, part_fault}
 use Rattle.pl_multi.specs.Printing.{IsPlain, AreLinesOf, ArePrinted}
 use Rattle.pl_multi.specs.Scan.{IsHeld}
-use Rattle.pl_multi.specs.declared.beside.TakenPart.{TakenPart}
+use Rattle.pl_multi.specs.declared.settling.TakenPart.{TakenPart}
 use Rattle.pl_multi.specs.declared.groups.PartLines.{PartLines}
 use Rattle.pl_multi.specs.declared.lines.FoundLines.{FoundLines}
 use Rattle.pl_multi.specs.declared.part.Part.{Part}
@@ -45,11 +44,6 @@ pub ok-holds : {A E : Type 0} (result : Result A E) (P : Type 0) → is_ok resul
 ok-holds (Ok value) P ok holds = holds
 ok-holds (Err error) P ok holds = absurd (cc)
 
--- what is so where it fails, where it failed
-pub err-holds : {A E : Type 0} (result : Result A E) (P : Type 0) → is_ok result ≡ false → OnErr result P → P
-err-holds (Ok value) P failed holds = absurd (cc)
-err-holds (Err error) P failed holds = holds
-
 -- ---- what was read
 
 -- one more
@@ -64,15 +58,12 @@ bytes_of group = map (λ (one : PartLines). one.bytes.items) group
 abbrev pub came_of : List PartLines → List (List ℕ × Result FoundLines PolarsError)
 came_of group = map (λ (one : PartLines). (one.bytes.items, one.printed)) group
 
-pub read-next : (holds later_holds : List ℕ → Option (List ℕ)) → ((other : List ℕ) → later_holds other ≡ holds other) → (parts : List Part) (first place : ℕ) (group : List PartLines) (one : PartLines) (part : Part)
-    → place ≡ first + length group → place < length parts → part ≡ get_or parts place part → IsHeld later_holds (part, one.bytes.items) → AreRead holds parts first (bytes_of group) → AreRead holds parts first (bytes_of (group ++ one ∷ []))
-read-next holds later_holds stays parts first place group one part count within at held are =
-    let bytes = one.bytes.items in
-    let is : IsPartAt holds parts place bytes = record { part = part; within = within; at = at; held = held-same holds later_holds stays (part, bytes) held } in
-    let sizes = length-map group (λ (it : PartLines). it.bytes.items) in
-    let same : place ≡ first + length (bytes_of group) = omega (arith, count, sizes) in
-    subst (AreRead holds parts first) (sym (map-append (λ (it : PartLines). it.bytes.items) group (one ∷ [])))
-    (read-more holds parts first (bytes_of group) bytes are (subst (λ n. IsPartAt holds parts n bytes) same is))
+pub read-next : (holds later_holds : List ℕ → Option (List ℕ)) → ((other : List ℕ) → later_holds other ≡ holds other) → (parts : List Part) (first count place : ℕ) (texts more : List (List ℕ)) (bytes : List ℕ) (part : Part)
+    → length texts ≡ count → place ≡ first + count → place < length parts → part ≡ get_or parts place part → IsHeld later_holds (part, bytes) → more ≡ texts ++ bytes ∷ [] → AreRead holds parts first texts → AreRead holds parts first more
+read-next holds later_holds stays parts first count place texts more bytes part sizes at within is held one are =
+    let here : IsPartAt holds parts place bytes = record { part = part; within = within; at = is; held = held-same holds later_holds stays (part, bytes) held } in
+    let same : place ≡ first + length texts = omega (arith, at, sizes) in
+    subst (AreRead holds parts first) (sym one) (read-more holds parts first texts bytes are (subst (λ n. IsPartAt holds parts n bytes) same here))
 
 -- ---- what workers took
 
@@ -105,48 +96,33 @@ next-of P all start done now next left holds gives taken step =
     at_front [] x d rest = refl
     at_front (y ∷ front) x d rest = at_front front x d rest
 
--- the bytes of the part at a place
-pub bytes-at : (a b : List PartLines) → bytes_of a ≡ bytes_of b → (i : ℕ) (d : PartLines) → i < length a → i < length b → (get_or a i d).bytes.items ≡ (get_or b i d).bytes.items
-bytes-at a b same i d in-a in-b =
-    let f = λ (it : PartLines). it.bytes.items in
-    sym (get_or-map f a i d [] in-a) ∙ ap (λ (l : List (List ℕ)). get_or l i []) same ∙ get_or-map f b i d [] in-b
-
 pub bytes-put : (group : List PartLines) (place : ℕ) (one d : PartLines) → place < length group → one.bytes ≡ (get_or group place d).bytes → bytes_of (set group place one) ≡ bytes_of group
 bytes-put [] place one d inside same = absurd (omega arith)
 bytes-put (part ∷ group) zero one d inside same = ap (λ (b : Vec ℕ Global). b.items ∷ bytes_of group) same
 bytes-put (part ∷ group) (suc place) one d inside same = ap (λ (l : List (List ℕ)). part.bytes.items ∷ l) (bytes-put group place one d (omega arith) same)
 
--- what was taken of a group was taken of one with the same bytes
-pub taken-same : (read : CsvReadOptions) (write : CsvWriterOptions) (first group : List PartLines) (one : TakenPart) → bytes_of group ≡ bytes_of first → length group ≡ length first → IsTakenOf read write first one
-    → IsTakenOf read write group one
-taken-same read write first group one same sizes is =
-    let inside : one.place < length group = omega (arith, is.inside, sizes) in
-    record { inside = inside; printed = λ d. subst (λ b. IsPrintedOf read write b one.printed) (sym (bytes-at group first same one.place d inside is.inside)) (is.printed d) }
-
 -- one more is put
 pub printed-put : (read : CsvReadOptions) (write : CsvWriterOptions) (first group : List PartLines) (taken : List TakenPart) (one : TakenPart) (part d : PartLines) → bytes_of group ≡ bytes_of first
-    → length group ≡ length first → part.bytes ≡ (get_or group one.place d).bytes → part.printed ≡ one.printed → (All (IsTakenOf read write first) taken → ArePrintedOf read write first → ArePrintedOf read write group)
-    → All (IsTakenOf read write first) (taken ++ one ∷ []) → ArePrintedOf read write first → ArePrintedOf read write (set group one.place part)
-printed-put read write first group taken one part d same sizes bytes printed before all start =
-    let is = all-last (IsTakenOf read write first) taken one all in
-    let text : part.bytes.items ≡ (get_or first one.place d).bytes.items = ap (λ (b : Vec ℕ Global). b.items) bytes ∙ bytes-at group first same one.place d (omega (arith, is.inside, sizes)) is.inside in
+    → part.bytes ≡ (get_or group one.place d).bytes → part.printed ≡ one.printed → (All (IsTakenOf read write (bytes_of first)) taken → ArePrintedOf read write first → ArePrintedOf read write group)
+    → All (IsTakenOf read write (bytes_of first)) (taken ++ one ∷ []) → ArePrintedOf read write first → ArePrintedOf read write (set group one.place part)
+printed-put read write first group taken one part d same bytes printed before all start =
+    let f = λ (it : PartLines). it.bytes.items in
+    let is = all-last (IsTakenOf read write (bytes_of first)) taken one all in
+    let inside : one.place < length group = omega (arith, is.inside, ap length same, length-map group f, length-map first f) in
+    let text : part.bytes.items ≡ get_or (bytes_of first) one.place [] =
+    ap (λ (b : Vec ℕ Global). b.items) bytes ∙ sym (get_or-map f group one.place d [] inside) ∙ ap (λ (l : List (List ℕ)). get_or l one.place []) same in
     let own : IsPrintedOf read write part.bytes.items part.printed =
-    subst (λ b. IsPrintedOf read write b part.printed) (sym text) (subst (IsPrintedOf read write (get_or first one.place d).bytes.items) (sym printed) (is.printed d)) in
-    All-set (λ (it : PartLines). IsPrintedOf read write it.bytes.items it.printed) group one.place part own (before (all-before (IsTakenOf read write first) taken one all) start)
+    subst (λ b. IsPrintedOf read write b part.printed) (sym text) (subst (IsPrintedOf read write (get_or (bytes_of first) one.place [])) (sym printed) is.printed) in
+    All-set (λ (it : PartLines). IsPrintedOf read write it.bytes.items it.printed) group one.place part own (before (all-before (IsTakenOf read write (bytes_of first)) taken one all) start)
 
 -- what one more worker took is put
 pub taken-put : (read : CsvReadOptions) (write : CsvWriterOptions) (first group new : List PartLines) (yielded : List (Vec TakenPart Global)) (taken : Vec TakenPart Global) → bytes_of group ≡ bytes_of first
-    → length group ≡ length first → (All (λ (it : Vec TakenPart Global). All (IsTakenOf read write first) it.items) yielded → ArePrintedOf read write first → ArePrintedOf read write group)
-    → (All (IsTakenOf read write group) taken.items → ArePrintedOf read write group → ArePrintedOf read write new)
-    → All (λ (it : Vec TakenPart Global). All (IsTakenOf read write first) it.items) (yielded ++ taken ∷ []) → ArePrintedOf read write first → ArePrintedOf read write new
-taken-put read write first group new yielded taken same sizes before then all start =
-    let P = λ (it : Vec TakenPart Global). All (IsTakenOf read write first) it.items in
-    then (λ i d inside. taken-same read write first group (get_or taken.items i d) same sizes (all-last P yielded taken all i d inside)) (before (all-before P yielded taken all) start)
-
-pub each-same : (read : CsvReadOptions) (write : CsvWriterOptions) (first group : List PartLines) (result : Result (Vec (Vec TakenPart Global) Global) AllocError) → bytes_of group ≡ bytes_of first → length group ≡ length first
-    → IfOk result (λ all. All (λ (it : Vec TakenPart Global). All (IsTakenOf read write first) it.items) all.items) → IfOk result (λ all. All (λ (it : Vec TakenPart Global). All (IsTakenOf read write group) it.items) all.items)
-each-same read write first group (Ok all) same sizes taken = λ i d inside k e within. taken-same read write first group (get_or (get_or all.items i d).items k e) same sizes (taken i d inside k e within)
-each-same read write first group (Err wanting) same sizes taken = taken
+    → (All (λ (it : Vec TakenPart Global). All (IsTakenOf read write (bytes_of first)) it.items) yielded → ArePrintedOf read write first → ArePrintedOf read write group)
+    → (All (IsTakenOf read write (bytes_of group)) taken.items → ArePrintedOf read write group → ArePrintedOf read write new)
+    → All (λ (it : Vec TakenPart Global). All (IsTakenOf read write (bytes_of first)) it.items) (yielded ++ taken ∷ []) → ArePrintedOf read write first → ArePrintedOf read write new
+taken-put read write first group new yielded taken same before then all start =
+    let P = λ (it : Vec TakenPart Global). All (IsTakenOf read write (bytes_of first)) it.items in
+    then (subst (λ (texts : List (List ℕ)). All (IsTakenOf read write texts) taken.items) (sym same) (all-last P yielded taken all)) (before (all-before P yielded taken all) start)
 
 -- want of memory stands for what was not printed
 pub unprinted-are : (read : CsvReadOptions) (write : CsvWriterOptions) (group : List PartLines) → All (λ (one : PartLines). one.printed ≡ Err error.OutOfMemory) group → ArePrintedOf read write group
@@ -162,34 +138,6 @@ pub printed-from : (holds : List ℕ → Option (List ℕ)) (read : CsvReadOptio
 printed-from holds read write parts first [] each are = tt
 printed-from holds read write parts first (one ∷ group) each are =
     ((are.0, each 0 one (omega arith)), printed-from holds read write parts (first + 1) group (λ i d inside. each (suc i) d (omega arith)) are.1)
-
--- the same, held by what is held as before
-pub read-same : (holds later_holds : List ℕ → Option (List ℕ)) → ((other : List ℕ) → later_holds other ≡ holds other) → (parts : List Part) (first : ℕ) (given : List (List ℕ)) → AreRead later_holds parts first given → AreRead holds parts first given
-read-same holds later_holds stays parts first [] are = tt
-read-same holds later_holds stays parts first (bytes ∷ given) are =
-    let at = are.0 in
-    (record { part = at.part; within = at.within; at = at.at; held = held-same holds later_holds stays (at.part, bytes) at.held }, read-same holds later_holds stays parts (first + 1) given are.1)
-
--- ---- what was not read
-
--- a part was not read, while the count of faults went from further back and further on
-unread-within : (first before after now place : ℕ) (given : MultiFault) → first ≤ before → after ≤ now → IsUnread before after place given → IsUnread first now place given
-unread-within first before after now place fault.OutOfMemory back on is = tt
-unread-within first before after now place (fault.Io at) back on is = (is.0, omega (arith, is.1, back, on))
-unread-within first before after now place fault.Options back on is = absurd (is)
-unread-within first before after now place (fault.Read refusal) back on is = absurd (is)
-unread-within first before after now place (fault.Partitions at) back on is = absurd (is)
-unread-within first before after now place (fault.Duplicate name) back on is = absurd (is)
-unread-within first before after now place (fault.Part at refusal) back on is = absurd (is)
-unread-within first before after now place (fault.Index offset rows) back on is = absurd (is)
-
-pub unread-since : {A : Type 0} (result : Result A MultiFault) (first before after now place : ℕ) → first ≤ before → after ≤ now → IfErr result (IsUnread before after place) → IfErr result (IsUnread first now place)
-unread-since (Ok value) first before after now place back on is = is
-unread-since (Err given) first before after now place back on is = unread-within first before after now place given back on is
-
--- what is so of a refusal
-pub err-at : {A E : Type 0} (result : Result A E) (P : E → Type 0) (error : E) → result ≡ Err error → IfErr result P → P error
-err-at result P error is holds = subst (λ r. IfErr r P) is holds
 
 -- ---- what came of a group
 

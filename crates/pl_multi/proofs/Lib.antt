@@ -1,3 +1,4 @@
+mod CellLaws
 mod GroupLaws
 mod HeldLaws
 mod HiveLaws

@@ -11,7 +11,7 @@ use Rattle.pl_multi.specs.Joining.{part_fault}
 use Rattle.pl_multi.specs.Lines.{found_text}
 use Rattle.pl_multi.specs.Printing.{AreLinesOf}
 use Rattle.pl_multi.specs.Scan.{IsHeld}
-use Rattle.pl_multi.specs.declared.beside.TakenPart.{TakenPart}
+use Rattle.pl_multi.specs.declared.settling.TakenPart.{TakenPart}
 use Rattle.pl_multi.specs.declared.groups.PartLines.{PartLines}
 use Rattle.pl_multi.specs.declared.lines.FoundLines.{FoundLines}
 use Rattle.pl_multi.specs.declared.part.Part.{Part}
@@ -53,10 +53,10 @@ IsPrintedOf read write bytes (Err refusal) = IsFault (late_cause read (given_sch
 abbrev pub ArePrintedOf : CsvReadOptions → CsvWriterOptions → List PartLines → Type 0
 ArePrintedOf read write group = All (λ one. IsPrintedOf read write one.bytes.items one.printed) group
 
--- what came of a part of a group, which a worker took
-pub record IsTakenOf (read : CsvReadOptions) (write : CsvWriterOptions) (group : List PartLines) (taken : TakenPart) : Type 0 where
-  pub inside : taken.place < length group
-  pub printed : (d : PartLines) → IsPrintedOf read write (slice_index_or group taken.place d).bytes.items taken.printed
+-- what came of one of these bytes, which a worker took
+pub record IsTakenOf (read : CsvReadOptions) (write : CsvWriterOptions) (texts : List (List ℕ)) (taken : TakenPart) : Type 0 where
+  pub inside : taken.place < length texts
+  pub printed : IsPrintedOf read write (slice_index_or texts taken.place []) taken.printed
 
 -- what came of the parts from a place on, each with its bytes
 abbrev pub ArePrintedFrom : (List ℕ → Option (List ℕ)) → CsvReadOptions → CsvWriterOptions → List Part → ℕ → List (List ℕ × Result FoundLines PolarsError) → Type 0

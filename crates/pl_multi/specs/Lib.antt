@@ -6,5 +6,6 @@ pub mod Words
 pub mod Telling
 pub mod Printing
 pub mod Lines
+pub mod Cells
 pub mod Groups
 pub mod Run

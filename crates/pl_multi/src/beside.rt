@@ -1,255 +1,262 @@
-//! Parts of a group that are printed by workers, while those of the next one are read.
-ghost use Rattle.std.specs.Prelude.{◌≡◌, ◌≤◌, ◌<◌, ◌+◌, ℕ, List, All, None, Err, map, length, IfOk, IfErr, OnOk, IsSome};
+//! Parts of a group that workers print, each as soon as it is read.
+ghost use Rattle.std.specs.Prelude.{◌≡◌, ◌≤◌, ◌<◌, ◌+◌, [], ℕ, List, All, None, map, length, IfOk, IfErr, OnOk, IsSome};
 ghost use Rattle.std.specs.Thread.{IsSync};
-ghost use Rattle.pl_frame.specs.declared.error.PolarsError.TheVariants as error;
-ghost use Rattle.pl_options.specs.declared.read_options.CsvReadOptions.{CsvReadOptions};
 ghost use Rattle.pl_read.specs.Steps.{MayRead};
-ghost use Rattle.pl_write.specs.declared.options.CsvWriterOptions.{CsvWriterOptions};
+ghost use Rattle.pl_multi.specs.Cells.{AreSetIn, IsTakenCell, held_bytes, token_bytes};
 ghost use Rattle.pl_multi.specs.Groups.{AreRead, IsUnread, IsTakenOf, ArePrintedOf, for_one};
 ghost use Rattle.pl_multi.specs.Printing.{HasNoHead};
 
-use crate::groups::{GroupSize, PartLines, read_group};
-use crate::lines::FoundLines;
+use crate::cells::{SeenCell, ShownParts, close_cells, make_cells, take_cell};
+use crate::groups::{PartLines, print_part, read_part};
 use crate::part::Part;
 use crate::rooms::{Rooms, make_rooms};
 use crate::scan::MultiFault;
-use pl_frame::error::PolarsResult;
+use crate::settling::{TakenCell, TakenPart, own_parts, put_each, settle_each, with_own};
 use pl_frame::opener::Opener;
 use pl_options::read_options::CsvReadOptions;
 use pl_rows::push::push;
 use pl_write::options::CsvWriterOptions;
 use std::alloc::{AllocError, Global};
-use std::sync::atomic::{AtomicUsize, Ordering};
-use std::sync::{Mutex, Wait};
+use std::sync::atomic::AtomicUsize;
+use std::sync::{Arc, Mutex, OnceLock, Wait};
 use std::thread;
 use std::thread::Threads;
 
-/// A part that a worker took: its place in the group, and what came of it.
+// So many parts are a group, at most.
+const PARTS: usize = 1 << 10;
+
+// So many bytes are a group, at most: the part in which they are reached is its last, unless it has too few.
+const BYTES: usize = 1 << 26;
+
+// So many parts are a group, at least, so that one is read while another is printed.
+const FEW: usize = 4;
+
+// Cells, the parts that were read into them, and what came of those that were taken by who reads.
 #[derive(Drop)]
-pub(crate) struct TakenPart {
-    place: usize,
-    printed: PolarsResult<FoundLines>,
+struct Reading<'a> {
+    cells: &'a [OnceLock<Option<Arc<Vec<u8>, Global>>>],
+    shown: ShownParts<'a>,
+    taken: Vec<TakenCell<'a>>,
 }
 
-/// What one worker did while others printed: it read the parts of the next group, or the fault of one of these came, and then it printed too.
+// What came of cells: the parts that were read into them, what came of those that each worker took, and the fault of the part behind them.
 #[derive(Drop)]
-struct ReadAhead {
+struct ReadCells<'a> {
+    shown: ShownParts<'a>,
+    all: Result<Vec<Vec<TakenCell<'a>>>, AllocError>,
     read: Result<(), MultiFault>,
-    taken: Vec<TakenPart>,
 }
 
-// The parts of a group that one worker takes and prints, one after another, until there are no more or memory is wanting.
-fn take_parts<W: Threads + Wait + Sync>(
+/// What came of the cells of a group: the bytes of its parts, what came of those that workers took, and the fault of the part behind them.
+#[derive(Drop)]
+struct PrintedCells {
+    held: Vec<Arc<Vec<u8>, Global>>,
+    settled: Result<Vec<Vec<TakenPart>>, AllocError>,
+    read: Result<(), MultiFault>,
+}
+
+// The parts that one worker takes and prints, each as soon as it is read, until there are no more or memory is wanting. Then it makes memory
+// ready for those of the next group.
+fn take_parts<'a, W: Threads + Wait + Sync>(
     rt: &W,
     alloc: Global,
-    group: &[PartLines],
+    cells: &'a [OnceLock<Option<Arc<Vec<u8>, Global>>>],
     next: &AtomicUsize,
+    rooms: &Mutex<Rooms>,
     read: &CsvReadOptions,
     single: &CsvReadOptions,
     write: &CsvWriterOptions,
-) -> Vec<TakenPart>
+) -> Vec<TakenCell<'a>>
     requires single { single.now ≡ for_one read.now }
     requires given { IsSome read.now.schema }
     requires allowed { MayRead read.now }
     requires plain { read.now.row_index ≡ None }
     requires head { HasNoHead write.now }
-    ensures { All (IsTakenOf read.now write.now group.now) result.items }
+    ensures { All (IsTakenCell read.now write.now cells.now) result.items }
 {
     let mut taken = Vec::new(alloc);
-    for _ in 0..group.len() {
-        let place = next.fetch_add(1, Ordering::SeqCst);
-        if place >= group.len() {
+    for _ in 0..cells.len() {
+        let Some(SeenCell { place, token }) = take_cell(rt, alloc, cells, rooms, next) else {
             return taken;
-        }
-        let printed = group[place].printed(rt, alloc, read, single, write);
-        if push(&mut taken, TakenPart { place, printed }).is_err() {
+        };
+        let Some(held) = cells[place].value(&token) else {
+            make_rooms(rt, alloc, rooms);
+            return taken;
+        };
+        let printed = print_part(rt, alloc, held.as_ref(), read, single, write);
+        if push(
+            &mut taken,
+            TakenCell {
+                place,
+                token,
+                printed,
+            },
+        )
+        .is_err()
+        {
             return taken;
         }
     }
     taken
 }
 
-// Takes parts of a group and prints them, and then makes memory ready to read others into.
-fn take_and_make<W: Threads + Wait + Sync>(
-    rt: &W,
-    alloc: Global,
-    group: &[PartLines],
-    next: &AtomicUsize,
-    rooms: &Mutex<Rooms>,
-    read: &CsvReadOptions,
-    single: &CsvReadOptions,
-    write: &CsvWriterOptions,
-) -> Vec<TakenPart>
-    requires single { single.now ≡ for_one read.now }
-    requires given { IsSome read.now.schema }
-    requires allowed { MayRead read.now }
-    requires plain { read.now.row_index ≡ None }
-    requires head { HasNoHead write.now }
-    ensures { All (IsTakenOf read.now write.now group.now) result.items }
-{
-    let taken = take_parts(rt, alloc, group, next, read, single, write);
-    make_rooms(rt, alloc, rooms);
-    taken
-}
-
-// The parts of a group that so many workers take and print, each until there are no more.
-fn take_each<W: Threads + Wait + Sync>(
+// The parts that so many workers take and print, each until there are no more.
+fn take_each<'a, W: Threads + Wait + Sync>(
     rt: &W,
     alloc: Global,
     workers: usize,
-    group: &[PartLines],
+    cells: &'a [OnceLock<Option<Arc<Vec<u8>, Global>>>],
     next: &AtomicUsize,
     rooms: &Mutex<Rooms>,
     read: &CsvReadOptions,
     single: &CsvReadOptions,
     write: &CsvWriterOptions,
-) -> Result<Vec<Vec<TakenPart>>, AllocError>
+) -> Result<Vec<Vec<TakenCell<'a>>>, AllocError>
     requires single { single.now ≡ for_one read.now }
     requires given { IsSome read.now.schema }
     requires allowed { MayRead read.now }
     requires plain { read.now.row_index ≡ None }
     requires head { HasNoHead write.now }
-    ensures { IfOk result (λ all. All (λ taken. All (IsTakenOf read.now write.now group.now) taken.items) all.items) }
+    ensures { IfOk result (λ all. All (λ taken. All (IsTakenCell read.now write.now cells.now) taken.items) all.items) }
 {
-    let take = |_worker: usize| -> Vec<TakenPart>
+    let take = |_worker: usize| -> Vec<TakenCell<'_>>
         requires sync { IsSync W.row }
         requires single { single.now ≡ for_one read.now }
         requires given { IsSome read.now.schema }
         requires allowed { MayRead read.now }
         requires plain { read.now.row_index ≡ None }
         requires head { HasNoHead write.now }
-        ensures { All (IsTakenOf read.entry.now write.entry.now group.entry.now) result.items }
-    { take_and_make(rt, alloc, group, next, rooms, read, single, write) };
+        ensures { All (IsTakenCell read.entry.now write.entry.now cells.entry.now) result.items }
+    { take_parts(rt, alloc, cells, next, rooms, read, single, write) };
     thread::map_indices(rt, alloc, workers, &take)
 }
 
-// Puts what came of parts that a worker took.
-fn put_parts(group: &mut [PartLines], taken: Vec<TakenPart>)
-    requires { All (λ one. one.place < length group.old) taken.items }
-    ensures same { map (λ one. one.bytes.items) group.new ≡ map (λ one. one.bytes.items) group.old }
-    ensures printed { (read : CsvReadOptions) (write : CsvWriterOptions) → All (IsTakenOf read write group.old) taken.items
-        → ArePrintedOf read write group.old → ArePrintedOf read write group.new }
-{
-    for one in taken {
-        let TakenPart { place, printed } = one;
-        group[place].put(printed);
-    }
-}
-
-// Puts what came of parts that workers took, where memory sufficed.
-fn put_each(group: &mut [PartLines], all: Result<Vec<Vec<TakenPart>>, AllocError>)
-    requires { IfOk all (λ all. All (λ taken. All (λ one. one.place < length group.old) taken.items) all.items) }
-    ensures same { map (λ one. one.bytes.items) group.new ≡ map (λ one. one.bytes.items) group.old }
-    ensures printed { (read : CsvReadOptions) (write : CsvWriterOptions) → IfOk all (λ all. All (λ taken. All (IsTakenOf read write group.old) taken.items) all.items)
-        → ArePrintedOf read write group.old → ArePrintedOf read write group.new }
-{
-    let Ok(all) = all else {
-        return;
-    };
-    for taken in all {
-        put_parts(group, taken);
-    }
-}
-
-/// Prints the rows of each part of a group, one after another.
-pub(crate) fn print_alone<W: Threads + Wait + Sync>(
-    rt: &W,
-    alloc: Global,
-    group: &mut [PartLines],
-    read: &CsvReadOptions,
-    single: &CsvReadOptions,
-    write: &CsvWriterOptions,
-)
-    requires single { single.now ≡ for_one read.now }
-    requires given { IsSome read.now.schema }
-    requires allowed { MayRead read.now }
-    requires plain { read.now.row_index ≡ None }
-    requires head { HasNoHead write.now }
-    requires unprinted { All (λ one. one.printed ≡ Err error.OutOfMemory) group.old }
-    ensures same { map (λ one. one.bytes.items) group.new ≡ map (λ one. one.bytes.items) group.old }
-    ensures printed { ArePrintedOf read.now write.now group.new }
-{
-    let next = AtomicUsize::new(0);
-    let taken = take_parts(rt, alloc, group, &next, read, single, write);
-    put_parts(group, taken);
-}
-
-// Reads the parts from a place on into the next group, and then takes parts of this one and prints them.
-fn read_and_take<W: Threads + Wait + Sync, O: Opener>(
+// Reads the parts from a place on into cells, one after another, until there are no more or they are a group. Refuses the part behind them
+// where it is not read, and want of memory.
+fn read_cells<'a, W: Wait, O: Opener>(
     rt: &W,
     alloc: Global,
     opener: &mut O,
     parts: &[Part],
-    behind: usize,
-    least: GroupSize,
+    first: usize,
+    cells: &'a [OnceLock<Option<Arc<Vec<u8>, Global>>>],
     rooms: &Mutex<Rooms>,
-    next_group: &mut Vec<PartLines>,
-    group: &[PartLines],
-    next: &AtomicUsize,
-    read: &CsvReadOptions,
-    single: &CsvReadOptions,
-    write: &CsvWriterOptions,
-) -> ReadAhead
-    requires none { length next_group.old.items ≡ 0 }
-    requires behind { behind ≤ length parts.now }
-    requires single { single.now ≡ for_one read.now }
-    requires given { IsSome read.now.schema }
-    requires allowed { MayRead read.now }
-    requires plain { read.now.row_index ≡ None }
-    requires head { HasNoHead write.now }
-    ensures taken { All (IsTakenOf read.now write.now group.now) result.taken.items }
-    ensures read { AreRead (O.holds opener.old) parts.now behind (map (λ one. one.bytes.items) next_group.new.items) }
-    ensures unprinted { All (λ one. one.printed ≡ Err error.OutOfMemory) next_group.new.items }
-    ensures some { OnOk result.read (behind < length parts.now → 0 < length next_group.new.items) }
-    ensures within { behind + length next_group.new.items ≤ length parts.now }
-    ensures refused { IfErr result.read (IsUnread (O.faults opener.old) (O.faults opener.new) (behind + length next_group.new.items)) }
-    ensures last { IfErr result.read (λ _. behind + length next_group.new.items < length parts.now) }
+    shown: &mut ShownParts<'a>,
+) -> Result<(), MultiFault>
+    requires tokens { shown.old.tokens.items ≡ [] }
+    requires held { shown.old.held.items ≡ [] }
+    requires some { 0 < length cells.now }
+    requires within { first + length cells.now ≤ length parts.now }
+    ensures set { AreSetIn cells.now shown.new.tokens.items }
+    ensures same { token_bytes shown.new.tokens.items ≡ held_bytes shown.new.held.items }
+    ensures read { AreRead (O.holds opener.old) parts.now first (held_bytes shown.new.held.items) }
+    ensures some { OnOk result (0 < length shown.new.held.items) }
+    ensures within { first + length shown.new.held.items ≤ length parts.now }
+    ensures refused { IfErr result (IsUnread (O.faults opener.old) (O.faults opener.new) (first + length shown.new.held.items)) }
+    ensures behind { IfErr result (λ _. first + length shown.new.held.items < length parts.now) }
     ensures later { O.faults opener.old ≤ O.faults opener.new }
     ensures stays { (other : List ℕ) → O.holds opener.new other ≡ O.holds opener.old other }
 {
-    let ahead = read_group(rt, alloc, opener, parts, behind, least, rooms, next_group);
-    let taken = take_and_make(rt, alloc, group, next, rooms, read, single, write);
-    ReadAhead { read: ahead, taken }
+    let mut size: usize = 0;
+    let mut count = 0;
+    while count < cells.len() && (count < FEW || size < BYTES) {
+        let place = first + count;
+        let left = parts.len() - place - 1;
+        let bytes = match read_part(rt, alloc, opener, &parts[place], place, left, rooms) {
+            Ok(bytes) => bytes,
+            Err(fault) => return Err(fault),
+        };
+        size = size.saturating_add(bytes.len());
+        if shown.show(rt, alloc, cells, count, bytes).is_err() {
+            return Err(MultiFault::OutOfMemory);
+        }
+        count += 1;
+    }
+    Ok(())
 }
 
-/// Prints the rows of each part of a group by workers, each of which takes the next one as soon as it is done with one, and meanwhile reads the
-/// parts from a place on into the next group. Refuses as `read_group` does.
-pub(crate) fn print_beside<W: Threads + Wait + Sync, O: Opener>(
+// Reads the parts from a place on into cells, tells so many workers that there are no more, and takes and prints parts as they do.
+fn read_and_take<'a, W: Threads + Wait + Sync, O: Opener>(
     rt: &W,
     alloc: Global,
     workers: usize,
     opener: &mut O,
     parts: &[Part],
-    behind: usize,
-    least: GroupSize,
+    first: usize,
+    reading: &mut Reading<'a>,
+    next: &AtomicUsize,
     rooms: &Mutex<Rooms>,
-    group: &mut [PartLines],
-    next_group: &mut Vec<PartLines>,
     read: &CsvReadOptions,
     single: &CsvReadOptions,
     write: &CsvWriterOptions,
 ) -> Result<(), MultiFault>
-    requires none { length next_group.old.items ≡ 0 }
-    requires behind { behind ≤ length parts.now }
+    requires tokens { reading.old.shown.tokens.items ≡ [] }
+    requires held { reading.old.shown.held.items ≡ [] }
+    requires some { 0 < length reading.old.cells.now }
+    requires within { first + length reading.old.cells.now ≤ length parts.now }
     requires single { single.now ≡ for_one read.now }
     requires given { IsSome read.now.schema }
     requires allowed { MayRead read.now }
     requires plain { read.now.row_index ≡ None }
     requires head { HasNoHead write.now }
-    requires unprinted { All (λ one. one.printed ≡ Err error.OutOfMemory) group.old }
-    ensures same { map (λ one. one.bytes.items) group.new ≡ map (λ one. one.bytes.items) group.old }
-    ensures printed { ArePrintedOf read.now write.now group.new }
-    ensures read { AreRead (O.holds opener.old) parts.now behind (map (λ one. one.bytes.items) next_group.new.items) }
-    ensures unprinted { All (λ one. one.printed ≡ Err error.OutOfMemory) next_group.new.items }
-    ensures some { OnOk result (behind < length parts.now → 0 < length next_group.new.items) }
-    ensures within { behind + length next_group.new.items ≤ length parts.now }
-    ensures refused { IfErr result (IsUnread (O.faults opener.old) (O.faults opener.new) (behind + length next_group.new.items)) }
-    ensures last { IfErr result (λ _. behind + length next_group.new.items < length parts.now) }
+    ensures taken { All (IsTakenCell read.now write.now reading.old.cells.now) reading.new.taken.items }
+    ensures set { AreSetIn reading.old.cells.now reading.new.shown.tokens.items }
+    ensures same { token_bytes reading.new.shown.tokens.items ≡ held_bytes reading.new.shown.held.items }
+    ensures read { AreRead (O.holds opener.old) parts.now first (held_bytes reading.new.shown.held.items) }
+    ensures some { OnOk result (0 < length reading.new.shown.held.items) }
+    ensures within { first + length reading.new.shown.held.items ≤ length parts.now }
+    ensures refused { IfErr result (IsUnread (O.faults opener.old) (O.faults opener.new) (first + length reading.new.shown.held.items)) }
+    ensures behind { IfErr result (λ _. first + length reading.new.shown.held.items < length parts.now) }
+    ensures later { O.faults opener.old ≤ O.faults opener.new }
+    ensures stays { (other : List ℕ) → O.holds opener.new other ≡ O.holds opener.old other }
+{
+    let cells = reading.cells;
+    let shown = &mut reading.shown;
+    let done = read_cells(rt, alloc, opener, parts, first, cells, rooms, shown);
+    close_cells(rt, cells, reading.shown.held.len(), workers);
+    reading.taken = take_parts(rt, alloc, cells, next, rooms, read, single, write);
+    done
+}
+
+// Reads the parts from a place on into cells, while other workers take and print them.
+fn read_beside<'a, W: Threads + Wait + Sync, O: Opener>(
+    rt: &W,
+    alloc: Global,
+    workers: usize,
+    opener: &mut O,
+    parts: &[Part],
+    first: usize,
+    cells: &'a [OnceLock<Option<Arc<Vec<u8>, Global>>>],
+    rooms: &Mutex<Rooms>,
+    read: &CsvReadOptions,
+    single: &CsvReadOptions,
+    write: &CsvWriterOptions,
+) -> ReadCells<'a>
+    requires some { 0 < length cells.now }
+    requires within { first + length cells.now ≤ length parts.now }
+    requires single { single.now ≡ for_one read.now }
+    requires given { IsSome read.now.schema }
+    requires allowed { MayRead read.now }
+    requires plain { read.now.row_index ≡ None }
+    requires head { HasNoHead write.now }
+    ensures taken { IfOk result.all (λ all. All (λ taken. All (IsTakenCell read.now write.now cells.now) taken.items) all.items) }
+    ensures set { AreSetIn cells.now result.shown.tokens.items }
+    ensures same { token_bytes result.shown.tokens.items ≡ held_bytes result.shown.held.items }
+    ensures read { AreRead (O.holds opener.old) parts.now first (held_bytes result.shown.held.items) }
+    ensures some { OnOk result.read (0 < length result.shown.held.items) }
+    ensures within { first + length result.shown.held.items ≤ length parts.now }
+    ensures refused { IfErr result.read (IsUnread (O.faults opener.old) (O.faults opener.new) (first + length result.shown.held.items)) }
+    ensures behind { IfErr result.read (λ _. first + length result.shown.held.items < length parts.now) }
     ensures later { O.faults opener.old ≤ O.faults opener.new }
     ensures stays { (other : List ℕ) → O.holds opener.new other ≡ O.holds opener.old other }
 {
     let next = AtomicUsize::new(0);
-    let shared: &[PartLines] = group;
+    let others = workers.saturating_sub(1);
+    let mut reading = Reading {
+        cells,
+        shown: ShownParts::new(alloc),
+        taken: Vec::new(alloc),
+    };
     let mut print = ||
         requires sync { IsSync W.row }
         requires single { single.now ≡ for_one read.now }
@@ -257,22 +264,12 @@ pub(crate) fn print_beside<W: Threads + Wait + Sync, O: Opener>(
         requires allowed { MayRead read.now }
         requires plain { read.now.row_index ≡ None }
         requires head { HasNoHead write.now }
-    {
-        take_each(
-            rt,
-            alloc,
-            workers.saturating_sub(1),
-            shared,
-            &next,
-            rooms,
-            read,
-            single,
-            write,
-        )
-    };
+    { take_each(rt, alloc, others, cells, &next, rooms, read, single, write) };
     let mut ahead = ||
-        requires none { length next_group.now.items ≡ 0 }
-        requires behind { behind ≤ length parts.now }
+        requires tokens { reading.shown.tokens.items ≡ [] }
+        requires held { reading.shown.held.items ≡ [] }
+        requires some { 0 < length reading.cells.now }
+        requires within { first + length reading.cells.now ≤ length parts.now }
         requires single { single.now ≡ for_one read.now }
         requires given { IsSome read.now.schema }
         requires allowed { MayRead read.now }
@@ -280,13 +277,128 @@ pub(crate) fn print_beside<W: Threads + Wait + Sync, O: Opener>(
         requires head { HasNoHead write.now }
     {
         read_and_take(
-            rt, alloc, opener, parts, behind, least, rooms, next_group, shared, &next, read,
-            single, write,
+            rt,
+            alloc,
+            workers,
+            opener,
+            parts,
+            first,
+            &mut reading,
+            &next,
+            rooms,
+            read,
+            single,
+            write,
         )
     };
     let (all, done) = thread::join_mut(rt, &mut print, &mut ahead);
-    let ReadAhead { read, taken } = done;
-    put_parts(group, taken);
-    put_each(group, all);
-    read
+    let Reading {
+        cells: _,
+        shown,
+        taken,
+    } = reading;
+    ReadCells {
+        shown,
+        all: with_own(all, taken),
+        read: done,
+    }
+}
+
+// Reads the parts from a place on into cells, and prints the rows of each by so many workers.
+fn print_cells<W: Threads + Wait + Sync, O: Opener>(
+    rt: &W,
+    alloc: Global,
+    workers: usize,
+    opener: &mut O,
+    parts: &[Part],
+    first: usize,
+    cells: &[OnceLock<Option<Arc<Vec<u8>, Global>>>],
+    rooms: &Mutex<Rooms>,
+    read: &CsvReadOptions,
+    single: &CsvReadOptions,
+    write: &CsvWriterOptions,
+) -> PrintedCells
+    requires some { 0 < length cells.now }
+    requires within { first + length cells.now ≤ length parts.now }
+    requires single { single.now ≡ for_one read.now }
+    requires given { IsSome read.now.schema }
+    requires allowed { MayRead read.now }
+    requires plain { read.now.row_index ≡ None }
+    requires head { HasNoHead write.now }
+    ensures settled { IfOk result.settled (λ all. All (λ taken. All (IsTakenOf read.now write.now (held_bytes result.held.items)) taken.items) all.items) }
+    ensures read { AreRead (O.holds opener.old) parts.now first (held_bytes result.held.items) }
+    ensures some { OnOk result.read (0 < length result.held.items) }
+    ensures within { first + length result.held.items ≤ length parts.now }
+    ensures refused { IfErr result.read (IsUnread (O.faults opener.old) (O.faults opener.new) (first + length result.held.items)) }
+    ensures behind { IfErr result.read (λ _. first + length result.held.items < length parts.now) }
+    ensures later { O.faults opener.old ≤ O.faults opener.new }
+    ensures stays { (other : List ℕ) → O.holds opener.new other ≡ O.holds opener.old other }
+{
+    let ReadCells {
+        shown,
+        all,
+        read: all_read,
+    } = read_beside(
+        rt, alloc, workers, opener, parts, first, cells, rooms, read, single, write,
+    );
+    let ShownParts { tokens, held } = shown;
+    let settled = settle_each(alloc, cells, &tokens, all, read, write);
+    PrintedCells {
+        held,
+        settled,
+        read: all_read,
+    }
+}
+
+/// Reads the parts from a place on, until they are a group, and prints the rows of each by so many workers: one reads them and then prints too, and each
+/// takes the next one as soon as it is read. Refuses the part behind the group where it is not read, and want of memory.
+pub(crate) fn print_beside<W: Threads + Wait + Sync, O: Opener>(
+    rt: &W,
+    alloc: Global,
+    workers: usize,
+    opener: &mut O,
+    parts: &[Part],
+    first: usize,
+    rooms: &Mutex<Rooms>,
+    group: &mut Vec<PartLines>,
+    read: &CsvReadOptions,
+    single: &CsvReadOptions,
+    write: &CsvWriterOptions,
+) -> Result<(), MultiFault>
+    requires none { length group.old.items ≡ 0 }
+    requires first { first < length parts.now }
+    requires single { single.now ≡ for_one read.now }
+    requires given { IsSome read.now.schema }
+    requires allowed { MayRead read.now }
+    requires plain { read.now.row_index ≡ None }
+    requires head { HasNoHead write.now }
+    ensures read { AreRead (O.holds opener.old) parts.now first (map (λ one. one.bytes.items) group.new.items) }
+    ensures printed { ArePrintedOf read.now write.now group.new.items }
+    ensures some { OnOk result (0 < length group.new.items) }
+    ensures within { first + length group.new.items ≤ length parts.now }
+    ensures refused { IfErr result (IsUnread (O.faults opener.old) (O.faults opener.new) (first + length group.new.items)) }
+    ensures behind { IfErr result (λ _. first + length group.new.items < length parts.now) }
+    ensures later { O.faults opener.old ≤ O.faults opener.new }
+    ensures stays { (other : List ℕ) → O.holds opener.new other ≡ O.holds opener.old other }
+{
+    let Ok(cells) = make_cells(alloc, PARTS.min(parts.len() - first)) else {
+        return Err(MultiFault::OutOfMemory);
+    };
+    let printed = print_cells(
+        rt, alloc, workers, opener, parts, first, &cells, rooms, read, single, write,
+    );
+    drop(cells);
+    let PrintedCells {
+        held,
+        settled,
+        read: all_read,
+    } = printed;
+    let Ok(mut owned) = own_parts(alloc, held) else {
+        drop(settled);
+        drop(all_read);
+        return Err(MultiFault::OutOfMemory);
+    };
+    put_each(&mut owned, settled);
+    *group = owned;
+    all_read
 }

@@ -1,10 +1,9 @@
-//! Parts that are read one after another, and printed side by side.
-ghost use Rattle.std.specs.Prelude.{◌≡◌, ◌≤◌, ◌<◌, ◌+◌, ◌^◌, ◌++◌, ℕ, List, None, Err, All, map, length, IfOk, IfErr, OnOk, IsSome};
-ghost use Rattle.pl_frame.specs.declared.error.PolarsError.TheVariants as error;
+//! Parts of a group: their bytes, and the lines of their rows.
+ghost use Rattle.std.specs.Prelude.{◌≡◌, ◌≤◌, ◌<◌, ◌+◌, ◌^◌, ◌++◌, ℕ, List, None, map, length, IfOk, IfErr, OnOk, IsSome};
 ghost use Rattle.pl_options.specs.FirstCause.{IsFault};
 ghost use Rattle.pl_read.specs.SettleGiven.{given_schema};
 ghost use Rattle.pl_read.specs.Steps.{MayRead, late_cause};
-ghost use Rattle.pl_multi.specs.Groups.{AreRead, IsUnread, IsPrintedOf, texts_of, first_refusal, IsFirstRefusal, for_one};
+ghost use Rattle.pl_multi.specs.Groups.{IsUnread, IsPrintedOf, texts_of, first_refusal, IsFirstRefusal, for_one};
 ghost use Rattle.pl_multi.specs.Lines.{found_text};
 ghost use Rattle.pl_multi.specs.Printing.{HasNoHead, AreLinesOf};
 ghost use Rattle.pl_multi.specs.Scan.{IsHeld};
@@ -26,54 +25,6 @@ use pl_write::options::CsvWriterOptions;
 use std::alloc::{AllocError, Global};
 use std::sync::{Mutex, Wait};
 use std::thread::Threads;
-
-// So many parts are a group, at most.
-const PARTS: usize = 1 << 10;
-
-// So many parts are a group for each worker, at most, where they are not small.
-const EACH: usize = 4;
-
-// So many bytes are a group, at most: the part in which they are reached is its last.
-const BYTES: usize = 1 << 24;
-
-// So many bytes are a group that workers print, at least, so that printing it is long beside their start.
-const FEW: usize = 1 << 20;
-
-/// How many parts are a group, and of how many bytes, at least; it has fewer where there are no more, or where these are large.
-#[derive(Clone, Copy)]
-pub(crate) struct GroupSize {
-    parts: usize,
-    bytes: usize,
-}
-
-impl GroupSize {
-    /// One part alone.
-    pub(crate) fn one() -> GroupSize {
-        GroupSize { parts: 1, bytes: 0 }
-    }
-
-    /// So many parts, or more where they are small.
-    pub(crate) fn of(parts: usize) -> GroupSize {
-        GroupSize { parts, bytes: FEW }
-    }
-
-    /// Of the group behind one of so many parts: twice as many, but at least as many as there are workers, and at most some for each.
-    pub(crate) fn behind(parts: usize, workers: usize) -> GroupSize {
-        let least = parts.saturating_mul(2).max(workers);
-        GroupSize::of(least.min(workers.saturating_mul(EACH)))
-    }
-
-    /// How many parts it and the group behind it have.
-    pub(crate) fn then(self, workers: usize) -> usize {
-        let next = GroupSize::behind(self.parts, workers);
-        self.parts.saturating_add(next.parts)
-    }
-
-    // Whether so many parts, of so many bytes, are a group.
-    fn is_met(self, parts: usize, bytes: usize) -> bool {
-        parts >= PARTS || bytes >= BYTES || (parts >= self.parts && bytes >= self.bytes)
-    }
-}
 
 /// The bytes of a part, and the lines of its rows. Until these are printed, want of memory stands for them.
 #[derive(Drop)]
@@ -134,8 +85,8 @@ pub(crate) fn for_one(read: &CsvReadOptions) -> Result<CsvReadOptions, AllocErro
     Ok(single)
 }
 
-// The same as `print_bytes`, by one worker alone where the bytes are few: others of its group are then printed beside it.
-fn print_part<W: Threads + Wait + Sync>(
+/// The same as `print_bytes`, by one worker alone where the bytes are few: others of its group are then printed beside it.
+pub(crate) fn print_part<W: Threads + Wait + Sync>(
     rt: &W,
     alloc: Global,
     bytes: &[u8],
@@ -157,23 +108,12 @@ fn print_part<W: Threads + Wait + Sync>(
 }
 
 impl PartLines {
-    /// The lines of its rows, as they come of its bytes.
-    pub(crate) fn printed<W: Threads + Wait + Sync>(
-        &self,
-        rt: &W,
-        alloc: Global,
-        read: &CsvReadOptions,
-        single: &CsvReadOptions,
-        write: &CsvWriterOptions,
-    ) -> PolarsResult<FoundLines>
-        requires single { single.now ≡ for_one read.now }
-        requires given { IsSome read.now.schema }
-        requires allowed { MayRead read.now }
-        requires plain { read.now.row_index ≡ None }
-        requires head { HasNoHead write.now }
-        ensures { IsPrintedOf read.now write.now self.now.bytes.items result }
+    /// A part with these bytes, and what came of it.
+    pub(crate) fn new(bytes: Vec<u8>, printed: PolarsResult<FoundLines>) -> PartLines
+        ensures bytes { result.bytes ≡ bytes }
+        ensures printed { result.printed ≡ printed }
     {
-        print_part(rt, alloc, &self.bytes, read, single, write)
+        PartLines { bytes, printed }
     }
 
     /// Puts the lines of its rows.
@@ -182,14 +122,6 @@ impl PartLines {
         ensures printed { self.new.printed ≡ printed }
     {
         put(&mut self.printed, printed);
-    }
-
-    // Whether its lines are its bytes.
-    fn are_lent(&self) -> bool {
-        match &self.printed {
-            Ok(found) => found.are_lent(),
-            Err(_) => false,
-        }
     }
 
     // What came of it, and its bytes.
@@ -201,34 +133,27 @@ impl PartLines {
     }
 }
 
-/// Whether the lines of a part of a group are bytes of that part.
-pub(crate) fn are_lent(group: &[PartLines]) -> bool {
-    for one in group {
-        if one.are_lent() {
-            return true;
-        }
-    }
-    false
-}
-
-// The bytes of the part at a place, of which no row is printed, in the memory that is given where that suffices.
-fn read_part<O: Opener>(
+/// The bytes of the part at a place, in memory that is ready where that suffices; so many parts are to come behind it.
+pub(crate) fn read_part<W: Wait, O: Opener>(
+    rt: &W,
+    alloc: Global,
     opener: &mut O,
     part: &Part,
     place: usize,
-    room: Vec<u8>,
-) -> Result<PartLines, MultiFault>
-    ensures unprinted { IfOk result (λ one. one.printed ≡ Err error.OutOfMemory) }
-    ensures held { IfOk result (λ one. IsHeld (O.holds opener.old) (part.now, one.bytes.items)) }
+    left: usize,
+    rooms: &Mutex<Rooms>,
+) -> Result<Vec<u8>, MultiFault>
+    ensures held { IfOk result (λ bytes. IsHeld (O.holds opener.old) (part.now, bytes.items)) }
     ensures refused { IfErr result (IsUnread (O.faults opener.old) (O.faults opener.new) place) }
     ensures later { O.faults opener.old ≤ O.faults opener.new }
     ensures stays { (other : List ℕ) → O.holds opener.new other ≡ O.holds opener.old other }
 {
+    let room = rooms.lock(rt).take(alloc);
     match read_path(opener, part.path.as_str(), room) {
-        Ok(bytes) => Ok(PartLines {
-            bytes,
-            printed: Err(PolarsError::OutOfMemory),
-        }),
+        Ok(bytes) => {
+            rooms.lock(rt).keep_len(bytes.len(), left);
+            Ok(bytes)
+        }
         Err(Unread::Failed) => Err(MultiFault::Io { part: place }),
         Err(Unread::OutOfMemory) => Err(MultiFault::OutOfMemory),
     }
@@ -243,46 +168,6 @@ fn without_spare(bytes: Vec<u8>) -> Vec<u8>
         let _ = bytes.shrink_to_fit();
     }
     bytes
-}
-
-/// Reads the parts from a place on into a group of such a size. Refuses the part behind them where it is not read, and want of memory.
-pub(crate) fn read_group<W: Wait, O: Opener>(
-    rt: &W,
-    alloc: Global,
-    opener: &mut O,
-    parts: &[Part],
-    first: usize,
-    least: GroupSize,
-    rooms: &Mutex<Rooms>,
-    group: &mut Vec<PartLines>,
-) -> Result<(), MultiFault>
-    requires none { length group.old.items ≡ 0 }
-    requires first { first ≤ length parts.now }
-    ensures read { AreRead (O.holds opener.old) parts.now first (map (λ one. one.bytes.items) group.new.items) }
-    ensures unprinted { All (λ one. one.printed ≡ Err error.OutOfMemory) group.new.items }
-    ensures some { OnOk result (first < length parts.now → 0 < length group.new.items) }
-    ensures within { first + length group.new.items ≤ length parts.now }
-    ensures refused { IfErr result (IsUnread (O.faults opener.old) (O.faults opener.new) (first + length group.new.items)) }
-    ensures behind { IfErr result (λ _. first + length group.new.items < length parts.now) }
-    ensures later { O.faults opener.old ≤ O.faults opener.new }
-    ensures stays { (other : List ℕ) → O.holds opener.new other ≡ O.holds opener.old other }
-{
-    let mut size: usize = 0;
-    let mut place = first;
-    while place < parts.len() && (place == first || !least.is_met(place - first, size)) {
-        let room = rooms.lock(rt).take(alloc);
-        let one = match read_part(opener, &parts[place], place, room) {
-            Ok(one) => one,
-            Err(fault) => return Err(fault),
-        };
-        size = size.saturating_add(one.bytes.len());
-        rooms.lock(rt).keep_len(one.bytes.len());
-        if push(group, one).is_err() {
-            return Err(MultiFault::OutOfMemory);
-        }
-        place += 1;
-    }
-    Ok(())
 }
 
 // Keeps the lines of a part, with its bytes where they stand among these. Else their memory is kept to read another part into.

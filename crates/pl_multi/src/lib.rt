@@ -2,6 +2,7 @@
 #![tactic(auto)]
 
 mod beside;
+mod cells;
 mod checking;
 mod groups;
 pub mod hive;
@@ -14,5 +15,6 @@ mod printing;
 mod rooms;
 pub mod run;
 pub mod scan;
+mod settling;
 mod telling;
 mod values;

@@ -1,27 +1,28 @@
 //! The rows of parts, printed as they are read: what `scan_multi` answers, without making the frame where that is not needed.
-ghost use Rattle.std.specs.Prelude.{◌≡◌, ◌≤◌, ◌<◌, ℕ, false, List, None, map, length, IfOk, IfErr, OnOk, IsErrOf, Option};
+ghost use Rattle.std.specs.Prelude.{◌≡◌, ◌≤◌, ◌<◌, ◌+◌, ℕ, false, List, None, map, length, IfOk, IfErr, OnOk, IsErrOf, IsSome, Option};
 ghost use Rattle.std.specs.Bool.{OnTrue};
 ghost use Rattle.std.specs.Cow.{cow_slice_items};
 ghost use Rattle.std.specs.Io.KnownBytes.{Appends};
 ghost use Rattle.std.specs.List.{concat};
 ghost use Rattle.pl_frame.specs.Causes.{Rose};
 ghost use Rattle.pl_frame.specs.Frame.{IsFrame, names_of};
+ghost use Rattle.pl_read.specs.Steps.{MayRead};
 ghost use Rattle.pl_write.specs.Options.{frame_options};
 ghost use Rattle.pl_write.specs.Printed.{printed_text};
 ghost use Rattle.pl_write.specs.Writing.{AppendsPrefix};
 ghost use Rattle.pl_csv.specs.Transcoding.{HasAsciiQuote};
-ghost use Rattle.pl_multi.specs.Groups.{for_one};
+ghost use Rattle.pl_multi.specs.Groups.{AreRead, ArePrintedOf, IsUnread, for_one};
 ghost use Rattle.pl_multi.specs.Joining.{IsJoinFault, IsSound};
 ghost use Rattle.pl_multi.specs.Printing.{IsPlain, have_codes, HasNoHead, ArePrinted, IsJoinedBy, joined_text};
 ghost use Rattle.pl_multi.specs.Scan.{IsScanFault, no_rows};
 ghost use Rattle.pl_multi.specs.Words.{asked};
 
-use crate::beside::{print_alone, print_beside};
-use crate::groups::{GroupSize, are_lent, for_one, put_lines, read_group};
+use crate::beside::print_beside;
+use crate::groups::{PartLines, for_one, print_part, put_lines, read_part};
 use crate::lines::KeptLines;
 use crate::multi_words::MultiJob;
 use crate::part::Part;
-use crate::rooms::{Rooms, want_rooms};
+use crate::rooms::Rooms;
 use crate::scan::{MultiFault, check_scan, scan_multi};
 use pl_frame::column::Column;
 use pl_frame::data_type::DataType;
@@ -30,6 +31,7 @@ use pl_frame::opener::Opener;
 use pl_frame::sink::{Sink, SinkFault};
 use pl_options::read_options::CsvReadOptions;
 use pl_read::workers::worker_count;
+use pl_rows::push::push;
 use pl_rows::stack::into_columns;
 use pl_write::options::CsvWriterOptions;
 use pl_write::printed::write_behind;
@@ -90,136 +92,90 @@ fn without_head(write: &CsvWriterOptions) -> Result<CsvWriterOptions, AllocError
     Ok(lines)
 }
 
-// The lines of the rows of all parts, part by part, given the options for one worker alone too. Each is printed before the next one is read. Refuses
-// as `join_parts` does.
-fn print_in_turn<W: Threads + Wait + Sync, O: Opener>(
+// Reads the part at a place, and prints its rows. Refuses it where it is not read, and want of memory.
+fn print_one<W: Threads + Wait + Sync, O: Opener>(
     rt: &W,
     alloc: Global,
     opener: &mut O,
     parts: &[Part],
+    place: usize,
+    rooms: &Mutex<Rooms>,
+    group: &mut Vec<PartLines>,
     read: &CsvReadOptions,
     single: &CsvReadOptions,
     write: &CsvWriterOptions,
-) -> Result<Vec<KeptLines>, MultiFault>
+) -> Result<(), MultiFault>
+    requires none { length group.old.items ≡ 0 }
+    requires place { place < length parts.now }
     requires single { single.now ≡ for_one read.now }
-    requires sound { IsSound read.now None parts.now }
-    requires plain { IsPlain read.now None parts.now }
+    requires given { IsSome read.now.schema }
+    requires allowed { MayRead read.now }
+    requires plain { read.now.row_index ≡ None }
     requires head { HasNoHead write.now }
-    requires empty { IsFrame (no_rows read.now parts.now) }
-    ensures lines { IfOk result (λ lines. ArePrinted (O.holds opener.old) read.now write.now parts.now (length parts.now) lines.items) }
-    ensures refused { IfErr result (IsJoinFault (O.holds opener.old) (O.faults opener.old) (O.faults opener.new) read.now None parts.now) }
+    ensures read { AreRead (O.holds opener.old) parts.now place (map (λ one. one.bytes.items) group.new.items) }
+    ensures printed { ArePrintedOf read.now write.now group.new.items }
+    ensures some { OnOk result (0 < length group.new.items) }
+    ensures within { place + length group.new.items ≤ length parts.now }
+    ensures refused { IfErr result (IsUnread (O.faults opener.old) (O.faults opener.new) (place + length group.new.items)) }
+    ensures behind { IfErr result (λ _. place + length group.new.items < length parts.now) }
     ensures later { O.faults opener.old ≤ O.faults opener.new }
     ensures stays { (other : List ℕ) → O.holds opener.new other ≡ O.holds opener.old other }
 {
-    let mut lines = Vec::new(alloc);
-    let rooms = Mutex::new(Rooms::new(alloc));
-    let mut place = 0;
-    while place < parts.len() {
-        let mut group = Vec::new(alloc);
-        let size = GroupSize::one();
-        let all_read = read_group(rt, alloc, opener, parts, place, size, &rooms, &mut group);
-        print_alone(rt, alloc, &mut group, read, single, write);
-        let count = group.len();
-        match put_lines(rt, alloc, &mut lines, &rooms, group, place) {
-            Ok(()) => {}
-            Err(fault) => {
-                drop(all_read);
-                return Err(fault);
-            }
-        }
-        match all_read {
-            Ok(()) => place += count,
-            Err(fault) => return Err(fault),
-        }
+    let left = parts.len() - place - 1;
+    let bytes = match read_part(rt, alloc, opener, &parts[place], place, left, rooms) {
+        Ok(bytes) => bytes,
+        Err(fault) => return Err(fault),
+    };
+    let printed = print_part(rt, alloc, &bytes, read, single, write);
+    if push(group, PartLines::new(bytes, printed)).is_err() {
+        return Err(MultiFault::OutOfMemory);
     }
-    Ok(lines)
+    Ok(())
 }
 
-// Where the next group begins: behind this one, or behind all parts where one of this one was not read.
-fn next_place(all_read: &Result<(), MultiFault>, behind: usize, all: usize) -> usize
-    ensures behind { OnOk all_read.now (result ≡ behind) }
-    ensures within { behind ≤ all → result ≤ all }
-{
-    if all_read.is_ok() { behind } else { all }
-}
-
-// The same, by so many workers: a group of parts is printed while the next one is read. The first one is shorter, so that they start soon. Behind a part
-// that was not read nothing is opened.
-fn print_ahead<W: Threads + Wait + Sync, O: Opener>(
+// Reads parts from a place on, and prints their rows: by one worker one part, by several a group of them. Refuses the part behind them where it is
+// not read, and want of memory.
+fn print_next<W: Threads + Wait + Sync, O: Opener>(
     rt: &W,
     alloc: Global,
     workers: usize,
     opener: &mut O,
     parts: &[Part],
+    place: usize,
+    rooms: &Mutex<Rooms>,
+    group: &mut Vec<PartLines>,
     read: &CsvReadOptions,
     single: &CsvReadOptions,
     write: &CsvWriterOptions,
-) -> Result<Vec<KeptLines>, MultiFault>
+) -> Result<(), MultiFault>
+    requires none { length group.old.items ≡ 0 }
+    requires place { place < length parts.now }
     requires single { single.now ≡ for_one read.now }
-    requires sound { IsSound read.now None parts.now }
-    requires plain { IsPlain read.now None parts.now }
+    requires given { IsSome read.now.schema }
+    requires allowed { MayRead read.now }
+    requires plain { read.now.row_index ≡ None }
     requires head { HasNoHead write.now }
-    requires empty { IsFrame (no_rows read.now parts.now) }
-    ensures lines { IfOk result (λ lines. ArePrinted (O.holds opener.old) read.now write.now parts.now (length parts.now) lines.items) }
-    ensures refused { IfErr result (IsJoinFault (O.holds opener.old) (O.faults opener.old) (O.faults opener.new) read.now None parts.now) }
+    ensures read { AreRead (O.holds opener.old) parts.now place (map (λ one. one.bytes.items) group.new.items) }
+    ensures printed { ArePrintedOf read.now write.now group.new.items }
+    ensures some { OnOk result (0 < length group.new.items) }
+    ensures within { place + length group.new.items ≤ length parts.now }
+    ensures refused { IfErr result (IsUnread (O.faults opener.old) (O.faults opener.new) (place + length group.new.items)) }
+    ensures behind { IfErr result (λ _. place + length group.new.items < length parts.now) }
     ensures later { O.faults opener.old ≤ O.faults opener.new }
     ensures stays { (other : List ℕ) → O.holds opener.new other ≡ O.holds opener.old other }
 {
-    let mut lines = Vec::new(alloc);
-    let rooms = Mutex::new(Rooms::new(alloc));
-    let mut group = Vec::new(alloc);
-    let mut place = 0;
-    let mut all_read = read_group(
-        rt,
-        alloc,
-        opener,
-        parts,
-        0,
-        GroupSize::of(1),
-        &rooms,
-        &mut group,
-    );
-    let mut may_lend = true;
-    while place < parts.len() {
-        let count = group.len();
-        let behind = next_place(&all_read, place + count, parts.len());
-        let mut next = Vec::new(alloc);
-        let size = GroupSize::behind(count, workers);
-        let left = parts.len() - behind;
-        let wanted = if may_lend {
-            size.then(workers).min(left)
-        } else {
-            0
-        };
-        want_rooms(rt, &rooms, wanted);
-        let ahead = print_beside(
-            rt, alloc, workers, opener, parts, behind, size, &rooms, &mut group, &mut next, read,
-            single, write,
+    if workers == 1 {
+        return print_one(
+            rt, alloc, opener, parts, place, rooms, group, read, single, write,
         );
-        may_lend = are_lent(&group);
-        match put_lines(rt, alloc, &mut lines, &rooms, group, place) {
-            Ok(()) => {}
-            Err(fault) => {
-                drop(all_read);
-                drop(ahead);
-                return Err(fault);
-            }
-        }
-        match all_read {
-            Ok(()) => place += count,
-            Err(fault) => {
-                drop(ahead);
-                return Err(fault);
-            }
-        }
-        group = next;
-        all_read = ahead;
     }
-    drop(all_read);
-    Ok(lines)
+    print_beside(
+        rt, alloc, workers, opener, parts, place, rooms, group, read, single, write,
+    )
 }
 
-// The same, by as many workers as the options say.
+// The lines of the rows of all parts, part by part, by as many workers as the options say, given the options for one worker alone too. Refuses as
+// `join_parts` does.
 fn print_each<W: Threads + Wait + Sync, O: Opener>(
     rt: &W,
     alloc: Global,
@@ -240,10 +196,28 @@ fn print_each<W: Threads + Wait + Sync, O: Opener>(
     ensures stays { (other : List ℕ) → O.holds opener.new other ≡ O.holds opener.old other }
 {
     let workers = worker_count(read.n_threads);
-    if workers == 1 {
-        return print_in_turn(rt, alloc, opener, parts, read, single, write);
+    let mut lines = Vec::new(alloc);
+    let rooms = Mutex::new(Rooms::new(alloc));
+    let mut place = 0;
+    while place < parts.len() {
+        let mut group = Vec::new(alloc);
+        let all_read = print_next(
+            rt, alloc, workers, opener, parts, place, &rooms, &mut group, read, single, write,
+        );
+        let count = group.len();
+        match put_lines(rt, alloc, &mut lines, &rooms, group, place) {
+            Ok(()) => {}
+            Err(fault) => {
+                drop(all_read);
+                return Err(fault);
+            }
+        }
+        match all_read {
+            Ok(()) => place += count,
+            Err(fault) => return Err(fault),
+        }
     }
-    print_ahead(rt, alloc, workers, opener, parts, read, single, write)
+    Ok(lines)
 }
 
 // What was read of all parts, whose columns these are, printed part by part. Refuses the first cause against them, and want of memory.

@@ -5,15 +5,18 @@ use std::sync::{Mutex, Wait};
 // A part of so many bytes is long: its memory is not used again, and none is made for one.
 pub(crate) const LARGE: usize = 1 << 22;
 
-// So many rooms a worker makes ready at most, while it has no part to print.
-const MOST: usize = 1 << 10;
+// A part of fewer bytes is short: memory for one is not made ahead.
+const SHORT: usize = 1 << 14;
 
-/// Memory to read parts into, how much more is wanted, and how long the last part was.
+// So many rooms are ready at most where they are made ahead.
+const READY: usize = 8;
+
+/// Memory to read parts into, how long the last part was, and how many parts are to come.
 #[derive(Drop)]
 pub(crate) struct Rooms {
     ready: Vec<Vec<u8>>,
-    wanted: usize,
     last: usize,
+    left: usize,
 }
 
 impl Rooms {
@@ -21,8 +24,8 @@ impl Rooms {
     pub(crate) fn new(alloc: Global) -> Rooms {
         Rooms {
             ready: Vec::new(alloc),
-            wanted: 0,
             last: 0,
+            left: 0,
         }
     }
 
@@ -40,7 +43,6 @@ impl Rooms {
         match self.ready.pop() {
             Some(room) => room,
             None => {
-                self.wanted = self.wanted.saturating_sub(1);
                 let mut room = Vec::new(alloc);
                 let _ = room.reserve(self.usual());
                 room
@@ -48,9 +50,10 @@ impl Rooms {
         }
     }
 
-    /// Keeps how long a part was.
-    pub(crate) fn keep_len(&mut self, len: usize) {
+    /// Keeps how long a part was, and how many are to come.
+    pub(crate) fn keep_len(&mut self, len: usize, left: usize) {
         self.last = len;
+        self.left = left;
     }
 
     /// Keeps memory to read another part into, where it is not long. Where there is no memory to keep it, it goes.
@@ -60,38 +63,36 @@ impl Rooms {
         }
     }
 
-    // So many rooms are wanted, those that are ready among them.
-    fn want(&mut self, count: usize) {
-        self.wanted = count.saturating_sub(self.ready.len());
-    }
-
-    // How long the next room is that is to be made; none where enough are.
-    fn next_wanted(&mut self) -> usize {
-        if self.wanted == 0 {
-            return 0;
+    // How long the next room is that is to be made; none where enough are ready, or parts are short.
+    fn wanted(&self) -> usize {
+        if self.ready.len() >= self.left.min(READY) || self.last < SHORT {
+            0
+        } else {
+            self.usual()
         }
-        self.wanted -= 1;
-        self.usual()
     }
 }
 
-/// So many rooms are wanted, those that are ready among them.
-pub(crate) fn want_rooms<W: Wait>(rt: &W, rooms: &Mutex<Rooms>, count: usize) {
-    rooms.lock(rt).want(count);
+/// Makes memory for a part ready, and answers whether it did: where there is enough it does not. Its pages are written before, so that who reads
+/// into it does not wait for them.
+pub(crate) fn make_room<W: Wait>(rt: &W, alloc: Global, rooms: &Mutex<Rooms>) -> bool {
+    let size = rooms.lock(rt).wanted();
+    if size == 0 {
+        return false;
+    }
+    let mut room = Vec::new(alloc);
+    if room.resize(size, 0).is_err() {
+        return false;
+    }
+    rooms.lock(rt).give(room);
+    true
 }
 
-/// Makes as much memory ready as is wanted, side by side with others. Its pages are written before, so that who reads into it does not wait
-/// for them.
+/// Makes memory for parts ready until there is enough.
 pub(crate) fn make_rooms<W: Wait>(rt: &W, alloc: Global, rooms: &Mutex<Rooms>) {
-    for _ in 0..MOST {
-        let size = rooms.lock(rt).next_wanted();
-        if size == 0 {
+    for _ in 0..READY {
+        if !make_room(rt, alloc, rooms) {
             return;
         }
-        let mut room = Vec::new(alloc);
-        if room.resize(size, 0).is_err() {
-            return;
-        }
-        rooms.lock(rt).give(room);
     }
 }

@@ -1,8 +1,9 @@
 -- All rows of data, read and printed.
-use Rattle.std.proofs.Common.{◌≡◌, ℕ, true, ◌+◌, ◌<◌, ◌≤◌, ◌^◌, List, [], ◌∷◌, ◌++◌, length, get_or, take, drop, map, sym, ◌∙◌, ap, subst, arith}
+use Rattle.std.proofs.Common.{◌≡◌, ℕ, true, not, None, ◌+◌, ◌<◌, ◌≤◌, ◌^◌, List, [], ◌∷◌, ◌++◌, length, get_or, take, drop, map, sym, ◌∙◌, ap, subst, arith}
 use Rattle.std.specs.Cow.{cow_slice_items}
-use Rattle.std.specs.List.{concat}
-use Rattle.std.proofs.lemmas.List.{take-append-drop, drop-drop, drop_more}
+use Rattle.std.specs.List.{concat, list_any}
+use Rattle.std.specs.Prelude.{filter}
+use Rattle.std.proofs.lemmas.List.{append-nil, take-append-drop, drop-drop, drop_more}
 use Rattle.pl_frame.specs.Dialect.{IsDialect}
 use Rattle.pl_frame.specs.Frame.{HaveHeight, height_of}
 use Rattle.pl_frame.specs.Schema.{Entry}
@@ -11,20 +12,25 @@ use Rattle.pl_scan.specs.Dialect.{marks_of, comment_of}
 use Rattle.pl_scan.specs.LineCuts.{RiseTo}
 use Rattle.pl_rows.specs.declared.columns.RangeColumns.{RangeColumns}
 use Rattle.pl_rows.specs.declared.plan.RangePlan.{RangePlan}
-use Rattle.pl_rows.specs.Columns.{columns_in, entries_in}
+use Rattle.pl_rows.specs.Columns.{columns_in, entries_in, frame_of_rows}
 use Rattle.pl_rows.specs.Pieces.{end_behind, IsRowFit}
-use Rattle.pl_rows.specs.Plan.{rules_of}
-use Rattle.pl_rows.specs.Ranges.{range_end, range_frame, rows_read, IsRangeRead}
+use Rattle.pl_rows.specs.Plan.{Columns, rules_of}
+use Rattle.pl_rows.specs.Ranges.{limited, rows_of, is_judged, end_of, sound_rows, range_end, range_frame, rows_read, IsRangeRead}
+use Rattle.pl_rows.specs.Rows.{first_faulty}
+use Rattle.pl_rows.specs.declared.range.RangeEnd.TheVariants as end
+use Rattle.pl_rows.proofs.RangeLaws.{rows-nil}
+use Rattle.pl_table.specs.Rows.{Row, rows}
 use Rattle.pl_rows.specs.WholePieces.{text_frame}
 use Rattle.pl_rows.proofs.FrameLaws.{have_height}
 use Rattle.pl_rows.proofs.SoundTextLaws.{range-behind, same-columns-range, row-fits}
 use Rattle.pl_write.specs.Batches.{all_lines}
 use Rattle.pl_write.proofs.StackLaws.{lines-stacked}
 use Rattle.pl_verbatim.specs.PrintedTexts.{CanPrint, IsFrontPrinted}
-use Rattle.pl_verbatim.proofs.PrintingLaws.{level, level-text}
+use Rattle.pl_verbatim.proofs.PrintingLaws.{level, level-text, IsTextPrinted-nil}
 use Rattle.pl_regions.proofs.RegionLaws.{front-behind, lines-joined, few-printed}
-use Rattle.pl_regions.specs.Printing.{IsLeftBehind, IsPrintedFront}
+use Rattle.pl_regions.specs.Printing.{IsLeftBehind, IsPrinted, IsPrintedFront}
 use Rattle.pl_regions.specs.declared.front.Front.{Front}
+use Rattle.pl_regions.specs.declared.printing.PrintedRows.{PrintedRows}
 
 -- ---- texts between places
 
@@ -100,6 +106,52 @@ whole-lines plan schema o records left front read can last is range =
     (λ j. is.printed.front.lines_are j ++ all_lines o (columns_are j))
     ∙ sym (lines-stacked o (text_frame plan schema text) (range_frame plan schema rest) (same-columns-range plan schema text rest) (level-text plan schema text))
     ∙ ap (all_lines o) (sym both.0 ∙ ap (range_frame plan schema) (take-append-drop front.end records))
+
+-- a range without bytes has no rows
+no-rows : (plan : RangePlan) → plan.limit ≡ None → rows_of plan [] ≡ []
+no-rows plan unlimited =
+    let m = marks_of plan.dialect in
+    let comment = comment_of plan.dialect in
+    ap (λ limit. limited limit (rows m comment [])) unlimited ∙ rows-nil m comment
+
+-- so it is closed
+none-end : (plan : RangePlan) (columns : Columns) → plan.limit ≡ None → range_end plan columns [] ≡ end.Closed
+none-end plan columns unlimited =
+    ap (λ (given : List Row). end_of (first_faulty (rules_of plan) columns 0 (filter (is_judged plan) given)) (list_any (λ row. not (is_judged plan row)) given)) (no-rows plan unlimited)
+
+-- and has no lines
+none-lines : (plan : RangePlan) (schema : List Entry) (o : WriteOptions) → plan.limit ≡ None → all_lines o (range_frame plan schema []) ≡ []
+none-lines plan schema o unlimited =
+    let rules = rules_of plan in
+    let places = plan.projection.places.now in
+    let entries = entries_in schema places in
+    ap (λ (given : List Row). all_lines o (frame_of_rows rules entries (sound_rows rules (columns_in schema places) (filter (is_judged plan) given)))) (no-rows plan unlimited)
+    ∙ ap (λ (given : List Row). all_lines o (frame_of_rows rules entries given)) (sym (rows-nil (marks_of plan.dialect) (comment_of plan.dialect)))
+    ∙ sym (IsTextPrinted-nil plan schema o).lines_are
+
+-- where nothing is left behind a front, that is all
+pub none-left : (plan : RangePlan) (schema : List Entry) (o : WriteOptions) (records : List ℕ) (front : Front) (printed : PrintedRows) → CanPrint plan schema → plan.last ≡ true
+    → IsLeftBehind plan schema o records front [] → printed.end ≡ end.Closed → printed.lines.items ≡ front.lines.items → IsPrinted plan schema o records printed
+none-left plan schema o records front printed can last is closed same =
+    let columns = columns_in schema plan.projection.places.now in
+    let text = take front.end records in
+    let rest = drop front.end records in
+    let both = range-behind plan schema text rest can.unlimited last can.dialect is.printed.front.sound in
+    let none : all_lines o (range_frame plan schema rest) ≡ [] = ap (λ (t : List ℕ). all_lines o (range_frame plan schema t)) (sym is.left_is) ∙ none-lines plan schema o can.unlimited in
+    record {
+      end_is = closed
+          ∙ ap (end_behind front.rows) (sym (none-end plan columns can.unlimited) ∙ ap (range_end plan columns) is.left_is)
+          ∙ ap (λ k. end_behind k (range_end plan columns rest)) is.printed.front.count_is
+          ∙ sym both.1
+          ∙ ap (range_end plan columns) (take-append-drop front.end records);
+      lines_are = λ sound.
+          ap (λ lines. concat (map cow_slice_items lines)) same
+          ∙ is.printed.front.lines_are
+          ∙ sym (append-nil (all_lines o (text_frame plan schema text)))
+          ∙ ap (λ (l : List ℕ). all_lines o (text_frame plan schema text) ++ l) (sym none)
+          ∙ sym (lines-stacked o (text_frame plan schema text) (range_frame plan schema rest) (same-columns-range plan schema text rest) (level-text plan schema text))
+          ∙ ap (all_lines o) (sym both.0 ∙ ap (range_frame plan schema) (take-append-drop front.end records));
+    }
 
 -- the number of a row that has a fault is one of 64 bits
 pub fault-fits : (plan : RangePlan) (schema : List Entry) (o : WriteOptions) (records left : List ℕ) (front : Front) (read : RangeColumns) → CanPrint plan schema

@@ -196,6 +196,10 @@ fn print_last<'a>(
         rows,
         mut lines,
     } = front;
+    if left.is_empty() {
+        let end = RangeEnd::Closed;
+        return Ok(PrintedRows { lines, end });
+    }
     let read = read_columns(alloc, schema, left, plan)?;
     let end = end_behind(rows, read.end);
     if let RangeEnd::Fault { .. } = end {

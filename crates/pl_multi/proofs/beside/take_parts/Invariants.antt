@@ -1,6 +1,6 @@
 use Rattle.std.proofs.Common.{All}
-use Rattle.pl_multi.specs.Groups.{IsTakenOf}
+use Rattle.pl_multi.specs.Cells.{IsTakenCell}
 use Rattle.pl_multi.proofs.beside.take_parts.Given as goal
 
 abbrev pub invariant-loop : goal.invariant-loop
-invariant-loop g l = All (IsTakenOf l.read l.write l.group) l.taken.items
+invariant-loop g l = All (IsTakenCell l.read l.write l.cells) l.taken.items

@@ -1,12 +1,27 @@
-use Rattle.std.proofs.Common.{◌≡◌, ◌++◌, true, map, sym, ◌∙◌, ap, subst}
+use Rattle.std.proofs.Common.{◌≡◌, ◌++◌, [], ◌∷◌, ℕ, List, length, arith, true, refl, map, sym, ◌∙◌, ap, subst}
+use Rattle.std.proofs.lemmas.Bool.Decides.{nat_tests}
 use Rattle.std.specs.Cow.{cow_slice_items}
 use Rattle.std.specs.List.{concat}
 use Rattle.pl_frame.specs.Frame.{HaveHeight, height_of}
 use Rattle.pl_rows.specs.Pieces.{is_fault}
 use Rattle.pl_write.specs.Batches.{all_lines}
 use Rattle.pl_write.specs.Options.{cell_options}
-use Rattle.pl_regions.proofs.PrintingLaws.{whole-end, whole-lines, fault-fits, level-range}
+use Rattle.pl_regions.specs.Printing.{IsLeftBehind}
+use Rattle.pl_regions.proofs.PrintingLaws.{none-left, whole-end, whole-lines, fault-fits, level-range}
 use Rattle.pl_regions.proofs.printing.print_last.Goals as goal
+
+-- a text of no bytes
+nothing : (text : List ℕ) → length text ≡ 0 → text ≡ []
+nothing [] none = refl
+nothing (byte ∷ text) none = absurd (omega arith)
+
+pub returns-then-is_empty : goal.returns-then-is_empty
+returns-then-is_empty c = λ records is.
+    let plan = c.args.plan.now in
+    let schema = c.args.schema.now in
+    let o = cell_options c.args.options.now in
+    let none : c.args.left.now ≡ [] = nothing c.args.left.now (grind (arith, nat_tests, c.is_empty.ensures, c.if-is_empty.true)) in
+    none-left plan schema o records c.args.front _ c.requires.can c.requires.last (subst (IsLeftBehind plan schema o records c.args.front) none is) refl refl
 
 pub end_behind-end-requires : goal.end_behind-end-requires
 end_behind-end-requires c =

@@ -3,11 +3,11 @@ use Rattle.pl_options.specs.declared.read_options.CsvReadOptions.{CsvReadOptions
 use Rattle.pl_write.specs.declared.options.CsvWriterOptions.{CsvWriterOptions}
 use Rattle.pl_multi.specs.Groups.{IsTakenOf, ArePrintedOf}
 use Rattle.pl_multi.proofs.GroupLaws.{bytes_of}
-use Rattle.pl_multi.proofs.beside.put_parts.Given as goal
+use Rattle.pl_multi.proofs.settling.put_parts.Given as goal
 
 -- the bytes stay, and what came of the parts that were gone through is put
 abbrev pub invariant-loop-one : goal.invariant-loop-one
 invariant-loop-one l = record {
   same : bytes_of l.group ≡ bytes_of l.initial.group;
-  printed : (read : CsvReadOptions) (write : CsvWriterOptions) → All (IsTakenOf read write l.initial.group) l.yielded → ArePrintedOf read write l.initial.group → ArePrintedOf read write l.group;
+  printed : (read : CsvReadOptions) (write : CsvWriterOptions) → All (IsTakenOf read write (bytes_of l.initial.group)) l.yielded → ArePrintedOf read write l.initial.group → ArePrintedOf read write l.group;
 }

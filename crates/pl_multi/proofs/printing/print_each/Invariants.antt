@@ -1,6 +1,6 @@
 use Rattle.std.proofs.Common.{◌≡◌, ◌≤◌, ◌-◌, ℕ, List, length}
 use Rattle.pl_multi.specs.Printing.{ArePrinted}
-use Rattle.pl_multi.proofs.printing.print_in_turn.Given as goal
+use Rattle.pl_multi.proofs.printing.print_each.Given as goal
 
 -- the parts before the place were read, and these are their lines
 abbrev pub invariant-loop-place : goal.invariant-loop-place

@@ -1,19 +1,13 @@
 -- Bytes with which texts that mean null begin: a field that begins with another is no such text.
-use Rattle.std.proofs.Common.{◌≡◌, ℕ, zero, suc, ◌+◌, ◌-◌, ◌<◌, ◌≤◌, Bool, true, false, not, nat_eq, ◌&&◌, ◌||◌, if◌then◌else◌, List, [], ◌∷◌, ◌++◌, length, take, get_or, set, Option, None, Some, Ok, refl, sym, ◌∙◌, ap, subst, arith}
+use Rattle.std.proofs.Common.{◌≡◌, ℕ, zero, suc, ◌+◌, ◌-◌, ◌<◌, ◌≤◌, Bool, true, false, nat_eq, ◌&&◌, if◌then◌else◌, List, [], ◌∷◌, length, take, get_or, Option, None, Some, Ok, refl, sym, ◌∙◌, ap, subst, arith}
 use Rattle.std.specs.Prelude.{slice_range}
-use Rattle.std.specs.List.{list_any, ends_with}
-use Rattle.std.specs.Str.{bytes_eq}
-use Rattle.std.proofs.lemmas.Bool.Decides.{nat_tests}
-use Rattle.std.proofs.lemmas.List.{get_or-set_same, get_or-set_other}
+use Rattle.std.specs.List.{ends_with}
 use Rattle.std.proofs.Math.Seq.{take-length}
-use Rattle.std.proofs.lemmas.Slice.Eq.{bytes_eq-Decides}
-use Rattle.pl_frame.specs.declared.data_type.DataType.{DataType}
-use Rattle.pl_cells.specs.Cells.{Cell, Reading, stripped_cell}
+use Rattle.pl_cells.specs.Cells.{Cell, stripped_cell}
 use Rattle.pl_cells.specs.NullTest.{NullTest, nothing_is_null}
-use Rattle.pl_cells.specs.NullValues.{means_null}
-use Rattle.pl_cells.specs.Quoting.{quote_of, strip}
+use Rattle.pl_cells.specs.Quoting.{quote_of}
 use Rattle.pl_verbatim.specs.declared.form.Form.{Form}
-use Rattle.pl_verbatim.specs.Nulls.{AreStarts, AreStartsOf}
+use Rattle.pl_verbatim.specs.Nulls.{AreStartsOf}
 use Rattle.pl_verbatim.specs.Changes.{null_test_of, IsOtherField}
 use Rattle.pl_verbatim.proofs.NullLaws.{cell-missing}
 use Rattle.pl_verbatim.proofs.NumberLaws.{slice-cons}

@@ -1,5 +1,5 @@
 -- A field that begins as no text that means null does is written as it stands.
-use Rattle.std.proofs.Common.{◌<◌, ◌≤◌, length, arith}
+use Rattle.std.proofs.Common.{arith}
 use Rattle.std.specs.Prelude.{slice_range}
 use Rattle.std.proofs.lemmas.Bool.Decides.{nat_tests}
 use Rattle.pl_verbatim.proofs.ChangeLaws.{other-change, slice-some}

@@ -93,10 +93,6 @@ other-change separator quote form own field written other change o type fits is 
       written_is = own_change.written_is;
     }
 
--- where no texts mean null, each field is such a one
-pub other-none : (form : Form) (quote : ℕ) (field : List ℕ) → form.nulls ≡ None → IsOtherField (null_test_of form) quote field
-other-none form quote field none reading type = ap (λ n. cell reading (means_null n 0) (Some quote) type field) none
-
 -- nothing is missing: a null
 pub missing-change : (separator quote : ℕ) (form : Form) (own : Kind) → IsChangeOfKind separator quote form (null_test_of form) own [] form.null.items
 missing-change separator quote form own o type fits is can holds =

@@ -23,3 +23,5 @@ mod MomentCellLaws
 mod NullLaws
 mod ChangeLaws
 mod RowChangeLaws
+mod StartLaws
+mod SameLaws

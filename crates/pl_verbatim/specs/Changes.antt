@@ -27,6 +27,12 @@ pub record IsFormOf (o : WriteOptions) (quote : ℕ) (form : Form) : Type 0 wher
   pub null_is : form.null.items ≡ written_null o
   pub terminator_is : form.terminator.items ≡ o.terminator
 
+-- only nulls are written otherwise than they are read, where this separator stands between fields
+pub record IsAlike (form : Form) (separator : ℕ) : Type 0 where
+  pub separator_is : form.separator ≡ separator
+  pub values_are : form.quotes_values ≡ false
+  pub terminator_is : form.terminator.items ≡ 10 ∷ []
+
 -- ---- texts that mean null
 
 -- a field is null, whatever the type of its column

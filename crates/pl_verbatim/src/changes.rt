@@ -1,7 +1,7 @@
 //! Rows that are written otherwise than they were read: what is written of them is put into a block.
-ghost use Rattle.std.specs.Prelude.{◌≡◌, ◌+◌, ◌-◌, None, Some, ◌<◌, ◌≤◌, ◌∷◌, [], ◌++◌, true, length, take, slice_range, IfSome, IfNone};
+ghost use Rattle.std.specs.Prelude.{◌≡◌, ◌+◌, ◌-◌, None, Some, ◌<◌, ◌≤◌, ◌∷◌, [], ◌++◌, true, false, length, get_or, take, slice_index, slice_range, IfSome, IfNone};
 ghost use Rattle.std.specs.List.{All};
-ghost use Rattle.pl_verbatim.specs.Nulls.{are_alike};
+ghost use Rattle.pl_verbatim.specs.Nulls.{are_alike, AreStartsOf};
 ghost use Rattle.pl_verbatim.specs.Changes.{found_text, IsCellPut, IsRowPut};
 ghost use Rattle.pl_verbatim.specs.CellTexts.{zeros_text};
 ghost use Rattle.pl_verbatim.specs.Kinds.{is_sound_kind};
@@ -11,7 +11,6 @@ use crate::found::{Found, find};
 use crate::kinds::Kind;
 use crate::marks::Marks;
 use crate::nulls::{means_null, null_end};
-use pl_cells::null_values::NullValuesCompiled;
 use pl_write::puts::{put_byte, put_byte_if, put_bytes};
 
 // What is written of a cell needs no more room beside its text: two quotes, a point and zeros, a mark, and what a copy of fixed size puts behind it.
@@ -111,7 +110,8 @@ fn put_value<const CALLER: usize>(
     requires sound { is_sound_kind kind ≡ true }
     requires ascii { quote < 128 }
     requires place { place ≤ length out.old }
-    requires none { form.now.nulls ≡ None }
+    requires begin { AreStartsOf form.now.nulls form.now.starts }
+    requires other { get_or form.now.starts (slice_index text.now at) false ≡ false }
     ensures put { IfSome result (λ put. IsCellPut text.now at (put.0 + 1) kind mark separator quote form.now (take place out.old) (take put.1 out.new)) }
     ensures inside { IfSome result (λ put. put.0 < length text.now) }
     ensures within { IfSome result (λ put. put.1 < length out.new) }
@@ -123,7 +123,7 @@ fn put_value<const CALLER: usize>(
     Some((found.end, end))
 }
 
-// The same where texts mean null.
+// The same where the field may be a text that means null.
 #[inline(never)]
 fn put_unless_null(
     text: &[u8],
@@ -133,7 +133,6 @@ fn put_unless_null(
     separator: u8,
     quote: u8,
     form: &Form,
-    nulls: &NullValuesCompiled,
     out: &mut [u8],
     place: usize,
 ) -> Option<(usize, usize)>
@@ -141,14 +140,16 @@ fn put_unless_null(
     requires sound { is_sound_kind kind ≡ true }
     requires ascii { quote < 128 }
     requires place { place ≤ length out.old }
-    requires nulls { form.now.nulls ≡ Some nulls.now }
-    requires alike { are_alike (Some nulls.now) ≡ true }
+    requires alike { are_alike form.now.nulls ≡ true }
     ensures put { IfSome result (λ put. IsCellPut text.now at (put.0 + 1) kind mark separator quote form.now (take place out.old) (take put.1 out.new)) }
     ensures inside { IfSome result (λ put. put.0 < length text.now) }
     ensures within { IfSome result (λ put. put.1 < length out.new) }
     ensures long { length out.new ≡ length out.old }
     ensures unchanged { IfNone result (out.new ≡ out.old) }
 {
+    let Some(nulls) = &form.nulls else {
+        return None;
+    };
     match find::<9>(text, at, kind, mark, separator, quote, form) {
         Some(found) => {
             if means_null(nulls, &text[at..found.end], quote)? {
@@ -186,6 +187,7 @@ fn put_cell<const CALLER: usize>(
     requires ascii { quote < 128 }
     requires place { place ≤ length out.old }
     requires alike { are_alike form.now.nulls ≡ true }
+    requires begin { AreStartsOf form.now.nulls form.now.starts }
     ensures put { IfSome result (λ put. IsCellPut text.now at put.0 kind mark separator quote form.now (take place out.old) (take put.1 out.new)) }
     ensures within { IfSome result (λ put. put.1 < length out.new) }
     ensures long { length out.new ≡ length out.old }
@@ -199,11 +201,10 @@ fn put_cell<const CALLER: usize>(
         let end = put_text(&form.null, out, place)?;
         return Some((marks.pass(ahead, text, at, separator), end));
     }
-    let put = match &form.nulls {
-        Some(nulls) => put_unless_null(
-            text, at, kind, mark, separator, quote, form, nulls, out, place,
-        ),
-        None => put_value::<CALLER>(text, at, kind, mark, separator, quote, form, out, place),
+    let put = if form.starts[text[at] as usize] {
+        put_unless_null(text, at, kind, mark, separator, quote, form, out, place)
+    } else {
+        put_value::<CALLER>(text, at, kind, mark, separator, quote, form, out, place)
     };
     let (field_end, end) = put?;
     Some((marks.pass(ahead, text, field_end, separator), end))
@@ -228,6 +229,7 @@ pub(crate) fn put_row(
     requires ascii { quote < 128 }
     requires place { from ≤ length out.old }
     requires alike { are_alike form.now.nulls ≡ true }
+    requires begin { AreStartsOf form.now.nulls form.now.starts }
     ensures some { IfSome result (λ put. 0 < length kinds.now) }
     ensures after { IfSome result (λ put. start < put.0) }
     ensures within { IfSome result (λ put. put.0 ≤ length text.now) }

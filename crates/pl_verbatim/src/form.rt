@@ -1,6 +1,6 @@
 //! How rows are written that are written otherwise than they were read.
 ghost use Rattle.std.specs.Prelude.{◌≡◌, true};
-ghost use Rattle.pl_verbatim.specs.Nulls.{are_alike};
+ghost use Rattle.pl_verbatim.specs.Nulls.{are_alike, AreStartsOf};
 
 use pl_cells::null_values::NullValuesCompiled;
 
@@ -19,5 +19,8 @@ pub(crate) struct Form {
     pub(crate) terminator: Vec<u8>,
     // The texts that mean null, in each column the same.
     pub(crate) nulls: Option<NullValuesCompiled>,
+    // Whether one of these begins with a byte.
+    pub(crate) starts: [bool; 256],
     ghost alike: { are_alike nulls ≡ true },
+    ghost begin: { AreStartsOf nulls starts },
 }

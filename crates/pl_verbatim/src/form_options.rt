@@ -1,17 +1,19 @@
 //! The form of rows that are written otherwise than they were read, by the options.
-ghost use Rattle.std.specs.Prelude.{◌≡◌, ◌<◌, ℕ, true, not, IfOk};
+ghost use Rattle.std.specs.Prelude.{◌≡◌, ◌<◌, ℕ, true, not, List, [], ◌∷◌, ◌++◌, Some, IfOk};
+ghost use Rattle.std.specs.Bool.{OnTrue};
 ghost use Rattle.pl_frame.specs.declared.data_type.DataType.{DataType};
 ghost use Rattle.pl_frame.specs.Types.{is_numeric};
 ghost use Rattle.pl_text.specs.FrameText.{WriteOptions, is_bare, written_null};
 ghost use Rattle.std.specs.Option.{option_map};
 ghost use Rattle.pl_write.specs.Options.{cell_options};
-ghost use Rattle.pl_verbatim.specs.Changes.{IsFormOf};
-ghost use Rattle.pl_verbatim.specs.Nulls.{are_alike};
+ghost use Rattle.pl_verbatim.specs.Changes.{IsAlike, IsFormOf};
+ghost use Rattle.pl_verbatim.specs.Nulls.{are_alike, AreStarts, AreStartsOf};
 ghost use Rattle.pl_verbatim.specs.Kinds.{IsKindOf};
 
 use crate::form::Form;
 use crate::kinds::Kind;
 use pl_cells::null_values::NullValuesCompiled;
+use pl_frame::name::PlSmallStr;
 use pl_write::options::{QuoteStyle, SerializeOptions};
 use std::alloc::{AllocError, Global};
 
@@ -53,6 +55,54 @@ fn nulls_of(nulls: Option<&NullValuesCompiled>) -> Result<Option<NullValuesCompi
     }
 }
 
+// Marks the byte with which a text begins, unless it is empty.
+fn mark_start(starts: &mut [bool; 256], text: &PlSmallStr)
+    ensures { (texts : List (List ℕ)) → AreStarts texts starts.old → AreStarts (texts ++ text.now ∷ []) starts.new }
+{
+    let bytes = text.as_str().as_bytes();
+    if !bytes.is_empty() {
+        starts[bytes[0] as usize] = true;
+    }
+}
+
+// Whether one of these texts begins with a byte.
+fn starts_among(texts: &[PlSmallStr]) -> [bool; 256]
+    ensures { AreStarts texts.now result }
+{
+    let mut starts = [false; 256];
+    for text in texts {
+        mark_start(&mut starts, text);
+    }
+    starts
+}
+
+// Whether one of the texts that mean null begins with a byte.
+fn starts_of(nulls: &NullValuesCompiled) -> [bool; 256]
+    requires { are_alike (Some nulls.now) ≡ true }
+    ensures { AreStartsOf (Some nulls.now) result }
+{
+    match nulls {
+        NullValuesCompiled::AllColumnsSingle(text) => {
+            let mut starts = [false; 256];
+            mark_start(&mut starts, text);
+            starts
+        }
+        NullValuesCompiled::AllColumns(texts) => starts_among(texts.texts()),
+        NullValuesCompiled::Columns(_) => [false; 256],
+    }
+}
+
+// The same where there may be none.
+fn starts_where(nulls: Option<&NullValuesCompiled>) -> [bool; 256]
+    requires { are_alike (option_map (λ nulls. nulls.now) nulls) ≡ true }
+    ensures { AreStartsOf (option_map (λ nulls. nulls.now) nulls.entry) result }
+{
+    match nulls {
+        Some(nulls) => starts_of(nulls),
+        None => [false; 256],
+    }
+}
+
 impl Form {
     /// The form of these options, where these texts mean null. Refuses only want of memory.
     pub(crate) fn of(
@@ -67,12 +117,22 @@ impl Form {
     {
         Ok(Form {
             nulls: nulls_of(nulls)?,
+            starts: starts_where(nulls),
             separator: options.separator,
             quotes_numbers: options.quote_style == QuoteStyle::Always,
             quotes_values: options.quote_style != QuoteStyle::Necessary,
             null: null_of(alloc, options)?,
             terminator: copy_of(alloc, options.line_terminator.as_str().as_bytes())?,
         })
+    }
+
+    /// Whether only nulls are written otherwise than they are read, where this separator stands between fields.
+    pub(crate) fn is_alike(&self, separator: u8) -> bool
+        ensures { OnTrue result (IsAlike self.now separator) }
+    {
+        self.separator == separator
+            && !self.quotes_values
+            && matches!(self.terminator.as_slice(), [b'\n'])
     }
 
     /// Whether a value of a kind that is no text stands between quotes.

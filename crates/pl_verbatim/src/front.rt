@@ -12,13 +12,14 @@ ghost use Rattle.pl_write.specs.Options.{cell_options};
 ghost use Rattle.pl_verbatim.specs.Kinds.{AreReadable, AreKindsOf, is_sound_kind};
 ghost use Rattle.pl_verbatim.specs.PrintedTexts.{CanPrint, IsFrontPrinted};
 ghost use Rattle.pl_verbatim.specs.CellTexts.{as_read};
+ghost use Rattle.pl_verbatim.specs.Changes.{IsAlike};
 ghost use Rattle.pl_verbatim.specs.Verbatim.{IsReadSo, IsVerbatimOf, AreRowsCopied};
 
 use crate::changes::put_row;
 use crate::form::Form;
 use crate::kinds::{Kind, kind_of};
 use crate::marks::Marks;
-use crate::rows::{copy_row, row_end};
+use crate::rows::{copy_row, row_end, same_row_end};
 use crate::verbatim::{Verbatim, VerbatimFront};
 use pl_cells::null_values::NullValuesCompiled;
 use pl_frame::schema::Schema;
@@ -145,7 +146,13 @@ impl Verbatim {
             → IsFrontPrinted plan schema o text.now result.end result.rows (take result.end text.now) }
     {
         match &self.form {
-            Some(_) => VerbatimFront { end: 0, rows: 0 },
+            Some(form) => {
+                if form.is_alike(self.separator) {
+                    self.front_alike(text, form)
+                } else {
+                    VerbatimFront { end: 0, rows: 0 }
+                }
+            }
             None => self.front_same(text),
         }
     }
@@ -168,6 +175,35 @@ impl Verbatim {
                 &self.kinds,
                 self.separator,
                 self.quote_char,
+                &mut marks,
+            ) {
+                Some(next) => end = next,
+                None => break,
+            }
+            rows += 1;
+        }
+        VerbatimFront { end, rows }
+    }
+
+    // What `front` does of rows that are written by a form that is alike: those without a null that is written otherwise than it was read.
+    fn front_alike(&self, text: &[u8], form: &Form) -> VerbatimFront
+        requires form { self.now.form ≡ Some form.now }
+        requires alike { IsAlike form.now self.now.separator }
+        ensures { (plan : RangePlan) (schema : List Entry) (o : WriteOptions) → CanPrint plan schema → IsVerbatimOf plan schema o self.now
+            → IsFrontPrinted plan schema o text.now result.end result.rows (take result.end text.now) }
+    {
+        rows_return();
+        let mut end = 0;
+        let mut rows = 0;
+        let mut marks = Marks::later(end);
+        while end < text.len() {
+            match same_row_end(
+                text,
+                end,
+                &self.kinds,
+                self.separator,
+                self.quote_char,
+                form,
                 &mut marks,
             ) {
                 Some(next) => end = next,

@@ -17,6 +17,7 @@ mod marks;
 mod moments;
 mod nulls;
 mod rows;
+mod same;
 mod texts;
 pub mod verbatim;
 mod wholes;

@@ -1,9 +1,20 @@
 -- What is put of a cell is what is written of it.
-use Rattle.std.proofs.Common.{◌++◌, take, ap, sym, subst, ◌∙◌, arith}
-use Rattle.pl_verbatim.specs.Changes.{IsChangeOfKind, null_test_of}
+use Rattle.std.proofs.Common.{◌≡◌, ℕ, ◌+◌, ◌<◌, ◌≤◌, List, ◌++◌, length, take, Option, None, Some, ap, sym, subst, ◌∙◌, arith}
+use Rattle.std.specs.Prelude.{IfSome, IfNone}
+use Rattle.pl_verbatim.specs.declared.form.Form.{Form}
+use Rattle.pl_verbatim.specs.declared.kinds.Kind.{Kind}
+use Rattle.pl_verbatim.specs.Changes.{IsChangeOfKind, IsCellPut, null_test_of}
 use Rattle.pl_verbatim.proofs.ChangeLaws.{missing-change}
+use Rattle.pl_verbatim.proofs.FrontKeptLaws.{front-kept}
 use Rattle.pl_verbatim.proofs.RowLaws.{nothing}
 use Rattle.pl_verbatim.proofs.changes.put_cell.Goals as goal
+use Rattle.pl_verbatim.proofs.changes.put_cell.Goals.{then-form-text, else-form-text}
+
+-- what stands in front stays, whether something is put or not
+stays : (put : Option (ℕ × ℕ)) (text : List ℕ) (at : ℕ) (kind : Kind) (mark separator quote : ℕ) (form : Form) (place : ℕ) (old now : List ℕ) → place ≤ length old
+    → IfSome put (λ p. IsCellPut text at (p.0 + 1) kind mark separator quote form (take place old) (take p.1 now)) → IfSome put (λ p. p.1 < length now) → IfNone put (now ≡ old) → take place now ≡ take place old
+stays None text at kind mark separator quote form place old now low is within same = ap (take place) same
+stays (Some p) text at kind mark separator quote form place old now low is within same = front-kept place p.1 old now is.written low (omega (arith, within)) is.now_is
 
 pub returns-then-text-at-clause-put : goal.returns-then-text-at-clause-put
 returns-then-text-at-clause-put g c = record {
@@ -18,3 +29,17 @@ returns-then-text-at-clause-put g c = record {
       subst (λ l. IsChangeOfKind c.args.separator c.args.quote c.args.form.now (null_test_of c.args.form.now) c.args.kind l c.args.form.now.null.items) (sym (nothing c.args.text.now c.args.at))
       (missing-change c.args.separator c.args.quote c.args.form.now c.args.kind);
 }
+
+pub returns-clause-kept : goal.returns-clause-kept
+returns-clause-kept g c = elim c.if-form-text.branch [
+  | then-form-text w ↦
+      let put = w.put_unless_null-put in
+      ap (take c.args.place) w.out-is
+      ∙ stays put.result c.args.text.now c.args.at c.args.kind c.args.mark c.args.separator c.args.quote c.args.form.now c.args.place c.args.out.now put.new.out c.requires.place put.ensures.put put.ensures.within
+      put.ensures.unchanged
+  | else-form-text w ↦
+      let put = w.put_value-put in
+      ap (take c.args.place) w.out-is
+      ∙ stays put.result c.args.text.now c.args.at c.args.kind c.args.mark c.args.separator c.args.quote c.args.form.now c.args.place c.args.out.now put.new.out c.requires.place put.ensures.put put.ensures.within
+      put.ensures.unchanged
+]

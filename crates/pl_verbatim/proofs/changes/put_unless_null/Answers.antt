@@ -7,38 +7,38 @@ use Rattle.pl_verbatim.proofs.changes.put_unless_null.Goals as goal
 
 pub returns-then-branch-clause-put : goal.returns-then-branch-clause-put
 returns-then-branch-clause-put c =
-    let found = c.in-Some.ensures in
-    let field = slice_range c.args.text.now c.args.at c.in-Some.found.end in
+    let found = c.in-Some-find.ensures in
+    let field = slice_range c.args.text.now c.args.at c.in-Some-find.found.end in
     record {
-      end = c.in-Some.found.end;
+      end = c.in-Some-find.found.end;
       next_is = refl;
       after = found.after;
       within = found.within;
       mark_is = found.mark_is;
       written = c.args.form.now.null.items;
-      now_is = c.in_ok-end-in-Some.ensures.text ∙ ap (λ l. take c.args.place c.args.out.now ++ l) c.deref.ensures.value;
+      now_is = c.in_ok-end-in-Some-find.ensures.text ∙ ap (λ l. take c.args.place c.args.out.now ++ l) c.deref.ensures.value;
       cell =
           null-change c.args.separator c.args.quote c.args.form.now c.args.kind field
-          (null-of c.args.form.now c.args.nulls.now c.args.quote field c.requires.nulls (c.in_ok-means_null-in-Some.ensures.null c.if-branch.true))
+          (null-of c.args.form.now c.in-Some.nulls c.args.quote field c.in-Some.is (c.in_ok-means_null-in-Some-find.ensures.null c.if-branch.true))
           (λ o fits is type can holds. (found.cell o type fits is can holds).field_text);
     }
 
-pub returns-in_ok-end-in-Some-2-clause-put : goal.returns-in_ok-end-in-Some-2-clause-put
-returns-in_ok-end-in-Some-2-clause-put c =
-    let found = c.in-Some.ensures in
-    let field = slice_range c.args.text.now c.args.at c.in-Some.found.end in
-    let written = found_text c.args.text.now c.args.quote c.in-Some.found in
+pub returns-in_ok-end-in-Some-find-2-clause-put : goal.returns-in_ok-end-in-Some-find-2-clause-put
+returns-in_ok-end-in-Some-find-2-clause-put c =
+    let found = c.in-Some-find.ensures in
+    let field = slice_range c.args.text.now c.args.at c.in-Some-find.found.end in
+    let written = found_text c.args.text.now c.args.quote c.in-Some-find.found in
     record {
-      end = c.in-Some.found.end;
+      end = c.in-Some-find.found.end;
       next_is = refl;
       after = found.after;
       within = found.within;
       mark_is = found.mark_is;
       written = written;
-      now_is = c.in_ok-end-in-Some-2.ensures.text;
+      now_is = c.in_ok-end-in-Some-find-2.ensures.text;
       cell =
           other-change c.args.separator c.args.quote c.args.form.now c.args.kind field written
-          (other-of c.args.form.now c.args.nulls.now c.args.quote field c.requires.nulls (c.in_ok-means_null-in-Some.ensures.other c.if-branch.false)) found.cell;
+          (other-of c.args.form.now c.in-Some.nulls c.args.quote field c.in-Some.is (c.in_ok-means_null-in-Some-find.ensures.other c.if-branch.false)) found.cell;
     }
 
 pub returns-in_ok-end-in-None-clause-put : goal.returns-in_ok-end-in-None-clause-put
@@ -55,6 +55,6 @@ returns-in_ok-end-in-None-clause-put c =
       now_is = c.in_ok-end-in-None.ensures.text ∙ ap (λ l. take c.args.place c.args.out.now ++ l) c.deref-in-None.ensures.value;
       cell =
           null-change c.args.separator c.args.quote c.args.form.now c.args.kind field
-          (null-of c.args.form.now c.args.nulls.now c.args.quote field c.requires.nulls next.ensures.null)
+          (null-of c.args.form.now c.in-Some.nulls c.args.quote field c.in-Some.is next.ensures.null)
           (bare-stands c.args.separator c.args.quote c.args.form.now c.args.kind field next.ensures.bare);
     }

@@ -1,7 +1,8 @@
 use Rattle.std.proofs.Common.{refl}
 use Rattle.std.specs.Prelude.{slice_range}
 use Rattle.pl_verbatim.specs.Changes.{found_text}
-use Rattle.pl_verbatim.proofs.ChangeLaws.{other-change, other-none}
+use Rattle.pl_verbatim.proofs.ChangeLaws.{other-change}
+use Rattle.pl_verbatim.proofs.StartLaws.{other-start}
 use Rattle.pl_verbatim.proofs.changes.put_value.Goals as goal
 
 pub returns-clause-put : goal.returns-clause-put
@@ -19,5 +20,5 @@ returns-clause-put g c =
       now_is = c.in_ok-end.ensures.text;
       cell =
           other-change c.args.separator c.args.quote c.args.form.now c.args.kind field written
-          (other-none c.args.form.now c.args.quote field c.requires.none) found.cell;
+          (other-start c.args.form.now c.args.quote c.args.text.now c.args.at c.in_ok-found.found.end c.requires.begin c.requires.other c.requires.inside found.after) found.cell;
     }

@@ -25,6 +25,9 @@ _UNITS = ("ms", "us", "ns")
 _EPOCH = datetime.datetime(1970, 1, 1)
 _FLOATS = ("exact", "float")
 
+# What numpy calls the numbers of a type, where they are no plain whole numbers.
+_WORDS = {"date": "<M8[D]", "time": "<m8[ns]"}
+
 
 class _Owner:
     """Owns what the library made for a frame, and frees it once: when nothing shows it any more."""
@@ -41,9 +44,11 @@ class _Owner:
 class _Held:
     """An array in the library's memory, as numpy asks for it. The numpy array keeps this, and this the owner."""
 
-    def __init__(self, owner: _Owner, at: int, length: int, kind: str):
+    __slots__ = ("owner", "__array_interface__")
+
+    def __init__(self, owner: _Owner, at: int, shape: tuple[int, ...], kind: str):
         self.owner = owner
-        self.__array_interface__ = {"version": 3, "typestr": kind, "shape": (length,), "data": (at, True)}
+        self.__array_interface__ = {"version": 3, "typestr": kind, "shape": shape, "data": (at, True)}
 
 
 class _View(NamedTuple):
@@ -87,16 +92,16 @@ def _views(view: _library.FrameView) -> list[_View]:
     if not view.width:
         return []
     words = ctypes.cast(view.columns, ctypes.POINTER(ctypes.c_uint64))
-    return [_View(*it) for it in numpy.ctypeslib.as_array(words, (view.width, count)).tolist()]
+    return [_View._make(it) for it in numpy.ctypeslib.as_array(words, (view.width, count)).tolist()]
 
 
-def _shown(owner: _Owner, at: int, length: int, kind: str) -> numpy.ndarray:
+def _shown(owner: _Owner, at: int, shape: tuple[int, ...], kind: str) -> numpy.ndarray:
     """Returns an array over memory of the library, which can't be written."""
-    if not length:
-        array = numpy.empty(0, kind)
+    if not shape[0]:
+        array = numpy.empty(shape, kind)
         array.flags.writeable = False
         return array
-    return numpy.asarray(_Held(owner, at, length, kind))
+    return numpy.asarray(_Held(owner, at, shape, kind))
 
 
 def _texts_at(at: int, count: int) -> list[str]:
@@ -104,14 +109,14 @@ def _texts_at(at: int, count: int) -> list[str]:
     return [ctypes.string_at(texts[it].at, texts[it].len).decode() for it in range(count)]
 
 
-def _type_word(view: _View, name: str, categories: list[str]) -> str:
+def _type_word(view: _View, name: str) -> str:
     """Returns a column's type as a word of docs/command-line.md."""
     if name == "datetime":
         return f"datetime/{_UNITS[view.unit]}"
     if name == "decimal":
         return f"decimal/{view.precision or '-'}/{view.scale}"
     if name == "enum":
-        return "/".join(["enum", *categories])
+        return "/".join(["enum", *_texts_at(view.categories, view.categories_len)])
     return name
 
 
@@ -125,22 +130,49 @@ class Column:
     categories: the texts of a column of categories, else an empty list.
     """
 
-    def __init__(self, owner: _Owner, view: _View):
+    def __init__(self, owner: _Owner, view: _View, all_there: list[numpy.ndarray]):
         self._owner, self._view, self._kind = owner, view, _TYPES[view.type_and_unit & 0xFFFFFFFF]
-        self.name = ctypes.string_at(view.name, view.name_len).decode()
         self.null_count = view.null_count
+        # the flags of a column without nulls, once there are some; the frame's columns share the list
+        self._all_there = all_there
+        # what is made when it is first asked for (functools.cached_property takes a lock each time)
+        self._name: Union[str, None] = None
+        self._dtype: Union[str, None] = None
+        self._categories: Union[list[str], None] = None
+        self._present: Union[numpy.ndarray, None] = None
 
-    @functools.cached_property
-    def categories(self) -> list[str]:
-        return _texts_at(self._view.categories, self._view.categories_len)
+    @property
+    def name(self) -> str:
+        if self._name is None:
+            self._name = ctypes.string_at(self._view.name, self._view.name_len).decode()
+        return self._name
 
-    @functools.cached_property
+    @property
     def dtype(self) -> str:
-        return _type_word(self._view, self._kind, self.categories)
+        if self._dtype is None:
+            self._dtype = _type_word(self._view, self._kind)
+        return self._dtype
 
-    @functools.cached_property
+    @property
+    def categories(self) -> list[str]:
+        if self._categories is None:
+            self._categories = _texts_at(self._view.categories, self._view.categories_len)
+        return self._categories
+
+    @property
     def present(self) -> numpy.ndarray:
-        return _shown(self._owner, self._view.present, self._view.present_len, "|b1")
+        if self._present is None:
+            self._present = self._flags()
+        return self._present
+
+    def _flags(self) -> numpy.ndarray:
+        """Returns which cells are there. Of columns without nulls all flags are set, so those of a frame share one array."""
+        if not self.null_count and self._all_there:
+            return self._all_there[0]
+        flags = _shown(self._owner, self._view.present, (self._view.present_len,), "|b1")
+        if not self.null_count:
+            self._all_there.append(flags)
+        return flags
 
     def __len__(self) -> int:
         return self._view.present_len
@@ -156,40 +188,33 @@ class Column:
 
         Raises OverflowError where a datetime in nanoseconds is outside what numpy can tell (1677 to 2262).
         """
-        view = self._view
-        if self._kind in ("decimal", "int128"):
+        kind, view = self._kind, self._view
+        if kind in ("decimal", "int128"):
             return self.words
-        if self._kind == "uint64":
+        if kind == "uint64":
             return self.words[:, 0]
-        if self._kind == "datetime" and view.unit == 2:
+        if kind == "datetime" and view.unit == 2:
             return _nanoseconds(self.words)
-        numbers = _shown(self._owner, view.numbers, view.numbers_len, "<i8")
-        if self._kind == "boolean":
-            return numbers.astype(bool)
-        if self._kind == "date":
-            return numbers.view("datetime64[D]")
-        if self._kind == "time":
-            return numbers.view("timedelta64[ns]")
-        if self._kind == "datetime":
-            return numbers.view(f"datetime64[{_UNITS[view.unit]}]")
-        if self._kind in ("string", "null"):
+        if kind in ("string", "null"):
             raise TypeError(f"pl_csv: column {self.name!r} of {self.dtype} has no array of values: see to_list, ends and data")
-        return numbers
+        word = f"<M8[{_UNITS[view.unit]}]" if kind == "datetime" else _WORDS.get(kind, "<i8")
+        numbers = _shown(self._owner, view.numbers, (view.numbers_len,), word)
+        return numbers.astype(bool) if kind == "boolean" else numbers
 
     @property
     def words(self) -> numpy.ndarray:
         """The values of a wide column as two `uint64` a row, the low one first."""
-        return _shown(self._owner, self._view.words, self._view.words_len, "<u8").reshape(-1, 2)
+        return _shown(self._owner, self._view.words, (self._view.words_len // 2, 2), "<u8")
 
     @property
     def ends(self) -> numpy.ndarray:
         """Where texts end: row k of a column of strings is `data[ends[k] : ends[k + 1]]`."""
-        return _shown(self._owner, self._view.ends, self._view.ends_len, "<u8").view("<i8")
+        return _shown(self._owner, self._view.ends, (self._view.ends_len,), "<i8")
 
     @property
     def data(self) -> numpy.ndarray:
         """The bytes of all texts of a column of strings, in UTF-8."""
-        return _shown(self._owner, self._view.bytes, self._view.bytes_len, "|u1")
+        return _shown(self._owner, self._view.bytes, (self._view.bytes_len,), "|u1")
 
     def __array__(self, dtype: Any = None) -> numpy.ndarray:
         if self._kind in ("string", "category", "enum", "decimal", "int128", "null"):
@@ -353,8 +378,13 @@ class Frame:
         self.height, self.width = view.height, view.width
 
     @functools.cached_property
+    def _listed(self) -> list[Column]:
+        all_there: list[numpy.ndarray] = []
+        return [Column(self._owner, view, all_there) for view in _views(self._owner.view)]
+
+    @functools.cached_property
     def _columns(self) -> dict[str, Column]:
-        return {it.name: it for it in (Column(self._owner, view) for view in _views(self._owner.view))}
+        return {it.name: it for it in self._listed}
 
     @property
     def columns(self) -> list[str]:
@@ -375,7 +405,7 @@ class Frame:
         return self.height
 
     def __iter__(self) -> Iterator[Column]:
-        return iter(self._columns.values())
+        return iter(self._listed)
 
     def __getitem__(self, name: Union[str, int]) -> Column:
         """Returns the column of a name, or at a place.
@@ -384,7 +414,7 @@ class Frame:
         """
         if isinstance(name, str):
             return self._columns[name]
-        return list(self._columns.values())[name]
+        return self._listed[name]
 
     def __contains__(self, name: object) -> bool:
         return name in self._columns

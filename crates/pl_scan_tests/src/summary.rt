@@ -1,5 +1,6 @@
 //! Tests of `pl_scan::summary`.
 
+use pl_scan::closes::closes;
 use pl_scan::comment::CommentPrefix;
 use pl_scan::dialect::dialect_ok;
 use pl_scan::line_cuts::line_cuts;
@@ -74,5 +75,30 @@ fn what_a_quote_means_depends_on_where_it_stands(rt: HostRuntime) {
         (b"1\n", LineState::Start, LineState::Open),
     ] {
         assert!(rt; of_piece(piece, Some(&prefix)) == told(from_start, from_open));
+    }
+}
+
+#[test]
+fn texts_of_many_quotes_and_marks_end_as_closes_tells(rt: HostRuntime) {
+    let mut seed = 1u64;
+    for turn in 0..200usize {
+        let len = 64 + turn % 137;
+        let mut text = [b'\n'; 200];
+        for place in 0..len - 1 {
+            seed = seed
+                .wrapping_mul(6364136223846793005)
+                .wrapping_add(1442695040888963407);
+            text[place] = b"a,\"\n"[(seed >> 62) as usize];
+        }
+        let piece = &text[..len];
+        let state = match closes(piece, b',', Some(b'"'), b'\n', None) {
+            true => LineState::Start,
+            false => LineState::Open,
+        };
+        let told = of_piece(piece, None);
+        assert!(rt;
+            matches!(told, Some(summary) if summary.from_start == state),
+            "of {piece:?}"
+        );
     }
 }

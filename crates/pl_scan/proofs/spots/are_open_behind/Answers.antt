@@ -1,6 +1,7 @@
 use Rattle.std.proofs.Common.{◌≡◌, ℕ, ◌+◌, ◌-◌, ◌*◌, ◌/◌, ◌<◌, ◌≤◌, List, length, take, drop, get_or, refl, ap, ◌∙◌, arith, length-drop}
 use Rattle.std.proofs.lemmas.List.{get_or-drop, get_or-take, length-take-le}
-use Rattle.pl_frame.specs.Dialect.{Marks, marks}
+use Rattle.pl_frame.specs.Dialect.{Marks}
+use Rattle.pl_scan.specs.SpotRows.{marks_of}
 use Rattle.pl_scan.specs.Spots.{is_odd_spot}
 use Rattle.pl_scan.specs.declared.spots.Spot.TheVariants.{Begin, Odd}
 use Rattle.pl_scan.proofs.SpotStepLaws.{IsPadded, odd-behind}
@@ -19,20 +20,20 @@ padded-is m b block tail n within few is own behind =
 
 pub returns-clause-first : goal.returns-clause-first
 returns-clause-first c =
-    let m = marks c.args.separator c.args.quote_char c.args.eol_char in
+    let m = marks_of c.args.steps.now in
     let b = c.args.bytes.now in
     let n = length b / 64 * 64 in
     let padded = padded-is m b c.padded-block.result _ n (omega arith) (omega arith) refl c.padded-block.ensures.tail c.padded-block.ensures.behind in
     c.is_odd_spot.ensures
     ∙ ap is_odd_spot c.behind_block-first.ensures.first
-    ∙ odd-behind m Begin c.behind_blocks-spots.result.0 b c.padded-block.result n (length b - n) c.requires padded (omega arith) c.behind_blocks-spots.ensures.first
+    ∙ odd-behind m Begin c.behind_blocks-spots.result.0 b c.padded-block.result n (length b - n) c.requires.apart padded (omega arith) c.behind_blocks-spots.ensures.first
 
 pub returns-clause-second : goal.returns-clause-second
 returns-clause-second c =
-    let m = marks c.args.separator c.args.quote_char c.args.eol_char in
+    let m = marks_of c.args.steps.now in
     let b = c.args.bytes.now in
     let n = length b / 64 * 64 in
     let padded = padded-is m b c.padded-block.result _ n (omega arith) (omega arith) refl c.padded-block.ensures.tail c.padded-block.ensures.behind in
     c.is_odd_spot-2.ensures
     ∙ ap is_odd_spot c.behind_block-first.ensures.second
-    ∙ odd-behind m Odd c.behind_blocks-spots.result.1 b c.padded-block.result n (length b - n) c.requires padded (omega arith) c.behind_blocks-spots.ensures.second
+    ∙ odd-behind m Odd c.behind_blocks-spots.result.1 b c.padded-block.result n (length b - n) c.requires.apart padded (omega arith) c.behind_blocks-spots.ensures.second

@@ -42,6 +42,7 @@ kind-other kind.Boolean other type holds = ap is_text holds
 kind-other kind.Date other type holds = ap is_text holds
 kind-other (kind.Decimal digits scale) other type holds = ap is_text holds.type_is
 kind-other (kind.Datetime places) other type holds = ap is_text holds.type_is
+kind-other kind.Passed other type holds = absurd holds
 
 -- datetimes are not numeric
 pub moment-quotes : (form : Form) (places : ℕ) (o : WriteOptions) (q : ℕ) (type : DataType) → IsFormOf o q form → IsKindOf type (kind.Datetime places) → form.quotes_values ≡ not (is_bare o.style (is_numeric type))

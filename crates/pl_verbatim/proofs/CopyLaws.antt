@@ -105,7 +105,7 @@ abbrev pub IsInnerOfKind : ℕ → ℕ → Kind → List ℕ → Type 0
 IsInnerOfKind separator quote kind text = IsCopyOfKind separator quote kind (quote ∷ (text ++ quote ∷ [])) text
 
 -- texts
-bare-written : (o : WriteOptions) (text : List ℕ) → o.style ≡ 0 → needs_quotes o.separator o.quote text ≡ false → text ≡ written_text o text
+pub bare-written : (o : WriteOptions) (text : List ℕ) → o.style ≡ 0 → needs_quotes o.separator o.quote text ≡ false → text ≡ written_text o text
 bare-written o text style bare = rw (style, bare) refl
 
 text-copy : (o : WriteOptions) (separator quote : ℕ) (type : DataType) (text : List ℕ) → FitsOptions o → IsCellOptions o separator quote → is_any_text type ≡ true → IsBareText separator quote text
@@ -123,7 +123,7 @@ text-inner separator quote own text is b =
     subst (λ q. IsCopyOf o type (q ∷ (text ++ q ∷ [])) text) options.quote_is (text-copy o separator quote type text fits options holds b))
 
 -- values that are no texts
-value-written : (o : WriteOptions) (numeric : Bool) (text : List ℕ) → o.style ≡ 0 → written_value o numeric text ≡ text
+pub value-written : (o : WriteOptions) (numeric : Bool) (text : List ℕ) → o.style ≡ 0 → written_value o numeric text ≡ text
 value-written o numeric text style = rw style refl
 
 value-copy : (o : WriteOptions) (separator quote : ℕ) (type : DataType) (value : Scalar) (text : List ℕ) → FitsOptions o → IsCellOptions o separator quote → is_readable type ≡ true → is_text type ≡ false

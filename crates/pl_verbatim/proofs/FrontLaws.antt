@@ -1,16 +1,16 @@
 -- Rows that are copied, one behind the other.
-use Rattle.std.proofs.Common.{◌≡◌, ℕ, ◌+◌, ◌<◌, ◌≤◌, List, [], ◌++◌, length, sym, ◌∙◌, ap, subst, arith, append-nil, append_assoc}
+use Rattle.std.proofs.Common.{◌≡◌, ℕ, ◌+◌, ◌<◌, ◌≤◌, List, [], ◌++◌, length, map, sym, ◌∙◌, ap, subst, arith, append-nil, append_assoc}
 use Rattle.std.specs.Prelude.{None, Some, slice_range}
 use Rattle.pl_round_trip.specs.RoundTrip.{RowsReturn}
 use Rattle.pl_verbatim.specs.declared.form.Form.{Form}
 use Rattle.pl_verbatim.specs.declared.kinds.Kind.{Kind}
 use Rattle.pl_verbatim.specs.declared.verbatim.Verbatim.{Verbatim}
 use Rattle.pl_verbatim.specs.PrintedTexts.{IsTextPrinted}
-use Rattle.pl_verbatim.specs.Kinds.{AreKindsOf}
+use Rattle.pl_verbatim.specs.Kinds.{AreKindsOf, read_columns}
 use Rattle.pl_verbatim.specs.CellTexts.{as_read}
 use Rattle.pl_verbatim.specs.Changes.{IsRowPut, null_test_of}
 use Rattle.pl_verbatim.specs.Verbatim.{IsRowCopied, AreRowsCopied}
-use Rattle.pl_verbatim.proofs.LineLaws.{are-readable, copy-printed, change-printed}
+use Rattle.pl_verbatim.proofs.LineLaws.{are-readable, all-readable, copy-printed, change-printed}
 use Rattle.pl_verbatim.proofs.NumberLaws.{slice-parts}
 use Rattle.pl_verbatim.proofs.PrintingLaws.{IsTextPrinted-nil, IsTextPrinted-append}
 use Rattle.pl_verbatim.proofs.RowLaws.{nothing}
@@ -36,7 +36,7 @@ copied-more verbatim text from end next rows kinds before lines now copied retur
   within = within;
   printed = λ plan schema o can is.
       let given = is.same none (omega (arith, some, ap length same)) in
-      let line = row.line o schema given.rows.read.fits given.cells (are-readable schema plan.projection.places.now given.rows.read.places can.readable) (subst (AreKindsOf schema) (sym same) given.kinds) in
+      let line = row.line o schema given.rows.read.fits given.cells (all-readable schema plan.projection.places.now given.rows.places can.readable) (subst (AreKindsOf (map Some schema)) (sym same) given.kinds) in
       let both = IsTextPrinted-append plan schema o (slice_range text from end) (slice_range text end next) rows 1 copied.copy row.copy can.dialect (copied.printed plan schema o can is)
       (copy-printed plan schema o can given.rows returns (slice_range text end next) row.copy line) in
       subst (λ t. IsTextPrinted plan schema o t (rows + 1) (copied.copy ++ row.copy)) (sym (slice-parts text from end next copied.after (omega (arith, after)))) both;
@@ -53,8 +53,9 @@ changed-more verbatim form text from end next rows kinds before lines now copied
   within = within;
   printed = λ plan schema o can is.
       let given = is.changed form has (omega (arith, some, ap length same)) in
+      let columns = read_columns 0 schema plan.projection.places.now in
       let line =
-      row.line o schema given.rows.fits given.written (are-readable schema plan.projection.places.now given.rows.places can.readable) (subst (AreKindsOf schema) (sym same) given.kinds) in
+      row.line o columns given.rows.fits given.written (are-readable schema plan.projection.places.now can.readable) (subst (AreKindsOf columns) (sym same) given.kinds) in
       let both = IsTextPrinted-append plan schema o (slice_range text from end) (slice_range text end next) rows 1 copied.copy row.copy can.dialect (copied.printed plan schema o can is)
       (change-printed plan schema (as_read verbatim.separator o) o (null_test_of form) can given.rows given.nulls returns (slice_range text end next) row.copy line) in
       subst (λ t. IsTextPrinted plan schema o t (rows + 1) (copied.copy ++ row.copy)) (sym (slice-parts text from end next copied.after (omega (arith, after)))) both;

@@ -21,7 +21,9 @@ mod RowCopyLaws
 mod MomentTextLaws
 mod MomentCellLaws
 mod NullLaws
+mod PassedLaws
 mod ChangeLaws
 mod RowChangeLaws
 mod StartLaws
 mod SameLaws
+mod SwapLaws

@@ -1,9 +1,10 @@
 -- A line of fields whose cells are known is a row, and what is written of it is known; so a line of texts that are written of cells is
 -- written as it was read.
-use Rattle.std.proofs.Common.{◌≡◌, ℕ, zero, suc, ◌+◌, ◌<◌, Bool, true, false, cond, not, ◌&&◌, ◌||◌, ◌==◌, List, [], ◌∷◌, ◌++◌, length, map, Option, None, Some, refl, sym, ◌∙◌, ap, subst, arith, append-nil, length-append}
+use Rattle.std.proofs.Common.{◌≡◌, ℕ, zero, suc, ◌+◌, ◌<◌, ◌≤◌, Bool, true, false, cond, if◌then◌else◌, not, ◌&&◌, ◌||◌, ◌==◌, List, [], ◌∷◌, ◌++◌, length, map, Option, None, Some, refl, sym, ◌∙◌, ap, subst, arith, append-nil, length-append}
 use Rattle.std.specs.Prelude.{Ok, drop, find, nat_lt}
 use Rattle.std.specs.List.{AllByRecursion, filter_map, flat_map, join_with_byte, last_or, list_any, range_with_len}
 use Rattle.std.proofs.lemmas.Bool.Decides.{nat_tests}
+use Rattle.std.proofs.lemmas.List.{length-map}
 use Rattle.pl_frame.specs.declared.data_type.DataType.{DataType}
 use Rattle.pl_frame.specs.declared.error.FaultKind.{FaultKind}
 use Rattle.pl_frame.specs.declared.error.FaultKind.TheVariants as fault
@@ -27,7 +28,7 @@ use Rattle.pl_rows.specs.declared.plan.RangePlan.{RangePlan}
 use Rattle.pl_rows.specs.Cells.{cell}
 use Rattle.pl_rows.specs.Columns.{read_column, frame_of_rows, entries_in, columns_in}
 use Rattle.pl_rows.specs.Pieces.{EndsItem}
-use Rattle.pl_rows.specs.Plan.{rules_of}
+use Rattle.pl_rows.specs.Plan.{AreRising, rules_of}
 use Rattle.pl_cells.specs.Columns.{field_in}
 use Rattle.pl_rows.specs.Rows.{column_fault, is_forgiven, passes_excess, first_fault}
 use Rattle.pl_rows.specs.WholePieces.{IsSoundText, text_frame}
@@ -38,9 +39,11 @@ use Rattle.pl_round_trip.specs.Fits.{FitsOptions}
 use Rattle.pl_round_trip.specs.RoundTrip.{IsFieldText, RowsReturn, line_marks, line_of}
 use Rattle.pl_verbatim.specs.CellTexts.{IsChangeOf}
 use Rattle.pl_verbatim.specs.Changes.{AreChangesOf, IsLineChangeOf}
-use Rattle.pl_verbatim.specs.Kinds.{AreReadable}
+use Rattle.pl_verbatim.specs.Kinds.{AreReadable, read_columns}
 use Rattle.pl_verbatim.specs.PrintedTexts.{CanPrint, IsTextPrinted}
 use Rattle.pl_verbatim.proofs.CopyLaws.{cell-copy}
+use Rattle.pl_verbatim.proofs.RowChangeLaws.{count-fields}
+use Rattle.pl_verbatim.proofs.SchemaLaws.{count-columns, read-all}
 use Rattle.pl_verbatim.specs.Verbatim.{AreCellsOf, AreCopiesOf, IsLineOf, IsLineCopyOf, AreNulls, IsReadSo, IsWrittenAsRead}
 
 -- no fault for fields past the columns
@@ -54,89 +57,123 @@ first-of same = cc
 
 -- ---- columns of a schema
 
--- a list made of the columns of a schema, numbered from a number on
-abbrev pub spread : {X : Type 0} → (ℕ → Entry → X) → ℕ → List Entry → List X
+-- a list made of the columns that are read, numbered from a number on
+abbrev pub spread : {X : Type 0} → (ℕ → Entry → X) → ℕ → List (Option Entry) → List X
 spread g a [] = []
-spread g a (entry ∷ schema) = g a entry ∷ spread g (a + 1) schema
+spread g a (None ∷ columns) = spread g (a + 1) columns
+spread g a (Some entry ∷ columns) = g a entry ∷ spread g (a + 1) columns
 
--- what is made of all places is made of all columns
-spread-from : {X : Type 0} (g : ℕ → Entry → X) (schema : List Entry) (a : ℕ) (rest : List Entry) → ((k : ℕ) → k < length rest → entry_at schema (a + k) ≡ entry_at rest k)
-    → map (λ place. g place (entry_at schema place)) (range_with_len a (length rest)) ≡ spread g a rest
-spread-from g schema a [] same = refl
-spread-from g schema a (entry ∷ rest) same =
-    let here : entry_at schema a ≡ entry = ap (entry_at schema) (let k : a ≡ a + 0 = omega arith in k) ∙ same 0 (omega arith) in
-    ap (λ e. g a e ∷ map (λ place. g place (entry_at schema place)) (range_with_len (a + 1) (length rest))) here
-    ∙ ap (λ l. g a entry ∷ l) (spread-from g schema (a + 1) rest
-    (λ k below. ap (entry_at schema) (let same_place : a + 1 + k ≡ a + suc k = omega arith in same_place) ∙ same (suc k) (omega (arith, below))))
+module _ {X : Type 0} (g : ℕ → Entry → X) (schema : List Entry) where
+  -- what is made of places that rise is made of the columns that are read
+  spread-from : (a : ℕ) (rest : List Entry) (places : List ℕ) → AreRising a (a + length rest) places → ((k : ℕ) → k < length rest → entry_at schema (a + k) ≡ entry_at rest k)
+      → map (λ place. g place (entry_at schema place)) places ≡ spread g a (read_columns a rest places)
+  spread-from a [] [] rising same = refl
+  spread-from a [] (place ∷ places) rising same = absurd (omega (arith, rising.0, rising.1))
+  spread-from a (entry ∷ rest) [] rising same =
+      spread-from (a + 1) rest [] tt (λ k below. ap (entry_at schema) (let next : a + 1 + k ≡ a + suc k = omega arith in next) ∙ same (suc k) (omega (arith, below)))
+  spread-from a (entry ∷ rest) (place ∷ places) rising same =
+      by (place == a) refl (λ later. spread-from (a + 1) rest places later others) (λ later. spread-from (a + 1) rest (place ∷ places) later others)
+    where
+      others : (k : ℕ) → k < length rest → entry_at schema (a + 1 + k) ≡ entry_at rest k
+      others k below = ap (entry_at schema) (let next : a + 1 + k ≡ a + suc k = omega arith in next) ∙ same (suc k) (omega (arith, below))
 
-pub spread-is : {X : Type 0} (g : ℕ → Entry → X) (schema : List Entry) (places : List ℕ) → places ≡ range_with_len 0 (length schema)
-    → map (λ place. g place (entry_at schema place)) places ≡ spread g 0 schema
-spread-is g schema places all = ap (map (λ place. g place (entry_at schema place))) all ∙ spread-from g schema 0 schema (λ k below. ap (entry_at schema) (let same : 0 + k ≡ k = omega arith in same))
+      width : a + suc (length rest) ≡ a + 1 + length rest
+      width = omega arith
 
--- each of these places passes where none is found that fails
-none-found : (f : ℕ → Bool) (a n k : ℕ) → find f (range_with_len a n) ≡ None → k < n → f (a + k) ≡ false
-none-found f a zero k none below = absurd (omega (arith, below))
-none-found f a (suc n) k none below = by (f a) refl k none below (λ j rest less. none-found f (a + 1) n j rest less)
+      f : ℕ → X
+      f place = g place (entry_at schema place)
+
+      by : (t : Bool) → (place == a) ≡ t → (AreRising (a + 1) (a + 1 + length rest) places → map f places ≡ spread g (a + 1) (read_columns (a + 1) rest places))
+          → (AreRising (a + 1) (a + 1 + length rest) (place ∷ places) → map f (place ∷ places) ≡ spread g (a + 1) (read_columns (a + 1) rest (place ∷ places)))
+          → map f (place ∷ places) ≡ spread g a (if t then Some entry ∷ read_columns (a + 1) rest places else None ∷ read_columns (a + 1) rest (place ∷ places))
+      by true is read passed =
+          let here : place ≡ a = grind (arith, nat_tests, is) in
+          let first : entry_at schema place ≡ entry = ap (entry_at schema) (here ∙ (let k : a ≡ a + 0 = omega arith in k)) ∙ same 0 (omega arith) in
+          let later : AreRising (a + 1) (a + 1 + length rest) places = subst (λ n. AreRising (n + 1) (a + 1 + length rest) places) here (subst (λ n. AreRising (place + 1) n places) width rising.2) in
+          (λ j. g (here j) (first j) ∷ read later j)
+      by false is read passed =
+          let apart : a + 1 ≤ place = grind (arith, nat_tests, is, rising.0) in
+          passed (apart, omega (arith, rising.1, width), subst (λ n. AreRising (place + 1) n places) width rising.2)
+
+  pub spread-is : (places : List ℕ) → AreRising 0 (length schema) places → map (λ place. g place (entry_at schema place)) places ≡ spread g 0 (read_columns 0 schema places)
+  spread-is places rising =
+      spread-from 0 schema places (subst (λ n. AreRising 0 n places) (let whole : length schema ≡ 0 + length schema = omega arith in whole) rising)
+      (λ k below. ap (entry_at schema) (let same : 0 + k ≡ k = omega arith in same))
+
+-- each of them can be read
+readable-from : (schema : List Entry) (a : ℕ) (rest : List Entry) (places : List ℕ) → first_unreadable schema places ≡ None → ((k : ℕ) → k < length rest → entry_at schema (a + k) ≡ entry_at rest k)
+    → AreReadable (read_columns a rest places)
+readable-from schema a [] places none same = tt
+readable-from schema a (entry ∷ rest) [] none same =
+    (tt, readable-from schema (a + 1) rest [] none (λ k below. ap (entry_at schema) (let next : a + 1 + k ≡ a + suc k = omega arith in next) ∙ same (suc k) (omega (arith, below))))
+readable-from schema a (entry ∷ rest) (place ∷ places) none same =
+    by (place == a) refl (is_readable (entry_at schema place).1) refl none (λ left. readable-from schema (a + 1) rest places left others) (readable-from schema (a + 1) rest (place ∷ places) none others)
   where
-    by : (t : Bool) → f a ≡ t → (k : ℕ) → cond t (Some a) (find f (range_with_len (a + 1) n)) ≡ None → k < suc n
-        → ((j : ℕ) → find f (range_with_len (a + 1) n) ≡ None → j < n → f (a + 1 + j) ≡ false) → f (a + k) ≡ false
-    by true is k none below later = absurd (cc)
-    by false is zero none below later = ap f (let same : a + 0 ≡ a = omega arith in same) ∙ is
-    by false is (suc k) none below later = ap f (let same : a + suc k ≡ a + 1 + k = omega arith in same) ∙ later k none (omega (arith, below))
+    others : (k : ℕ) → k < length rest → entry_at schema (a + 1 + k) ≡ entry_at rest k
+    others k below = ap (entry_at schema) (let next : a + 1 + k ≡ a + suc k = omega arith in next) ∙ same (suc k) (omega (arith, below))
 
-readable-each : (schema : List Entry) → ((k : ℕ) → k < length schema → not (is_readable (entry_at schema k).1) ≡ false) → AreReadable schema
-readable-each [] each = tt
-readable-each (entry ∷ schema) each = (can (is_readable entry.1) (each 0 (omega arith)), readable-each schema (λ k below. each (suc k) (omega (arith, below))))
-  where
-    can : (t : Bool) → not t ≡ false → t ≡ true
-    can true is = refl
-    can false is = absurd (cc)
+    by : (t : Bool) → (place == a) ≡ t → (can : Bool) → is_readable (entry_at schema place).1 ≡ can → (if not can then Some place else first_unreadable schema places) ≡ None
+        → (first_unreadable schema places ≡ None → AreReadable (read_columns (a + 1) rest places)) → AreReadable (read_columns (a + 1) rest (place ∷ places))
+        → AreReadable (if t then Some entry ∷ read_columns (a + 1) rest places else None ∷ read_columns (a + 1) rest (place ∷ places))
+    by t is false can_is left read passed = absurd (cc)
+    by true is true can_is left read passed =
+        let here : place ≡ a + 0 = grind (arith, nat_tests, is) in
+        let first : entry_at schema place ≡ entry = ap (entry_at schema) here ∙ same 0 (omega arith) in
+        (ap (λ (e : Entry). is_readable e.1) (sym first) ∙ can_is, read left)
+    by false is true can_is left read passed = (tt, passed)
 
-pub are-readable : (schema : List Entry) (places : List ℕ) → places ≡ range_with_len 0 (length schema) → first_unreadable schema places ≡ None → AreReadable schema
-are-readable schema places all none =
-    let f : ℕ → Bool = λ place. not (is_readable (entry_at schema place).1) in
-    readable-each schema (λ k below. ap f (let same : k ≡ 0 + k = omega arith in same) ∙ none-found f 0 (length schema) k (sym (ap (find f) all) ∙ none) below)
+pub are-readable : (schema : List Entry) (places : List ℕ) → first_unreadable schema places ≡ None → AreReadable (read_columns 0 schema places)
+are-readable schema places none = readable-from schema 0 schema places none (λ k below. ap (entry_at schema) (let same : 0 + k ≡ k = omega arith in same))
+
+-- and so can all, where all are read
+pub all-readable : (schema : List Entry) (places : List ℕ) → places ≡ range_with_len 0 (length schema) → first_unreadable schema places ≡ None → AreReadable (map Some schema)
+all-readable schema places all none = subst AreReadable (ap (read_columns 0 schema) all ∙ read-all 0 schema) (are-readable schema places none)
 
 -- ---- fields
 
--- there is one for each column
-pub count-fields : (r o : WriteOptions) (is_null : NullTest) (schema : List Entry) (texts written : List (List ℕ)) → AreChangesOf r o is_null schema texts written → length texts ≡ length schema
-count-fields r o is_null [] [] [] are = refl
-count-fields r o is_null [] [] (one ∷ others) are = absurd are
-count-fields r o is_null [] (text ∷ texts) written are = absurd are
-count-fields r o is_null (entry ∷ schema) [] written are = absurd are
-count-fields r o is_null (entry ∷ schema) (text ∷ texts) [] are = absurd are
-count-fields r o is_null (entry ∷ schema) (text ∷ texts) (one ∷ others) are = omega (arith, count-fields r o is_null schema texts others are.1)
-
 -- each stands in a line
-pub field-texts : (r o : WriteOptions) (is_null : NullTest) (schema : List Entry) (texts written : List (List ℕ)) → AreChangesOf r o is_null schema texts written → AllByRecursion (IsFieldText (line_marks r)) texts
+pub field-texts : (r o : WriteOptions) (is_null : NullTest) (columns : List (Option Entry)) (texts written : List (List ℕ)) → AreChangesOf r o is_null columns texts written → AllByRecursion (IsFieldText (line_marks r)) texts
 field-texts r o is_null [] [] [] are = tt
 field-texts r o is_null [] [] (one ∷ others) are = absurd are
 field-texts r o is_null [] (text ∷ texts) written are = absurd are
-field-texts r o is_null (entry ∷ schema) [] written are = absurd are
-field-texts r o is_null (entry ∷ schema) (text ∷ texts) [] are = absurd are
-field-texts r o is_null (entry ∷ schema) (text ∷ texts) (one ∷ others) are = (are.0.field_text, field-texts r o is_null schema texts others are.1)
+field-texts r o is_null (None ∷ columns) [] written are = absurd are
+field-texts r o is_null (None ∷ columns) (text ∷ texts) written are = (are.0, field-texts r o is_null columns texts written are.1)
+field-texts r o is_null (Some entry ∷ columns) [] written are = absurd are
+field-texts r o is_null (Some entry ∷ columns) (text ∷ texts) [] are = absurd are
+field-texts r o is_null (Some entry ∷ columns) (text ∷ texts) (one ∷ others) are = (are.0.field_text, field-texts r o is_null columns texts others are.1)
 
 -- the columns of one row with their cells
-abbrev pub cell_columns : (r o : WriteOptions) (is_null : NullTest) (schema : List Entry) (texts written : List (List ℕ)) → AreChangesOf r o is_null schema texts written → List ColumnValue
-cell_columns r o is_null (entry ∷ schema) (text ∷ texts) (one ∷ others) are = record { name = entry.0; dtype = entry.1; values = are.0.value ∷ [] } ∷ cell_columns r o is_null schema texts others are.1
-cell_columns r o is_null schema texts written are = []
+abbrev pub cell_columns : (r o : WriteOptions) (is_null : NullTest) (columns : List (Option Entry)) (texts written : List (List ℕ)) → AreChangesOf r o is_null columns texts written → List ColumnValue
+cell_columns r o is_null (None ∷ columns) (text ∷ texts) written are = cell_columns r o is_null columns texts written are.1
+cell_columns r o is_null (Some entry ∷ columns) (text ∷ texts) (one ∷ others) are =
+    record { name = entry.0; dtype = entry.1; values = are.0.value ∷ [] } ∷ cell_columns r o is_null columns texts others are.1
+cell_columns r o is_null columns texts written are = []
 
 -- what is written of them
-pub written-columns : (r o : WriteOptions) (is_null : NullTest) (schema : List Entry) (texts written : List (List ℕ)) (are : AreChangesOf r o is_null schema texts written)
-    → map (λ column. written_cell o column.dtype (cell_at column 0)) (cell_columns r o is_null schema texts written are) ≡ written
+pub written-columns : (r o : WriteOptions) (is_null : NullTest) (columns : List (Option Entry)) (texts written : List (List ℕ)) (are : AreChangesOf r o is_null columns texts written)
+    → map (λ column. written_cell o column.dtype (cell_at column 0)) (cell_columns r o is_null columns texts written are) ≡ written
 written-columns r o is_null [] [] [] are = refl
 written-columns r o is_null [] [] (one ∷ others) are = absurd are
 written-columns r o is_null [] (text ∷ texts) written are = absurd are
-written-columns r o is_null (entry ∷ schema) [] written are = absurd are
-written-columns r o is_null (entry ∷ schema) (text ∷ texts) [] are = absurd are
-written-columns r o is_null (entry ∷ schema) (text ∷ texts) (one ∷ others) are = (λ j. sym are.0.written_is j ∷ written-columns r o is_null schema texts others are.1 j)
+written-columns r o is_null (None ∷ columns) [] written are = absurd are
+written-columns r o is_null (None ∷ columns) (text ∷ texts) written are = written-columns r o is_null columns texts written are.1
+written-columns r o is_null (Some entry ∷ columns) [] written are = absurd are
+written-columns r o is_null (Some entry ∷ columns) (text ∷ texts) [] are = absurd are
+written-columns r o is_null (Some entry ∷ columns) (text ∷ texts) (one ∷ others) are = (λ j. sym are.0.written_is j ∷ written-columns r o is_null columns texts others are.1 j)
 
-one-high : (r o : WriteOptions) (is_null : NullTest) (schema : List Entry) (texts written : List (List ℕ)) (are : AreChangesOf r o is_null schema texts written) → 0 < length schema → height_of (cell_columns r o is_null schema texts written are) ≡ 1
+one-high : (r o : WriteOptions) (is_null : NullTest) (columns : List (Option Entry)) (texts written : List (List ℕ)) (are : AreChangesOf r o is_null columns texts written)
+    → 0 < length (cell_columns r o is_null columns texts written are) → height_of (cell_columns r o is_null columns texts written are) ≡ 1
 one-high r o is_null [] texts written are some = absurd (omega (arith, some))
-one-high r o is_null (entry ∷ schema) [] written are some = absurd are
-one-high r o is_null (entry ∷ schema) (text ∷ texts) [] are some = absurd are
-one-high r o is_null (entry ∷ schema) (text ∷ texts) (one ∷ others) are some = refl
+one-high r o is_null (None ∷ columns) [] written are some = absurd are
+one-high r o is_null (None ∷ columns) (text ∷ texts) written are some = one-high r o is_null columns texts written are.1 some
+one-high r o is_null (Some entry ∷ columns) [] written are some = absurd are
+one-high r o is_null (Some entry ∷ columns) (text ∷ texts) [] are some = absurd are
+one-high r o is_null (Some entry ∷ columns) (text ∷ texts) (one ∷ others) are some = refl
+
+-- places are those of a schema
+places-within : (a n : ℕ) (places : List ℕ) → AreRising a n places → 0 < length places → a < n
+places-within a n [] rising some = absurd (omega (arith, some))
+places-within a n (place ∷ places) rising some = omega (arith, rising.0, rising.1)
 
 module _ (plan : RangePlan) (schema : List Entry) (r o : WriteOptions) (is_null : NullTest) (can : CanPrint plan schema) (given : IsReadSo plan schema r) (nulls : AreNulls plan is_null) (returns : RowsReturn) where
   quote-is : plan.dialect.quote_char ≡ Some r.quote
@@ -157,12 +194,15 @@ module _ (plan : RangePlan) (schema : List Entry) (r o : WriteOptions) (is_null 
       ∙ here.cell_is reading given.missing
 
   -- cells without a fault, from a column on
-  no-faults : (all : List (List ℕ)) (a : ℕ) (rest : List Entry) (texts written : List (List ℕ)) → AreChangesOf r o is_null rest texts written → ((k : ℕ) → field_in all (a + k) ≡ field_in texts k)
+  no-faults : (all : List (List ℕ)) (a : ℕ) (rest : List (Option Entry)) (texts written : List (List ℕ)) → AreChangesOf r o is_null rest texts written → ((k : ℕ) → field_in all (a + k) ≡ field_in texts k)
       → filter_map (column_fault (rules_of plan) all) (spread (λ k entry. (k, entry.1)) a rest) ≡ []
   no-faults all a [] texts written are same = refl
-  no-faults all a (entry ∷ rest) [] written are same = absurd are
-  no-faults all a (entry ∷ rest) (text ∷ texts) [] are same = absurd are
-  no-faults all a (entry ∷ rest) (text ∷ texts) (one ∷ others) are same =
+  no-faults all a (None ∷ rest) [] written are same = absurd are
+  no-faults all a (None ∷ rest) (text ∷ texts) written are same =
+      no-faults all (a + 1) rest texts written are.1 (λ k. ap (field_in all) (let next : a + 1 + k ≡ a + suc k = omega arith in next) ∙ same (suc k))
+  no-faults all a (Some entry ∷ rest) [] written are same = absurd are
+  no-faults all a (Some entry ∷ rest) (text ∷ texts) [] are same = absurd are
+  no-faults all a (Some entry ∷ rest) (text ∷ texts) (one ∷ others) are same =
       let field : field_in all a ≡ text = ap (field_in all) (let k : a ≡ a + 0 = omega arith in k) ∙ same 0 in
       let sound : column_fault (rules_of plan) all (a, entry.1) ≡ None =
       ap (λ c. elim (fault_of c) [ None ↦ None | Some kind ↦ Some (a, kind) ]) (ap (cell (rules_of plan) a entry.1) field ∙ cell-is a entry.1 text one are.0) in
@@ -170,30 +210,36 @@ module _ (plan : RangePlan) (schema : List Entry) (r o : WriteOptions) (is_null 
       rw sound later
 
   -- their columns
-  columns-are : (all : List (List ℕ)) (a : ℕ) (rest : List Entry) (texts written : List (List ℕ)) (are : AreChangesOf r o is_null rest texts written) → ((k : ℕ) → field_in all (a + k) ≡ field_in texts k)
+  columns-are : (all : List (List ℕ)) (a : ℕ) (rest : List (Option Entry)) (texts written : List (List ℕ)) (are : AreChangesOf r o is_null rest texts written) → ((k : ℕ) → field_in all (a + k) ≡ field_in texts k)
       → map (read_column (rules_of plan) (ended_row all ∷ [])) (spread (λ k entry. (k, entry)) a rest) ≡ cell_columns r o is_null rest texts written are
   columns-are all a [] texts written are same = refl
-  columns-are all a (entry ∷ rest) [] written are same = absurd are
-  columns-are all a (entry ∷ rest) (text ∷ texts) [] are same = absurd are
-  columns-are all a (entry ∷ rest) (text ∷ texts) (one ∷ others) are same =
+  columns-are all a (None ∷ rest) [] written are same = absurd are
+  columns-are all a (None ∷ rest) (text ∷ texts) written are same =
+      columns-are all (a + 1) rest texts written are.1 (λ k. ap (field_in all) (let next : a + 1 + k ≡ a + suc k = omega arith in next) ∙ same (suc k))
+  columns-are all a (Some entry ∷ rest) [] written are same = absurd are
+  columns-are all a (Some entry ∷ rest) (text ∷ texts) [] are same = absurd are
+  columns-are all a (Some entry ∷ rest) (text ∷ texts) (one ∷ others) are same =
       let field : field_in all a ≡ text = ap (field_in all) (let k : a ≡ a + 0 = omega arith in k) ∙ same 0 in
       let value : value_of (cell (rules_of plan) a entry.1 (field_in all a)) ≡ are.0.value =
       ap value_of (ap (cell (rules_of plan) a entry.1) field ∙ cell-is a entry.1 text one are.0) in
       let later = columns-are all (a + 1) rest texts others are.1 (λ k. ap (field_in all) (let next : a + 1 + k ≡ a + suc k = omega arith in next) ∙ same (suc k)) in
       (λ j. record { name = entry.0; dtype = entry.1; values = value j ∷ [] } ∷ later j)
 
-  module _ (line copy : List ℕ) (is : IsLineChangeOf r o is_null schema line copy) where
+  abbrev columns : List (Option Entry)
+  columns = read_columns 0 schema plan.projection.places.now
+
+  module _ (line copy : List ℕ) (is : IsLineChangeOf r o is_null columns line copy) where
     abbrev texts : List (List ℕ)
     texts = is.fields
 
     count : length texts ≡ length schema
-    count = count-fields r o is_null schema texts is.written is.changes
+    count = count-fields r o is_null columns texts is.written is.changes ∙ count-columns 0 schema plan.projection.places.now
 
     some : 0 < length texts
-    some = omega (arith, count, given.some)
+    some = omega (arith, count, places-within 0 (length schema) plan.projection.places.now can.rising given.some)
 
     are-fields : AllByRecursion (IsFieldText (line_marks r)) texts
-    are-fields = field-texts r o is_null schema texts is.written is.changes
+    are-fields = field-texts r o is_null columns texts is.written is.changes
 
     one-row : rows (line_marks r) None line ≡ ended_row texts ∷ []
     one-row =
@@ -237,15 +283,15 @@ module _ (plan : RangePlan) (schema : List Entry) (r o : WriteOptions) (is_null 
     ends : EndsItem plan.dialect line
     ends = record { ended = ended; closed = closed }
 
-    typed : (columns_in schema plan.projection.places.now).read ≡ spread (λ k entry. (k, entry.1)) 0 schema
-    typed = spread-is (λ k entry. (k, entry.1)) schema plan.projection.places.now given.places
+    typed : (columns_in schema plan.projection.places.now).read ≡ spread (λ k entry. (k, entry.1)) 0 columns
+    typed = spread-is (λ k entry. (k, entry.1)) schema plan.projection.places.now can.rising
 
     no-excess : nat_lt (length schema) (length texts) ≡ false
     no-excess = grind (arith, nat_tests, count)
 
     no-fault : first_fault (rules_of plan) (columns_in schema plan.projection.places.now) (ended_row texts) ≡ None
     no-fault =
-        let none = ap (filter_map (column_fault (rules_of plan) texts)) typed ∙ no-faults texts 0 schema texts is.written is.changes (λ k. ap (field_in texts) (let same : 0 + k ≡ k = omega arith in same)) in
+        let none = ap (filter_map (column_fault (rules_of plan) texts)) typed ∙ no-faults texts 0 columns texts is.written is.changes (λ k. ap (field_in texts) (let same : 0 + k ≡ k = omega arith in same)) in
         rw (none, no-excess) (none-past (passes_excess (rules_of plan) (columns_in schema plan.projection.places.now)) (is_forgiven (length schema) (ended_row texts)) (length schema, fault.Fields))
 
     sound : IsSoundText plan schema line
@@ -254,19 +300,23 @@ module _ (plan : RangePlan) (schema : List Entry) (r o : WriteOptions) (is_null 
       sound = subst (AllByRecursion (λ row. first_fault (rules_of plan) (columns_in schema plan.projection.places.now) row ≡ None)) (sym its-row) (no-fault, tt);
     }
 
-    frame : text_frame plan schema line ≡ cell_columns r o is_null schema texts is.written is.changes
+    frame : text_frame plan schema line ≡ cell_columns r o is_null columns texts is.written is.changes
     frame =
         ap (frame_of_rows (rules_of plan) (entries_in schema plan.projection.places.now)) its-row
-        ∙ ap (map (read_column (rules_of plan) (ended_row texts ∷ []))) (spread-is (λ k entry. (k, entry)) schema plan.projection.places.now given.places)
-        ∙ columns-are texts 0 schema texts is.written is.changes (λ k. ap (field_in texts) (let same : 0 + k ≡ k = omega arith in same))
+        ∙ ap (map (read_column (rules_of plan) (ended_row texts ∷ []))) (spread-is (λ k entry. (k, entry)) schema plan.projection.places.now can.rising)
+        ∙ columns-are texts 0 columns texts is.written is.changes (λ k. ap (field_in texts) (let same : 0 + k ≡ k = omega arith in same))
 
     lines : all_lines o (text_frame plan schema line) ≡ copy
     lines =
-        let columns = cell_columns r o is_null schema texts is.written is.changes in
+        let own = cell_columns r o is_null columns texts is.written is.changes in
+        let wide : length own ≡ length plan.projection.places.now =
+        sym (ap length frame)
+        ∙ length-map (entries_in schema plan.projection.places.now) (read_column (rules_of plan) (rows (marks_of plan.dialect) (comment_of plan.dialect) line))
+        ∙ length-map plan.projection.places.now (λ place. (place, entry_at schema place)) in
         ap (all_lines o) frame
-        ∙ ap (λ n. flat_map (row_line o columns) (range_with_len 0 n)) (one-high r o is_null schema texts is.written is.changes given.some)
-        ∙ append-nil (row_line o columns 0)
-        ∙ ap (λ l. join_with_byte o.separator l ++ o.terminator) (written-columns r o is_null schema texts is.written is.changes)
+        ∙ ap (λ n. flat_map (row_line o own) (range_with_len 0 n)) (one-high r o is_null columns texts is.written is.changes (omega (arith, wide, given.some)))
+        ∙ append-nil (row_line o own 0)
+        ∙ ap (λ l. join_with_byte o.separator l ++ o.terminator) (written-columns r o is_null columns texts is.written is.changes)
         ∙ sym is.copy_is
 
     pub change-printed : IsTextPrinted plan schema o line 1 copy
@@ -280,7 +330,7 @@ copy-printed plan schema o can given returns line copy is =
     change-printed plan schema o o nothing_is_null can given.read given.nulls returns line copy (record {
       fields = is.fields;
       written = is.written;
-      changes = is.copies;
+      changes = subst (λ columns. AreChangesOf o o nothing_is_null columns is.fields is.written) (sym (ap (read_columns 0 schema) given.places ∙ read-all 0 schema)) is.copies;
       line_is = is.line_is;
       copy_is = is.copy_is ∙ ap (λ l. join_with_byte o.separator is.written ++ l) (sym given.terminator);
     })
@@ -290,7 +340,7 @@ copy-printed plan schema o can given returns line copy is =
 nothing-written : (o : WriteOptions) → o.style ≡ 0 → o.null ≡ [] → written_null o ≡ []
 nothing-written o style null = rw style null
 
-written-copies : (o : WriteOptions) (schema : List Entry) (fields : List (List ℕ)) → FitsOptions o → written_null o ≡ [] → AreReadable schema → AreCellsOf o schema fields → AreCopiesOf o schema fields fields
+written-copies : (o : WriteOptions) (schema : List Entry) (fields : List (List ℕ)) → FitsOptions o → written_null o ≡ [] → AreReadable (map Some schema) → AreCellsOf o schema fields → AreCopiesOf o schema fields fields
 written-copies o [] [] fits null can are = tt
 written-copies o [] (field ∷ fields) fits null can are = absurd are
 written-copies o (entry ∷ schema) [] fits null can are = absurd are
@@ -301,7 +351,7 @@ line-printed plan schema o can given returns line is =
     copy-printed plan schema o can given returns line line (record {
       fields = is.fields;
       written = is.fields;
-      copies = written-copies o schema is.fields given.read.fits (nothing-written o given.style given.null) (are-readable schema plan.projection.places.now given.read.places can.readable) is.cells;
+      copies = written-copies o schema is.fields given.read.fits (nothing-written o given.style given.null) (all-readable schema plan.projection.places.now given.places can.readable) is.cells;
       line_is = is.line_is;
       copy_is = is.line_is;
     })

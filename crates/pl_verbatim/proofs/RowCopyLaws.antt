@@ -1,5 +1,5 @@
 -- What is copied of a row is what is written of a cell, and behind its separator what is written of the rest of the row.
-use Rattle.std.proofs.Common.{◌≡◌, ℕ, zero, suc, ◌+◌, ◌-◌, ◌<◌, ◌≤◌, Bool, true, false, cond, List, [], ◌∷◌, ◌++◌, length, get_or, take, replicate, Some, refl, sym, ap, ap₂, ◌∙◌, subst, arith, append_assoc, append-nil, add-one}
+use Rattle.std.proofs.Common.{◌≡◌, ℕ, zero, suc, ◌+◌, ◌-◌, ◌<◌, ◌≤◌, Bool, true, false, cond, List, [], ◌∷◌, ◌++◌, length, map, get_or, take, replicate, Some, refl, sym, ap, ap₂, ◌∙◌, subst, arith, append_assoc, append-nil, add-one}
 use Rattle.std.specs.Prelude.{slice_index, slice_range}
 use Rattle.std.specs.Bool.{OnTrue}
 use Rattle.std.specs.List.{join_with_byte}
@@ -19,11 +19,11 @@ use Rattle.pl_verbatim.proofs.RowStepLaws.{AreLinesBefore, line-step, line-last}
 -- a text is what is written of a line, for each schema of the kinds
 abbrev pub IsLineCopyOfKinds : ℕ → ℕ → List Kind → List ℕ → List ℕ → Type 0
 IsLineCopyOfKinds separator quote kinds line copy =
-    (o : WriteOptions) (schema : List Entry) → FitsOptions o → IsCellOptions o separator quote → AreReadable schema → AreKindsOf schema kinds → IsLineCopyOf o schema line copy
+    (o : WriteOptions) (schema : List Entry) → FitsOptions o → IsCellOptions o separator quote → AreReadable (map Some schema) → AreKindsOf (map Some schema) kinds → IsLineCopyOf o schema line copy
 
 -- the same of a row's first cells
 abbrev pub AreCopiedBefore : List ℕ → ℕ → List Kind → ℕ → ℕ → ℕ → ℕ → List ℕ → List ℕ → Type 0
-AreCopiedBefore text start kinds separator quote index at before now = AreLinesBefore (IsLineCopyOfKinds separator quote) text start kinds index at before now
+AreCopiedBefore text start kinds separator quote index at before now = AreLinesBefore (IsLineCopyOfKinds separator quote) (IsLineCopyOfKinds separator quote) text start kinds index at before now
 
 -- The first cells of a row are copied: lines grew, and they, and what is still to be appended to them from a place on, have what is written of the cells.
 pub record IsCopiedBefore (text : List ℕ) (start : ℕ) (kinds : List Kind) (separator quote : ℕ) (index from at : ℕ) (before now : List ℕ) : Type 0 where
@@ -180,9 +180,13 @@ copied-cell text start kinds separator quote index from at from_now next any bef
       grown = grown-twice before now later row.grown more;
       copied =
           subst (λ n. AreCopiedBefore text start kinds separator quote (index + 1) n before others) (sym own.next_is)
-          (line-step separator separator (10 ∷ []) (IsCopyOfKind separator quote) (IsLineCopyOfKinds separator quote) (last-line separator quote) (more-line separator quote)
-          text start kinds index at own.end any before lines others own.written row.copied few own.after own.within own.mark_is own.cell
-          (one.now_is ∙ ap (λ l. lines ++ l) own.copy_is ∙ sym (append_assoc lines own.written (separator ∷ []))));
+          (line-step (IsLineCopyOfKinds separator quote) (IsLineCopyOfKinds separator quote) (IsLineCopyOfKinds separator quote) text start kinds index at own.end separator any before lines others
+          (own.written ++ separator ∷ []) row.copied few own.after own.within own.mark_is (one.now_is ∙ ap (λ l. lines ++ l) own.copy_is)
+          (λ second more rest copy line.
+          let kind = get_or kinds index any in
+          let field = slice_range text at own.end in
+          subst (IsLineCopyOfKinds separator quote (kind ∷ second ∷ more) (field ++ separator ∷ rest)) (sym (append_assoc own.written (separator ∷ []) copy))
+          (more-line separator quote kind second more field own.written rest copy own.cell line)));
     }
 
 -- the last ends the row, where what is left is appended
@@ -193,7 +197,7 @@ pub copied-row : (text : List ℕ) (start : ℕ) (kinds : List Kind) (separator 
 copied-row text start kinds separator quote index from at from_now next any before now later all row last_is some one left =
     let own = one.cell in
     let lines = now ++ slice_range text from at in
-    let ended = line-last separator separator (10 ∷ []) (IsCopyOfKind separator quote) (IsLineCopyOfKinds separator quote) (last-line separator quote) (more-line separator quote)
-    text start kinds index at own.end any before lines all own.written row.copied last_is some own.after own.within own.mark_is own.cell
-    (left ∙ one.now_is ∙ ap (λ l. lines ++ l) own.copy_is ∙ sym (append_assoc lines own.written (10 ∷ []))) in
+    let ended = line-last (IsLineCopyOfKinds separator quote) (IsLineCopyOfKinds separator quote) text start kinds index at own.end any before lines all (own.written ++ 10 ∷ []) row.copied last_is some
+    own.after own.within own.mark_is (left ∙ one.now_is ∙ ap (λ l. lines ++ l) own.copy_is)
+    (last-line separator quote (get_or kinds (length kinds - 1) any) (slice_range text at own.end) own.written own.cell) in
     subst (λ n. IsRowCopied text start kinds separator quote before all (Some n)) (sym own.next_is) (record { copy = ended.copy; now_is = ended.now_is; line = ended.line })

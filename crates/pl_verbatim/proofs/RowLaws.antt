@@ -1,5 +1,5 @@
 -- A row is a cell, and behind its separator the rest of the row.
-use Rattle.std.proofs.Common.{◌≡◌, ℕ, suc, ◌+◌, ◌-◌, ◌<◌, ◌≤◌, List, [], ◌∷◌, ◌++◌, length, get_or, take, drop, refl, sym, ap, ap₂, ◌∙◌, subst, arith, append_assoc, add-one, length-take, length-drop}
+use Rattle.std.proofs.Common.{◌≡◌, ℕ, suc, ◌+◌, ◌-◌, ◌<◌, ◌≤◌, List, [], ◌∷◌, ◌++◌, length, map, get_or, take, drop, Some, refl, sym, ap, ap₂, ◌∙◌, subst, arith, append_assoc, add-one, length-take, length-drop}
 use Rattle.std.specs.Prelude.{slice_index, slice_range}
 use Rattle.std.specs.List.{join_with_byte}
 use Rattle.std.proofs.lemmas.List.{drop_all}
@@ -15,7 +15,7 @@ use Rattle.pl_verbatim.proofs.CellLaws.{IsCellOfKind}
 
 -- a line is one of each schema of the kinds
 abbrev pub IsLineOfKinds : ℕ → ℕ → List Kind → List ℕ → Type 0
-IsLineOfKinds separator quote kinds line = (o : WriteOptions) (schema : List Entry) → IsCellOptions o separator quote → AreKindsOf schema kinds → IsLineOf o schema line
+IsLineOfKinds separator quote kinds line = (o : WriteOptions) (schema : List Entry) → IsCellOptions o separator quote → AreKindsOf (map Some schema) kinds → IsLineOf o schema line
 
 -- Cells of the first kinds stand before a place, each with a separator behind it: a line of the other kinds that stands there ends one
 -- of all.

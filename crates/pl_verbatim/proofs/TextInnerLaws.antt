@@ -3,19 +3,18 @@ use Rattle.std.proofs.Common.{◌≡◌, ℕ, suc, ◌+◌, ◌-◌, ◌<◌, �
 use Rattle.std.proofs.lemmas.Bool.Decides.{nat_tests}
 use Rattle.std.proofs.lemmas.List.{length-take-le, length-drop, get_or-take, get_or-drop, drop-drop, drop_more, take_rest}
 use Rattle.std.proofs.lemmas.List.Concat.{flat_map-append}
-use Rattle.std.proofs.lemmas.Str.{IsUtf8-append, IsUtf8-from_ascii, IsUtf8-from_is_utf8, is_utf8-from_IsUtf8}
+use Rattle.std.proofs.lemmas.Str.{IsUtf8-from_ascii}
 use Rattle.std.proofs.lemmas.Str.Ascii.{IsAscii-nil, IsAscii-cons}
 use Rattle.std.proofs.Math.Seq.{take-add}
 use Rattle.std.specs.List.{slice_range}
-use Rattle.std.specs.Str.{IsUtf8, is_utf8}
+use Rattle.std.specs.Str.{IsUtf8}
 use Rattle.memchr.specs.Find.{Nowhere, NoneBefore, Passes, is_byte}
-use Rattle.pl_text.specs.FrameText.{doubled}
-use Rattle.pl_verbatim.specs.CellTexts.{IsQuotedText}
+use Rattle.pl_text.specs.FrameText.{doubled, quoted}
 
--- bytes are a text with each quote doubled
-pub record HasInner (q : ℕ) (bytes : List ℕ) : Type 0 where
+-- bytes are a text with each quote doubled, of which more is known
+pub record HasInner (Is : List ℕ → Type 0) (q : ℕ) (bytes : List ℕ) : Type 0 where
   pub inner : List ℕ
-  pub utf8 : IsUtf8 inner
+  pub is : Is inner
   pub bytes_are : bytes ≡ doubled q inner
 
 -- ---- more bytes
@@ -31,10 +30,11 @@ doubled-none q (x ∷ xs) none =
     let here : (x == q) ≡ false = not_true (x == q) (none 0 (omega arith) (omega arith)) in
     rw here (ap (λ l. x ∷ l) (doubled-none q xs (λ k low high. none (suc k) (omega arith) (omega arith))))
 
-with_part : (q : ℕ) (bytes part : List ℕ) → HasInner q bytes → is_utf8 part ≡ true → Nowhere (Passes (is_byte q) part) 0 (length part) → HasInner q (bytes ++ part)
-with_part q bytes part has utf8 none = record {
+with_part : (Is : List ℕ → Type 0) → ((xs ys : List ℕ) → Is xs → Is ys → Is (xs ++ ys)) → (q : ℕ) (bytes part : List ℕ) → HasInner Is q bytes → Is part → Nowhere (Passes (is_byte q) part) 0 (length part)
+    → HasInner Is q (bytes ++ part)
+with_part Is joins q bytes part has is none = record {
   inner = has.inner ++ part;
-  utf8 = IsUtf8-append has.inner part has.utf8 (IsUtf8-from_is_utf8 part utf8);
+  is = joins has.inner part has.is is;
   bytes_are = ap₂ (λ a b. a ++ b) has.bytes_are (sym (doubled-none q part none)) ∙ sym (flat_map-append (λ x. if x == q then q ∷ q ∷ [] else x ∷ []) has.inner part);
 }
 
@@ -44,21 +44,16 @@ same_byte q = grind (arith, nat_tests)
 doubled-one : (q : ℕ) → doubled q (q ∷ []) ≡ q ∷ q ∷ []
 doubled-one q = rw (same_byte q) refl
 
-with_quote : (q : ℕ) (bytes : List ℕ) → q < 128 → HasInner q bytes → HasInner q (bytes ++ (q ∷ q ∷ []))
-with_quote q bytes low has = record {
+with_quote : (Is : List ℕ → Type 0) → ((xs ys : List ℕ) → Is xs → Is ys → Is (xs ++ ys)) → (q : ℕ) (bytes : List ℕ) → Is (q ∷ []) → HasInner Is q bytes → HasInner Is q (bytes ++ (q ∷ q ∷ []))
+with_quote Is joins q bytes one has = record {
   inner = has.inner ++ q ∷ [];
-  utf8 = IsUtf8-append has.inner (q ∷ []) has.utf8 (IsUtf8-from_ascii (q ∷ []) (IsAscii-cons q [] low IsAscii-nil));
+  is = joins has.inner (q ∷ []) has.is one;
   bytes_are = ap₂ (λ a b. a ++ b) has.bytes_are (sym (doubled-one q)) ∙ sym (flat_map-append (λ x. if x == q then q ∷ q ∷ [] else x ∷ []) has.inner (q ∷ []));
 }
 
--- ---- the end
-
-between_quotes : (q : ℕ) (bytes text : List ℕ) → HasInner q bytes → text ≡ q ∷ (bytes ++ q ∷ []) → IsQuotedText q text
-between_quotes q bytes text has is = record {
-  inner = has.inner;
-  utf8 = is_utf8-from_IsUtf8 has.inner has.utf8;
-  text_is = is ∙ ap (λ l. q ∷ (l ++ q ∷ [])) has.bytes_are;
-}
+-- a quote is UTF-8
+pub quote_utf8 : (q : ℕ) → q < 128 → IsUtf8 (q ∷ [])
+quote_utf8 q low = IsUtf8-from_ascii (q ∷ []) (IsAscii-cons q [] low IsAscii-nil)
 
 -- ---- places
 
@@ -85,7 +80,7 @@ IsNextQuote q text from count =
     NoneBefore (Passes (is_byte q) rest) 0 (length rest) count × Passes (is_byte q) rest count
 
 module _ (q : ℕ) (text : List ℕ) (from count : ℕ) (inside : from ≤ length text) (found : IsNextQuote q text from count) where
-  quote_room : from + count < length text
+  pub quote_room : from + count < length text
   quote_room =
       let long : length (slice_range text from (length text)) ≡ length text - from = ap length (take_rest text from) ∙ length-drop from text in
       omega (arith, found.0.high, long)
@@ -114,26 +109,25 @@ module _ (q : ℕ) (text : List ℕ) (from count : ℕ) (inside : from ≤ lengt
       let same : from + count - from ≡ count = omega arith in
       ap (λ n. length (take n (drop from text))) same ∙ length-take-le count (drop from text) (omega (arith, quote_room, length-drop from text))
 
-  -- the bytes before it are more of the text
-  pub part_read : (at : ℕ) → at < from → HasInner q (slice_range text (at + 1) from) → is_utf8 (slice_range text from (from + count)) ≡ true → HasInner q (slice_range text (at + 1) (from + count))
-  part_read at before has utf8 =
-      subst (HasInner q) (sym (slice_join text (at + 1) from (from + count) (omega arith) (omega arith)))
-      (with_part q (slice_range text (at + 1) from) (slice_range text from (from + count)) has utf8 front_none)
+  module _ (Is : List ℕ → Type 0) (joins : (xs ys : List ℕ) → Is xs → Is ys → Is (xs ++ ys)) (at : ℕ) (before : at < from) where
+    -- the bytes before it are more of the text
+    pub part_read : HasInner Is q (slice_range text (at + 1) from) → Is (slice_range text from (from + count)) → HasInner Is q (slice_range text (at + 1) (from + count))
+    part_read has is =
+        subst (HasInner Is q) (sym (slice_join text (at + 1) from (from + count) (omega arith) (omega arith)))
+        (with_part Is joins q (slice_range text (at + 1) from) (slice_range text from (from + count)) has is front_none)
 
-  -- and two quotes stand for one
-  pub quote_read : (at : ℕ) → q < 128 → at < from → HasInner q (slice_range text (at + 1) (from + count)) → from + count + 1 < length text → get_or text (from + count + 1) 0 ≡ q
-      → HasInner q (slice_range text (at + 1) (from + count + 1 + 1))
-  quote_read at low before has room again =
-      subst (HasInner q)
-      (sym (slice_join text (at + 1) (from + count) (from + count + 1 + 1) (omega arith) (omega arith) ∙ ap (λ l. slice_range text (at + 1) (from + count) ++ l) (slice_two text (from + count) q q room quote_at again)))
-      (with_quote q (slice_range text (at + 1) (from + count)) low has)
+    -- and two quotes stand for one
+    pub quote_read : Is (q ∷ []) → HasInner Is q (slice_range text (at + 1) (from + count)) → from + count + 1 < length text → get_or text (from + count + 1) 0 ≡ q
+        → HasInner Is q (slice_range text (at + 1) (from + count + 1 + 1))
+    quote_read one has room again =
+        subst (HasInner Is q)
+        (sym (slice_join text (at + 1) (from + count) (from + count + 1 + 1) (omega arith) (omega arith) ∙ ap (λ l. slice_range text (at + 1) (from + count) ++ l) (slice_two text (from + count) q q room quote_at again)))
+        (with_quote Is joins q (slice_range text (at + 1) (from + count)) one has)
 
-  -- or one ends it
-  pub text_read : (at : ℕ) → at < from → get_or text at 0 ≡ q → HasInner q (slice_range text (at + 1) (from + count)) → IsQuotedText q (slice_range text at (from + count + 1))
-  text_read at before opens has = between_quotes q (slice_range text (at + 1) (from + count)) (slice_range text at (from + count + 1)) has whole
-    where
-      whole : slice_range text at (from + count + 1) ≡ q ∷ (slice_range text (at + 1) (from + count) ++ q ∷ [])
-      whole =
-          slice_join text at (at + 1) (from + count + 1) (omega arith) (omega arith)
-          ∙ ap (λ l. l ++ slice_range text (at + 1) (from + count + 1)) (slice_one text at q (omega (arith, quote_room)) opens)
-          ∙ ap (λ l. q ∷ l) (slice_join text (at + 1) (from + count) (from + count + 1) (omega arith) (omega arith) ∙ ap (λ l. slice_range text (at + 1) (from + count) ++ l) (slice_one text (from + count) q quote_room quote_at))
+    -- or one ends it
+    pub text_read : get_or text at 0 ≡ q → (has : HasInner Is q (slice_range text (at + 1) (from + count))) → slice_range text at (from + count + 1) ≡ quoted q has.inner
+    text_read opens has =
+        slice_join text at (at + 1) (from + count + 1) (omega arith) (omega arith)
+        ∙ ap (λ l. l ++ slice_range text (at + 1) (from + count + 1)) (slice_one text at q (omega (arith, quote_room)) opens)
+        ∙ ap (λ l. q ∷ l) (slice_join text (at + 1) (from + count) (from + count + 1) (omega arith) (omega arith) ∙ ap (λ l. slice_range text (at + 1) (from + count) ++ l) (slice_one text (from + count) q quote_room quote_at))
+        ∙ ap (λ l. q ∷ (l ++ q ∷ [])) has.bytes_are

@@ -106,7 +106,7 @@ ascii_front [] (suc n) all = IsAscii-nil
 ascii_front (x ∷ xs) (suc n) all = IsAscii-cons x (take n xs) (all 0 (omega arith)) (ascii_front xs n (λ k h. all (suc k) (omega arith)))
 
 -- no byte before the first that passes a test passes it
-none_before : (p : ℕ → Bool) (xs : List ℕ) (k : ℕ) → k < prefix_len (λ x. not (p x)) xs → p (get_or xs k 0) ≡ false
+pub none_before : (p : ℕ → Bool) (xs : List ℕ) (k : ℕ) → k < prefix_len (λ x. not (p x)) xs → p (get_or xs k 0) ≡ false
 none_before p xs k h = not-true _ (prefix_len_passes (λ x. not (p x)) xs k 0 h)
 
 either_false : (a b : Bool) → (a || b) ≡ false → (a ≡ false) × (b ≡ false)
@@ -131,7 +131,7 @@ bare-written s q text b = record {
   text_is = sym (ap (λ b. if b then quoted q text else text) b.bare);
 }
 
-front_is : (text : List ℕ) (at count : ℕ) → slice_range text at (at + count) ≡ take count (drop at text)
+pub front_is : (text : List ℕ) (at count : ℕ) → slice_range text at (at + count) ≡ take count (drop at text)
 front_is text at count = let same : at + count - at ≡ count = omega arith in ap (λ n. take n (drop at text)) same
 
 front_length : (text : List ℕ) (at count : ℕ) → at + count ≤ length text → length (slice_range text at (at + count)) ≡ count

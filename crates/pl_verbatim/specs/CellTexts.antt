@@ -80,6 +80,10 @@ pub record IsQuotedText (quote : ℕ) (text : List ℕ) : Type 0 where
   pub utf8 : is_utf8 inner ≡ true
   pub text_is : text ≡ quoted quote inner
 
+-- a text stands between quotes, each quote in it doubled
+abbrev pub IsBetweenQuotes : ℕ → List ℕ → Type 0
+IsBetweenQuotes quote text = (inner : List ℕ) × (text ≡ quoted quote inner)
+
 -- a text that is UTF-8 and needs no quotes, and so is not empty
 pub record IsBareText (separator quote : ℕ) (text : List ℕ) : Type 0 where
   pub utf8 : is_utf8 text ≡ true

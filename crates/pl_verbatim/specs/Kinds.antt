@@ -1,5 +1,5 @@
 -- How the cells of a column stand in rows that are written as they were read.
-use Rattle.std.specs.Prelude.{◌≡◌, ℕ, ◌<◌, ◌^◌, ℤ, unsigned_abs, Bool, true, false, ◌&&◌, nat_le, List, [], ◌∷◌, Option, Some}
+use Rattle.std.specs.Prelude.{◌≡◌, ℕ, ◌+◌, ◌<◌, ◌^◌, ℤ, unsigned_abs, Bool, true, false, ◌&&◌, ◌==◌, nat_le, if◌then◌else◌, List, [], ◌∷◌, Option, None, Some, IfSome}
 use Rattle.std.specs.Int.{is_negative}
 use Rattle.std.specs.List.{AllByRecursion}
 use Rattle.pl_frame.specs.declared.data_type.DataType.{DataType}
@@ -21,6 +21,11 @@ is_sound_kind (kind.Whole digits is_signed) = nat_le digits 38
 is_sound_kind (kind.Decimal digits scale) = nat_le digits 38 && nat_le 1 scale
 is_sound_kind (kind.Datetime places) = nat_le 1 places && nat_le places 9
 is_sound_kind _ = true
+
+-- a column is not read
+abbrev pub is_passed : Kind → Bool
+is_passed kind.Passed = true
+is_passed _ = false
 
 -- ---- kinds of types
 
@@ -58,13 +63,24 @@ IsKindOf type kind.Boolean = type ≡ dtype.Boolean
 IsKindOf type kind.Date = type ≡ dtype.Date
 IsKindOf type (kind.Decimal digits scale) = HoldsDecimals digits scale type
 IsKindOf type (kind.Datetime places) = HoldsMoments places type
+IsKindOf type kind.Passed = ⊥
 
--- each is one of its column's type
-abbrev pub AreKindsOf : List Entry → List Kind → Type 0
+-- ---- kinds of columns
+
+-- the columns of a schema, numbered from a number on: each that is read, where these are the places of those, in order
+abbrev pub read_columns : ℕ → List Entry → List ℕ → List (Option Entry)
+read_columns number [] places = []
+read_columns number (entry ∷ schema) [] = None ∷ read_columns (number + 1) schema []
+read_columns number (entry ∷ schema) (place ∷ places) =
+    if place == number then Some entry ∷ read_columns (number + 1) schema places else None ∷ read_columns (number + 1) schema (place ∷ places)
+
+-- each is one of its column's type, where the column is read
+abbrev pub AreKindsOf : List (Option Entry) → List Kind → Type 0
 AreKindsOf [] [] = Unit {0}
-AreKindsOf (entry ∷ schema) (kind ∷ kinds) = IsKindOf entry.1 kind × AreKindsOf schema kinds
-AreKindsOf schema kinds = ⊥
+AreKindsOf (None ∷ columns) (own ∷ kinds) = (is_passed own ≡ true) × AreKindsOf columns kinds
+AreKindsOf (Some entry ∷ columns) (own ∷ kinds) = IsKindOf entry.1 own × AreKindsOf columns kinds
+AreKindsOf columns kinds = ⊥
 
--- the type of each column can be read
-abbrev pub AreReadable : List Entry → Type 0
-AreReadable schema = AllByRecursion (λ entry. is_readable entry.1 ≡ true) schema
+-- the type of each column that is read can be read
+abbrev pub AreReadable : List (Option Entry) → Type 0
+AreReadable columns = AllByRecursion (λ column. IfSome column (λ entry. is_readable entry.1 ≡ true)) columns

@@ -3,4 +3,5 @@ pub mod CellTexts
 pub mod Kinds
 pub mod Nulls
 pub mod Changes
+pub mod Swaps
 pub mod Verbatim

@@ -1,5 +1,5 @@
 -- Rows that are written as they were read.
-use Rattle.std.specs.Prelude.{◌≡◌, ℕ, ◌+◌, ◌<◌, ◌≤◌, true, List, [], ◌∷◌, ◌++◌, length, Option, None, Some, IfSome, slice_index, slice_range}
+use Rattle.std.specs.Prelude.{◌≡◌, ℕ, ◌+◌, ◌<◌, ◌≤◌, true, List, [], ◌∷◌, ◌++◌, length, map, Option, None, Some, IfSome, slice_index, slice_range}
 use Rattle.std.specs.List.{join_with_byte, range_with_len}
 use Rattle.std.specs.Option.{option_map}
 use Rattle.pl_cells.specs.NullTest.{NullTest, nothing_is_null}
@@ -16,7 +16,7 @@ use Rattle.pl_verbatim.specs.declared.verbatim.Verbatim.{Verbatim}
 use Rattle.pl_verbatim.specs.CellTexts.{IsCellOptions, IsCellOf, IsCopyOf, as_read}
 use Rattle.pl_verbatim.specs.declared.form.Form.{Form}
 use Rattle.pl_verbatim.specs.declared.kinds.Kind.{Kind}
-use Rattle.pl_verbatim.specs.Kinds.{AreReadable, AreKindsOf, IsKindOf}
+use Rattle.pl_verbatim.specs.Kinds.{AreReadable, AreKindsOf, IsKindOf, read_columns}
 use Rattle.pl_verbatim.specs.Changes.{AreChangesOf, IsFormOf, null_test_of}
 use Rattle.pl_verbatim.specs.PrintedTexts.{CanPrint, IsTextPrinted}
 
@@ -36,7 +36,7 @@ pub record IsLineOf (o : WriteOptions) (schema : List Entry) (line : List ℕ) :
 
 -- fields of the columns of a schema, each once and in order, with what is written of their cells
 abbrev pub AreCopiesOf : WriteOptions → List Entry → List (List ℕ) → List (List ℕ) → Type 0
-AreCopiesOf o schema fields written = AreChangesOf o o nothing_is_null schema fields written
+AreCopiesOf o schema fields written = AreChangesOf o o nothing_is_null (map Some schema) fields written
 
 -- a line has such fields, with a separator between two of them and a line feed behind the last; and so does what is written of it
 pub record IsLineCopyOf (o : WriteOptions) (schema : List Entry) (line copy : List ℕ) : Type 0 where
@@ -48,22 +48,23 @@ pub record IsLineCopyOf (o : WriteOptions) (schema : List Entry) (line copy : Li
 
 -- ---- rows
 
--- Rows are read by the marks of these options, and what is missing is null. All columns are read.
+-- Rows are read by the marks of these options, and what is missing is null. Some columns are read.
 pub record IsReadSo (plan : RangePlan) (schema : List Entry) (o : WriteOptions) : Type 0 where
   pub marks : marks_of plan.dialect ≡ line_marks o
   pub comments : plan.dialect.comment_prefix ≡ None
   pub fits : FitsOptions o
   pub missing : plan.options.missing_is_null ≡ true
-  pub places : plan.projection.places.now ≡ range_with_len 0 (length schema)
-  pub some : 0 < length schema
+  pub some : 0 < length plan.projection.places.now
 
 -- these texts mean null in each column
 abbrev pub AreNulls : RangePlan → NullTest → Type 0
 AreNulls plan is_null = (column : ℕ) → means_null (option_map (λ nulls. nulls.now) plan.options.null_values) column ≡ is_null
 
--- Rows are read so, no text means null but a missing one, and they are written by the same marks, quoted where necessary, with nothing for a null
+-- Rows are read so, all columns are, and no text means null but a missing one; and they are written by the same marks, quoted where necessary, with
+-- nothing for a null
 pub record IsWrittenAsRead (plan : RangePlan) (schema : List Entry) (o : WriteOptions) : Type 0 where
   pub read : IsReadSo plan schema o
+  pub places : plan.projection.places.now ≡ range_with_len 0 (length schema)
   pub nulls : AreNulls plan nothing_is_null
   pub terminator : o.terminator ≡ 10 ∷ []
   pub null : o.null ≡ []
@@ -73,14 +74,14 @@ pub record IsWrittenAsRead (plan : RangePlan) (schema : List Entry) (o : WriteOp
 pub record AreRowsOf (plan : RangePlan) (schema : List Entry) (o : WriteOptions) (verbatim : Verbatim) : Type 0 where
   pub rows : IsWrittenAsRead plan schema o
   pub cells : IsCellOptions o verbatim.separator verbatim.quote_char
-  pub kinds : AreKindsOf schema verbatim.kinds.items
+  pub kinds : AreKindsOf (map Some schema) verbatim.kinds.items
 
 -- these are the kinds and the marks of rows that are written by a form
 pub record AreChangedRowsOf (plan : RangePlan) (schema : List Entry) (o : WriteOptions) (verbatim : Verbatim) (form : Form) : Type 0 where
   pub rows : IsReadSo plan schema (as_read verbatim.separator o)
   pub nulls : AreNulls plan (null_test_of form)
   pub written : IsFormOf o verbatim.quote_char form
-  pub kinds : AreKindsOf schema verbatim.kinds.items
+  pub kinds : AreKindsOf (read_columns 0 schema plan.projection.places.now) verbatim.kinds.items
 
 -- and so they are, where there are kinds
 pub record IsVerbatimOf (plan : RangePlan) (schema : List Entry) (o : WriteOptions) (verbatim : Verbatim) : Type 0 where
@@ -118,7 +119,7 @@ pub record IsCellCopied (text : List ℕ) (from from_now at : ℕ) (kind : Kind)
 pub record IsRowCopied (text : List ℕ) (start : ℕ) (kinds : List Kind) (separator quote : ℕ) (before now : List ℕ) (result : Option ℕ) : Type 0 where
   pub copy : List ℕ
   pub now_is : now ≡ before ++ copy
-  pub line : IfSome result (λ end. (o : WriteOptions) (schema : List Entry) → FitsOptions o → IsCellOptions o separator quote → AreReadable schema → AreKindsOf schema kinds
+  pub line : IfSome result (λ end. (o : WriteOptions) (schema : List Entry) → FitsOptions o → IsCellOptions o separator quote → AreReadable (map Some schema) → AreKindsOf (map Some schema) kinds
       → IsLineCopyOf o schema (slice_range text start end) copy)
 
 -- lines grew by what is written of so many rows, which stand in a text from one place to another

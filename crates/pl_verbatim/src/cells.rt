@@ -36,6 +36,7 @@ pub(crate) fn value_end<const CALLER: usize>(
         Kind::Date => date_end(text, at),
         Kind::Decimal { digits, scale } => decimal_end(text, at, digits, scale),
         Kind::Datetime { places } => moment_end(text, at, places),
+        Kind::Passed => None,
     }
 }
 

@@ -2,15 +2,16 @@
 ghost use Rattle.std.specs.Prelude.{◌≡◌, ◌+◌, ◌-◌, None, Some, ◌<◌, ◌≤◌, ◌∷◌, [], ◌++◌, true, false, length, get_or, take, slice_index, slice_range, IfSome, IfNone};
 ghost use Rattle.std.specs.List.{All};
 ghost use Rattle.pl_verbatim.specs.Nulls.{are_alike, AreStartsOf};
-ghost use Rattle.pl_verbatim.specs.Changes.{found_text, IsCellPut, IsRowPut};
+ghost use Rattle.pl_verbatim.specs.Changes.{found_text, IsCellPut, IsColumnPut, IsRowPut};
 ghost use Rattle.pl_verbatim.specs.CellTexts.{zeros_text};
-ghost use Rattle.pl_verbatim.specs.Kinds.{is_sound_kind};
+ghost use Rattle.pl_verbatim.specs.Kinds.{is_passed, is_sound_kind};
 
 use crate::form::Form;
 use crate::found::{Found, find};
 use crate::kinds::Kind;
 use crate::marks::Marks;
 use crate::nulls::{means_null, null_end};
+use crate::passed::pass_field;
 use pl_write::puts::{put_byte, put_byte_if, put_bytes};
 
 // What is written of a cell needs no more room beside its text: two quotes, a point and zeros, a mark, and what a copy of fixed size puts behind it.
@@ -210,6 +211,40 @@ fn put_cell<const CALLER: usize>(
     Some((marks.pass(ahead, text, field_end, separator), end))
 }
 
+// Puts what is put of the field at a place whose column is read, where there is room, and answers the place behind the mark that ends it, and the place
+// behind what was put: what is written of the cell, behind a separator unless it is the first. `CALLER` is that of `cell_end`.
+#[inline(always)]
+fn put_read<const CALLER: usize>(
+    text: &[u8],
+    at: usize,
+    kind: Kind,
+    mark: u8,
+    separator: u8,
+    quote: u8,
+    form: &Form,
+    marks: &mut Marks,
+    out: &mut [u8],
+    place: usize,
+    is_first: bool,
+) -> Option<(usize, usize)>
+    requires inside { at ≤ length text.now }
+    requires read { is_passed kind ≡ false }
+    requires sound { is_sound_kind kind ≡ true }
+    requires ascii { quote < 128 }
+    requires place { place < length out.old }
+    requires alike { are_alike form.now.nulls ≡ true }
+    requires begin { AreStartsOf form.now.nulls form.now.starts }
+    ensures put { IfSome result (λ put. IsColumnPut text.now at put.0 kind mark separator quote form.now is_first (take place out.old) (take put.1 out.new)) }
+    ensures within { IfSome result (λ put. put.1 < length out.new) }
+    ensures long { length out.new ≡ length out.old }
+    ensures kept { take place out.new ≡ take place out.old }
+{
+    let behind = put_byte_if(out, place, form.separator, !is_first);
+    put_cell::<CALLER>(
+        text, at, kind, mark, separator, quote, form, marks, out, behind,
+    )
+}
+
 /// Puts what is written of the row at a place, where there is room, and answers the place behind its own line, and the place behind what was put.
 /// None also where no such row is found; what stands in front stays.
 #[inline]
@@ -238,39 +273,34 @@ pub(crate) fn put_row(
     ensures kept { take from out.new ≡ take from out.old }
     ensures put { IfSome result (λ put. IsRowPut text.now start kinds.now separator quote form.now (take from out.old) (take put.1 out.new) put.0) }
 {
-    if kinds.is_empty() {
+    if kinds.is_empty() || from >= out.len() {
         return None;
     }
     let last = kinds.len() - 1;
     let mut at = start;
     let mut place = from;
+    let mut is_first = true;
     for index in 0..last {
-        let (next, end) = put_cell::<5>(
-            text,
-            at,
-            kinds[index],
-            separator,
-            separator,
-            quote,
-            form,
-            marks,
-            out,
-            place,
+        let kind = kinds[index];
+        if kind.is_passed() {
+            at = pass_field(text, at, separator, separator, quote, marks)?;
+            continue;
+        }
+        let (next, end) = put_read::<5>(
+            text, at, kind, separator, separator, quote, form, marks, out, place, is_first,
         )?;
-        place = put_byte(out, end, form.separator);
         at = next;
+        place = end;
+        is_first = false;
     }
-    let (next, end) = put_cell::<6>(
-        text,
-        at,
-        kinds[last],
-        b'\n',
-        separator,
-        quote,
-        form,
-        marks,
-        out,
-        place,
+    let kind = kinds[last];
+    if kind.is_passed() {
+        let next = pass_field(text, at, b'\n', separator, quote, marks)?;
+        let behind = put_text(&form.terminator, out, place)?;
+        return Some((next, behind));
+    }
+    let (next, end) = put_read::<6>(
+        text, at, kind, b'\n', separator, quote, form, marks, out, place, is_first,
     )?;
     let behind = put_text(&form.terminator, out, end)?;
     Some((next, behind))

@@ -42,6 +42,7 @@ fn inner_end<const CALLER: usize>(
         Kind::Date => date_end(text, at),
         Kind::Decimal { digits, scale } => decimal_end(text, at, digits, scale),
         Kind::Datetime { places } => moment_end(text, at, places),
+        Kind::Passed => None,
     }
 }
 

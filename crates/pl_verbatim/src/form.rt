@@ -19,7 +19,7 @@ pub(crate) struct Form {
     pub(crate) terminator: Vec<u8>,
     // The texts that mean null, in each column the same.
     pub(crate) nulls: Option<NullValuesCompiled>,
-    // Whether one of these begins with a byte.
+    // For each byte, whether one of these begins with it.
     pub(crate) starts: [bool; 256],
     ghost alike: { are_alike nulls ≡ true },
     ghost begin: { AreStartsOf nulls starts },

@@ -33,15 +33,6 @@ fn null_of(alloc: Global, options: &SerializeOptions) -> Result<Vec<u8>, AllocEr
     Ok(null)
 }
 
-// A text of one's own. Refuses only want of memory.
-fn copy_of(alloc: Global, text: &[u8]) -> Result<Vec<u8>, AllocError>
-    ensures { IfOk result (λ copy. copy.items ≡ text.now) }
-{
-    let mut copy = Vec::new(alloc);
-    copy.extend_from_slice(text)?;
-    Ok(copy)
-}
-
 // Equal texts, where there are such. Refuses only want of memory.
 fn nulls_of(nulls: Option<&NullValuesCompiled>) -> Result<Option<NullValuesCompiled>, AllocError>
     ensures { IfOk result (λ copy. copy ≡ option_map (λ nulls. nulls.now) nulls.entry) }
@@ -122,7 +113,7 @@ impl Form {
             quotes_numbers: options.quote_style == QuoteStyle::Always,
             quotes_values: options.quote_style != QuoteStyle::Necessary,
             null: null_of(alloc, options)?,
-            terminator: copy_of(alloc, options.line_terminator.as_str().as_bytes())?,
+            terminator: Vec::from_slice(alloc, options.line_terminator.as_str().as_bytes())?,
         })
     }
 
@@ -153,6 +144,7 @@ impl Form {
             Kind::Boolean => self.quotes_values,
             Kind::Date => self.quotes_values,
             Kind::Datetime { places: _ } => self.quotes_values,
+            Kind::Passed => false,
         }
     }
 }

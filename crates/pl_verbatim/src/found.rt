@@ -249,5 +249,6 @@ pub(crate) fn find<const CALLER: usize>(
             scale: _,
         } => find_value::<13>(text, at, kind, mark, separator, quote, form),
         Kind::Datetime { places } => find_moment(text, at, places, mark, separator, quote, form),
+        Kind::Passed => None,
     }
 }

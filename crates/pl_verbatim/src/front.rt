@@ -4,15 +4,16 @@ ghost use Rattle.std.specs.Bool.{OnTrue};
 ghost use Rattle.std.specs.List.{All, range_with_len};
 ghost use Rattle.std.specs.Option.{option_map};
 ghost use Rattle.pl_frame.specs.Schema.{Entry};
+ghost use Rattle.pl_cells.specs.InitBuffers.{first_unreadable};
 ghost use Rattle.pl_verbatim.specs.Nulls.{are_alike};
 ghost use Rattle.pl_text.specs.FrameText.{WriteOptions};
 ghost use Rattle.pl_rows.specs.declared.plan.RangePlan.{RangePlan};
 ghost use Rattle.pl_round_trip.specs.RoundTrip.{is_printed_byte};
 ghost use Rattle.pl_write.specs.Options.{cell_options};
-ghost use Rattle.pl_verbatim.specs.Kinds.{AreReadable, AreKindsOf, is_sound_kind};
+ghost use Rattle.pl_verbatim.specs.Kinds.{AreKindsOf, is_passed, is_sound_kind, read_columns};
 ghost use Rattle.pl_verbatim.specs.PrintedTexts.{CanPrint, IsFrontPrinted};
 ghost use Rattle.pl_verbatim.specs.CellTexts.{as_read};
-ghost use Rattle.pl_verbatim.specs.Changes.{IsAlike};
+ghost use Rattle.pl_verbatim.specs.Changes.{IsAlike, IsFormOf};
 ghost use Rattle.pl_verbatim.specs.Verbatim.{IsReadSo, IsVerbatimOf, AreRowsCopied};
 
 use crate::changes::put_row;
@@ -52,7 +53,7 @@ fn is_apart(byte: u8) -> bool
     !(byte.is_ascii_alphanumeric() || byte == b'-' || byte == b'.' || byte == b':')
 }
 
-// Whether rows are read by the quote by which they are written, and what is missing is null; all columns are read.
+// Whether rows are read by the quote by which they are written, and what is missing is null; some columns are read.
 fn is_read_so(schema: &Schema, plan: &RangePlan<'_>, options: &SerializeOptions) -> bool
     requires { CanPrint plan.now schema.now }
     ensures { OnTrue result (IsReadSo plan.now schema.now (as_read plan.now.dialect.separator (cell_options options.now))) }
@@ -64,8 +65,7 @@ fn is_read_so(schema: &Schema, plan: &RangePlan<'_>, options: &SerializeOptions)
         && is_apart(dialect.separator)
         && is_apart(options.quote_char)
         && plan.options.missing_is_null
-        && schema.len() > 0
-        && are_all(plan.projection.places, schema.len())
+        && !plan.projection.places.is_empty()
 }
 
 // Whether the texts that mean null are the same in each column.
@@ -90,19 +90,47 @@ fn is_same(separator: u8, nulls: Option<&NullValuesCompiled>, options: &Serializ
         && options.quote_style == QuoteStyle::Necessary
 }
 
-// The kinds of the columns of a schema; none where one of them has none.
-fn kinds_of(alloc: Global, schema: &Schema) -> Result<Vec<Kind>, AllocError>
-    requires { AreReadable schema.now }
-    ensures kinds { IfOk result (λ kinds. 0 < length kinds.items → AreKindsOf schema.now kinds.items) }
+// How rows are written; none where all columns are read, and they are written as they were read. Refuses only want of memory.
+fn form_of(
+    alloc: Global,
+    reads_all: bool,
+    separator: u8,
+    nulls: Option<&NullValuesCompiled>,
+    options: &SerializeOptions,
+) -> Result<Option<Form>, AllocError>
+    requires style { (cell_options options.now).style < 3 }
+    requires alike { are_alike (option_map (λ nulls. nulls.now) nulls) ≡ true }
+    ensures all { IfOk result (λ form. form ≡ None → reads_all ≡ true) }
+    ensures same { IfOk result (λ form. form ≡ None → cell_options options.now ≡ as_read separator (cell_options options.now)) }
+    ensures none { IfOk result (λ form. form ≡ None → nulls.entry ≡ None) }
+    ensures form { IfOk result (λ form. IfSome form (IsFormOf (cell_options options.now) options.now.quote_char)) }
+    ensures nulls { IfOk result (λ form. IfSome form (λ form. form.nulls ≡ option_map (λ nulls. nulls.now) nulls.entry)) }
+{
+    if reads_all && is_same(separator, nulls, options) {
+        return Ok(None);
+    }
+    Ok(Some(Form::of(alloc, options, nulls)?))
+}
+
+// The kinds of the columns of a schema, of which those at these places are read; none where one of them has none.
+fn kinds_of(alloc: Global, schema: &Schema, places: &[usize]) -> Result<Vec<Kind>, AllocError>
+    requires { first_unreadable schema.now places.now ≡ None }
+    ensures kinds { IfOk result (λ kinds. 0 < length kinds.items → AreKindsOf (read_columns 0 schema.now places.now) kinds.items) }
     ensures sound { IfOk result (λ kinds. All (λ kind. is_sound_kind kind ≡ true) kinds.items) }
 {
     let mut kinds = Vec::new(alloc);
+    let mut next = 0;
     for index in 0..schema.len() {
-        let (_, dtype) = schema.entry(index);
-        let Some(kind) = kind_of(dtype) else {
-            return Ok(Vec::new(alloc));
-        };
-        kinds.push(kind)?;
+        if next < places.len() && places[next] == index {
+            let (_, dtype) = schema.entry(index);
+            let Some(kind) = kind_of(dtype) else {
+                return Ok(Vec::new(alloc));
+            };
+            kinds.push(kind)?;
+            next += 1;
+        } else {
+            kinds.push(Kind::Passed)?;
+        }
     }
     Ok(kinds)
 }
@@ -126,16 +154,14 @@ impl Verbatim {
             return Ok(Verbatim::none(alloc));
         }
         let separator = plan.dialect.separator;
-        let form = if is_same(separator, nulls, options) {
-            None
-        } else {
-            Some(Form::of(alloc, options, nulls)?)
-        };
+        let reads_all = are_all(plan.projection.places, schema.len());
+        let form = form_of(alloc, reads_all, separator, nulls, options)?;
         Ok(Verbatim {
-            kinds: kinds_of(alloc, schema)?,
+            kinds: kinds_of(alloc, schema, plan.projection.places)?,
             separator,
             quote_char: options.quote_char,
             form,
+            reads_all,
         })
     }
 
@@ -147,7 +173,7 @@ impl Verbatim {
     {
         match &self.form {
             Some(form) => {
-                if form.is_alike(self.separator) {
+                if self.reads_all && form.is_alike(self.separator) {
                     self.front_alike(text, form)
                 } else {
                     VerbatimFront { end: 0, rows: 0 }
@@ -189,6 +215,7 @@ impl Verbatim {
     fn front_alike(&self, text: &[u8], form: &Form) -> VerbatimFront
         requires form { self.now.form ≡ Some form.now }
         requires alike { IsAlike form.now self.now.separator }
+        requires whole { self.now.reads_all ≡ true }
         ensures { (plan : RangePlan) (schema : List Entry) (o : WriteOptions) → CanPrint plan schema → IsVerbatimOf plan schema o self.now
             → IsFrontPrinted plan schema o text.now result.end result.rows (take result.end text.now) }
     {
@@ -247,18 +274,20 @@ impl Verbatim {
         VerbatimFront { end, rows }
     }
 
-    // What `copy` does of rows that are written by a form.
+    // What `copy` does of rows that are written by a form: the first, as far as they stand as they are written but for the separator, in one go,
+    // and the others cell by cell.
     fn change(&self, text: &[u8], from: usize, form: &Form, lines: &mut Vec<u8>) -> VerbatimFront
         requires inside { from ≤ length text.now }
         requires form { self.now.form ≡ Some form.now }
         ensures { AreRowsCopied self.now text.now from result.end result.rows lines.old.items lines.new.items }
     {
         rows_return();
+        let _ = lines.reserve(text.len() - from);
+        let mut kept = self.swap_rows(text, from, form, lines);
         let mut block = [0u8; BLOCK];
         let mut place = 0;
-        let mut kept = VerbatimFront { end: from, rows: 0 };
-        let mut end = from;
-        let mut rows = 0;
+        let mut end = kept.end;
+        let mut rows = kept.rows;
         let mut marks = Marks::later(end);
         while end < text.len() {
             match put_row(

@@ -2,7 +2,7 @@
 ghost use Rattle.std.specs.Prelude.{◌≡◌, true, IfSome, Some};
 ghost use Rattle.pl_frame.specs.declared.data_type.DataType.TheVariants as dtype;
 ghost use Rattle.pl_frame.specs.Types.{is_readable};
-ghost use Rattle.pl_verbatim.specs.Kinds.{IsKindOf, is_sound_kind};
+ghost use Rattle.pl_verbatim.specs.Kinds.{IsKindOf, is_passed, is_sound_kind};
 
 use pl_frame::data_type::{DataType, TimeUnit};
 
@@ -21,6 +21,18 @@ pub enum Kind {
     Decimal { digits: usize, scale: usize },
     /// As a datetime with a fraction in so many digits.
     Datetime { places: usize },
+    /// Anyhow, since the column is not read: nothing is written of it.
+    Passed,
+}
+
+impl Kind {
+    /// Whether the column is not read.
+    #[inline(always)]
+    pub(crate) fn is_passed(self) -> bool
+        ensures { result ≡ is_passed self }
+    {
+        matches!(self, Kind::Passed)
+    }
 }
 
 // Of a decimal with so many digits, so many of them behind the point.

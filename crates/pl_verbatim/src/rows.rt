@@ -1,11 +1,11 @@
 //! A row that stands as it is written.
-ghost use Rattle.std.specs.Prelude.{◌≡◌, ◌<◌, ◌≤◌, List, true, length, slice_range, IfSome};
+ghost use Rattle.std.specs.Prelude.{◌≡◌, ◌<◌, ◌≤◌, List, Some, true, false, length, map, slice_range, IfSome};
 ghost use Rattle.std.specs.List.{All};
 ghost use Rattle.pl_frame.specs.Schema.{Entry};
 ghost use Rattle.pl_text.specs.FrameText.{WriteOptions};
 ghost use Rattle.pl_verbatim.specs.CellTexts.{IsCellOptions};
 ghost use Rattle.pl_verbatim.specs.Changes.{IsAlike, IsLineChangeOfKinds};
-ghost use Rattle.pl_verbatim.specs.Kinds.{AreKindsOf, is_sound_kind};
+ghost use Rattle.pl_verbatim.specs.Kinds.{AreKindsOf, is_passed, is_sound_kind};
 ghost use Rattle.pl_verbatim.specs.Nulls.{are_alike, AreStartsOf};
 ghost use Rattle.pl_verbatim.specs.Verbatim.{IsLineOf, IsRowCopied};
 
@@ -32,7 +32,7 @@ pub(crate) fn row_end(
     ensures some { IfSome result (λ end. 0 < length kinds.now) }
     ensures after { IfSome result (λ end. start < end) }
     ensures within { IfSome result (λ end. end ≤ length text.now) }
-    ensures line { IfSome result (λ end. (o : WriteOptions) (schema : List Entry) → IsCellOptions o separator quote → AreKindsOf schema kinds.now → IsLineOf o schema (slice_range text.now start end)) }
+    ensures line { IfSome result (λ end. (o : WriteOptions) (schema : List Entry) → IsCellOptions o separator quote → AreKindsOf (map Some schema) kinds.now → IsLineOf o schema (slice_range text.now start end)) }
 {
     if kinds.is_empty() {
         return None;
@@ -66,6 +66,7 @@ pub(crate) fn same_row_end(
     requires nulls { are_alike form.now.nulls ≡ true }
     requires begin { AreStartsOf form.now.nulls form.now.starts }
     requires alike { IsAlike form.now separator }
+    requires whole { All (λ kind. is_passed kind ≡ false) kinds.now }
     ensures some { IfSome result (λ end. 0 < length kinds.now) }
     ensures after { IfSome result (λ end. start < end) }
     ensures within { IfSome result (λ end. end ≤ length text.now) }

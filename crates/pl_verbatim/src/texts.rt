@@ -9,9 +9,9 @@ use pl_cells::utf8::validate_utf8;
 use pl_write::texts::is_quoting_needed;
 use std::simd::prelude::*;
 
-// How many of 32 bytes stand before the first that only a quoted text may hold, or that is not ASCII.
+/// How many of 32 bytes stand before the first that only a quoted text may hold, or that is not ASCII.
 #[inline(always)]
-fn count_before_stop(bytes: &[u8], separator: u8, quote: u8) -> usize
+pub(crate) fn count_before_stop(bytes: &[u8], separator: u8, quote: u8) -> usize
     requires { length bytes.now ≡ 32 }
     ensures { result ≡ prefix_len (λ x. not (is_special separator quote x || nat_le 128 x)) bytes.now }
 {
@@ -65,9 +65,9 @@ fn bare_end(text: &[u8], at: usize, separator: u8, quote: u8) -> Option<usize>
     }
 }
 
-// The place behind the text between quotes that begins at a place, where it is short, ASCII, and holds no quote and no line end.
+/// The place behind the text between quotes that begins at a place, where it is short, ASCII, and holds no quote and no line end.
 #[inline(always)]
-fn short_quoted_end(text: &[u8], at: usize, quote: u8) -> Option<usize>
+pub(crate) fn short_quoted_end(text: &[u8], at: usize, quote: u8) -> Option<usize>
     requires inside { at < length text.now }
     requires quote { slice_index text.now at ≡ quote }
     ensures after { IfSome result (λ end. at + 2 ≤ end) }

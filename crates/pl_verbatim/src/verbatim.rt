@@ -1,7 +1,7 @@
 //! A test of rows: whether they are written as they were read, or what is written of them stands in their fields.
-ghost use Rattle.std.specs.Prelude.{◌≡◌, ◌<◌, [], true};
+ghost use Rattle.std.specs.Prelude.{◌≡◌, ◌<◌, [], true, false};
 ghost use Rattle.std.specs.List.{All};
-ghost use Rattle.pl_verbatim.specs.Kinds.{is_sound_kind};
+ghost use Rattle.pl_verbatim.specs.Kinds.{is_passed, is_sound_kind};
 
 use crate::form::Form;
 use crate::kinds::Kind;
@@ -16,8 +16,11 @@ pub struct Verbatim {
     pub(crate) quote_char: u8,
     // How they are written, unless they are written as they were read.
     pub(crate) form: Option<Form>,
+    // Whether all columns are read.
+    pub(crate) reads_all: bool,
     ghost sound: { All (λ kind. is_sound_kind kind ≡ true) kinds.items },
     ghost ascii: { quote_char < 128 },
+    ghost whole: { reads_all ≡ true → All (λ kind. is_passed kind ≡ false) kinds.items },
 }
 
 /// The rows at the front of a text that are written as they were read: so many of its bytes, and so many rows.
@@ -37,6 +40,7 @@ impl Verbatim {
             separator: b',',
             quote_char: b'"',
             form: None,
+            reads_all: true,
         }
     }
 }

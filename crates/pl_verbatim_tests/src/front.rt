@@ -1,8 +1,10 @@
 //! Tests of `pl_verbatim::verbatim`: which rows are found to be written as they were read, and of which what is written stands in their fields. That
 //! those that are found are, is proved.
-ghost use Rattle.std.specs.Prelude.{◌≡◌, length};
+ghost use Rattle.std.specs.Prelude.{◌≡◌, ◌<◌, ℕ, length, slice_index};
+ghost use Rattle.pl_cells.specs.NullValues.{HaveTexts};
 
 use pl_cells::init_buffers::first_unreadable;
+use pl_cells::null_values::NullValuesCompiled;
 use pl_cells::utf8::CsvEncoding;
 use pl_frame::data_type::{DataType, TimeUnit};
 use pl_frame::name::PlSmallStr;
@@ -14,18 +16,76 @@ use pl_write::options::{CsvWriterOptions, QuoteStyle};
 use std::alloc::Global;
 use std::process::Abort;
 
+// Adds a column of a type.
+fn add(rt: &impl Abort, alloc: Global, schema: &mut Schema, name: &str, dtype: &DataType) {
+    let name = PlSmallStr::from_str(alloc, name).expect(rt, "a name");
+    let dtype = dtype.try_clone().expect(rt, "a type");
+    drop(schema.with_column(name, dtype).expect(rt, "a column"));
+}
+
 // A schema of two columns of a type.
 fn schema(rt: &impl Abort, alloc: Global, dtype: &DataType) -> Schema
     ensures { length result ≡ 2 }
 {
     let mut schema = Schema::new(alloc);
-    for name in ["a", "b"] {
-        let name = PlSmallStr::from_str(alloc, name).expect(rt, "a name");
-        let dtype = dtype.try_clone().expect(rt, "a type");
-        drop(schema.with_column(name, dtype).expect(rt, "a column"));
-    }
+    add(rt, alloc, &mut schema, "a", dtype);
+    add(rt, alloc, &mut schema, "b", dtype);
     assert!(rt; schema.len() == 2);
     schema
+}
+
+// A schema of a column of numbers, one of texts and one of days.
+fn three_columns(rt: &impl Abort, alloc: Global) -> Schema
+    ensures { length result ≡ 3 }
+{
+    let mut schema = Schema::new(alloc);
+    add(rt, alloc, &mut schema, "a", &DataType::Int64);
+    add(rt, alloc, &mut schema, "b", &DataType::String);
+    add(rt, alloc, &mut schema, "c", &DataType::Date);
+    assert!(rt; schema.len() == 3);
+    schema
+}
+
+// A test of rows of which the columns at these places are read, where these texts mean null, and which are written by a separator in a style.
+fn places_test_of<'a>(
+    rt: &impl Abort,
+    alloc: Global,
+    schema: &Schema,
+    places: &'a [usize],
+    nulls: Option<&'a NullValuesCompiled>,
+    separator: u8,
+    style: QuoteStyle,
+) -> Verbatim
+    requires places { (k : ℕ) → k < length places.now → slice_index places.now k < length schema.now }
+    requires texts { HaveTexts nulls (length schema.now) }
+{
+    let plan = RangePlan {
+        dialect: Dialect {
+            separator: b',',
+            quote_char: Some(b'"'),
+            eol_char: b'\n',
+            comment_prefix: None,
+        },
+        projection: Projection {
+            places,
+            width: schema.len(),
+        },
+        options: RowOptions {
+            null_values: nulls,
+            encoding: CsvEncoding::Utf8,
+            missing_is_null: true,
+            ignore_errors: false,
+            truncate_ragged_lines: false,
+        },
+        limit: None,
+        last: true,
+    };
+    assert!(rt; plan.dialect.is_valid() && plan.projection.is_valid());
+    assert!(rt; first_unreadable(places, schema).is_none());
+    let mut options = CsvWriterOptions::new(alloc).expect(rt, "options");
+    options.serialize_options.separator = separator;
+    options.serialize_options.quote_style = style;
+    Verbatim::of(alloc, schema, &plan, &options.serialize_options).expect(rt, "memory")
 }
 
 // A test of rows with two cells of a type, which are written by a separator.
@@ -42,33 +102,7 @@ fn styled_test_of(
     style: QuoteStyle,
 ) -> Verbatim {
     let schema = schema(rt, alloc, dtype);
-    let plan = RangePlan {
-        dialect: Dialect {
-            separator: b',',
-            quote_char: Some(b'"'),
-            eol_char: b'\n',
-            comment_prefix: None,
-        },
-        projection: Projection {
-            places: &[0, 1],
-            width: schema.len(),
-        },
-        options: RowOptions {
-            null_values: None,
-            encoding: CsvEncoding::Utf8,
-            missing_is_null: true,
-            ignore_errors: false,
-            truncate_ragged_lines: false,
-        },
-        limit: None,
-        last: true,
-    };
-    assert!(rt; plan.dialect.is_valid() && plan.projection.is_valid());
-    assert!(rt; first_unreadable(&[0, 1], &schema).is_none());
-    let mut options = CsvWriterOptions::new(alloc).expect(rt, "options");
-    options.serialize_options.separator = separator;
-    options.serialize_options.quote_style = style;
-    Verbatim::of(alloc, &schema, &plan, &options.serialize_options).expect(rt, "memory")
+    places_test_of(rt, alloc, &schema, &[0, 1], None, separator, style)
 }
 
 // The front of a text of such rows.
@@ -261,4 +295,98 @@ fn rows_are_copied_with_another_separator_and_with_quotes_by_style(rt: HostRunti
     let copy = "\"2024-02-29T23:59:59.000\";\n";
     let dtype = DataType::Datetime(TimeUnit::Milliseconds);
     assert!(rt; is_changed(&rt, alloc, &dtype, QuoteStyle::NonNumeric, rows, copy));
+}
+
+#[test]
+fn front_ends_before_a_cell_that_means_null(rt: HostRuntime) {
+    let alloc = rt.alloc();
+    let schema = schema(&rt, alloc, &DataType::String);
+    let missing = PlSmallStr::from_str(alloc, "NA").expect(&rt, "a text");
+    let nulls = NullValuesCompiled::AllColumnsSingle(missing);
+    let test = places_test_of(
+        &rt,
+        alloc,
+        &schema,
+        &[0, 1],
+        Some(&nulls),
+        b',',
+        QuoteStyle::Necessary,
+    );
+    let text = b"a,N\nNAN,\nb,NA\n";
+    let found = test.front(text);
+    assert!(&rt; found.end == 9 && found.rows == 2);
+    let mut lines = Vec::new(alloc);
+    let copied = test.copy(text, found.end, &mut lines);
+    assert!(rt; copied.end == text.len() && lines.as_slice() == b"b,\n".as_slice());
+}
+
+// How far the rows of a text are copied of whose three columns those at these places are read, and what is copied of them.
+fn copied_of(
+    rt: &impl Abort,
+    alloc: Global,
+    places: &[usize],
+    text: &str,
+) -> (VerbatimFront, Vec<u8>)
+    requires { (k : ℕ) → k < length places.now → slice_index places.now k < 3 }
+{
+    let schema = three_columns(rt, alloc);
+    let style = QuoteStyle::Necessary;
+    let test = places_test_of(rt, alloc, &schema, places, None, b',', style);
+    let front = test.front(text.as_bytes());
+    assert!(rt; front.end == 0 && front.rows == 0);
+    let mut lines = Vec::new(alloc);
+    (test.copy(text.as_bytes(), 0, &mut lines), lines)
+}
+
+#[test]
+fn columns_that_are_not_read_are_passed_over(rt: HostRuntime) {
+    let alloc = rt.alloc();
+    let long = "a text that is longer than thirty-two bytes";
+    let text = "7,a,2024-02-29\n\"x,\n\"\"y\",\"b,c\",\n";
+    let (copied, lines) = copied_of(&rt, alloc, &[1, 2], text);
+    assert!(&rt; copied.end == text.len() && copied.rows == 2);
+    assert!(&rt; lines.as_slice() == b"a,2024-02-29\n\"b,c\",\n".as_slice());
+    let text = "7,a\"b,2024-02-29\n,\"c,\nd\",\"2024-03-01\"\n";
+    let (copied, lines) = copied_of(&rt, alloc, &[0, 2], text);
+    assert!(&rt; copied.end == text.len() && copied.rows == 2);
+    assert!(&rt; lines.as_slice() == b"7,2024-02-29\n,2024-03-01\n".as_slice());
+    let text = "7,a,no day\n,,\"20\"\"24\n\"\n";
+    let (copied, lines) = copied_of(&rt, alloc, &[0, 1], text);
+    assert!(&rt; copied.end == text.len() && copied.rows == 2);
+    assert!(&rt; lines.as_slice() == b"7,a\n,\n".as_slice());
+    let text = format!(in alloc; "{long},a,{long}\n\"{long}\",\"b\",\"{long}\"\n").expect(
+        &rt, "memory",
+    );
+    let (copied, lines) = copied_of(&rt, alloc, &[1], &text);
+    assert!(&rt; copied.end == text.len() && copied.rows == 2);
+    assert!(rt; lines.as_slice() == b"a\nb\n".as_slice());
+}
+
+#[test]
+fn rows_with_another_number_of_fields_or_an_open_quote_are_not_passed_over(rt: HostRuntime) {
+    let alloc = rt.alloc();
+    for text in ["7,a\n", "7,a,b,c\n", "7,a,\"b\n", "7,a,\"b\"c\n"] {
+        let (copied, lines) = copied_of(&rt, alloc, &[0, 1], text);
+        assert!(&rt; copied.end == 0 && copied.rows == 0 && lines.is_empty());
+    }
+}
+
+// Whether a text of such rows, written by semicolons and quoted where necessary, is copied to its end as this one.
+fn is_swapped(rt: &impl Abort, alloc: Global, dtype: &DataType, text: &str, copy: &str) -> bool {
+    is_changed(rt, alloc, dtype, QuoteStyle::Necessary, text, copy)
+}
+
+#[test]
+fn rows_are_copied_with_another_separator_up_to_a_quote_or_that_separator(rt: HostRuntime) {
+    let alloc = rt.alloc();
+    let rows = "7,-12\n,0\n120,\n";
+    assert!(&rt; is_swapped(&rt, alloc, &DataType::Int64, rows, "7;-12\n;0\n120;\n"));
+    let (rows, copy) = ("a,b\nc,größer\n\"d\",\"e,f\"\n", "a;b\nc;größer\nd;e,f\n");
+    assert!(&rt; is_swapped(&rt, alloc, &DataType::String, rows, copy));
+    let (rows, copy) = ("a,b\nc;d,e\nf,g\n", "a;b\n\"c;d\";e\nf;g\n");
+    assert!(&rt; is_swapped(&rt, alloc, &DataType::String, rows, copy));
+    let rows = "2024-02-29T23:59:59.999,\n,\n2024-02-29T23:59:59,\n,\n";
+    let copy = "2024-02-29T23:59:59.999;\n;\n2024-02-29T23:59:59.000;\n;\n";
+    let dtype = DataType::Datetime(TimeUnit::Milliseconds);
+    assert!(rt; is_swapped(&rt, alloc, &dtype, rows, copy));
 }

@@ -1,13 +1,13 @@
--- The cells of the row so far were put.
-use Rattle.std.proofs.Common.{◌≡◌, ◌≤◌, length, take}
+-- What is put of the fields of the row so far was put.
+use Rattle.std.proofs.Common.{◌≡◌, ◌<◌, ◌≤◌, length, take}
 use Rattle.pl_verbatim.proofs.RowChangeLaws.{ArePutBefore}
 use Rattle.pl_verbatim.proofs.changes.put_row.Given as goal
 
 abbrev pub invariant-loop-index : goal.invariant-loop-index
 invariant-loop-index l = record {
   after : l.from ≤ l.place;
-  room : l.place ≤ length l.out;
+  room : l.place < length l.out;
   long : length l.out ≡ length l.fn.out;
   kept : take l.from l.out ≡ take l.from l.fn.out;
-  row : ArePutBefore l.text l.start l.kinds l.separator l.quote l.form l.index l.at (take l.from l.fn.out) (take l.place l.out);
+  row : ArePutBefore l.text l.start l.kinds l.separator l.quote l.form l.index l.at l.is_first (take l.from l.fn.out) (take l.place l.out);
 }

@@ -15,7 +15,7 @@ loop-index-preserved c =
     let found = c.in_ok-end.ensures in
     subst (AreSameBefore c.args.text.now c.args.start c.args.kinds.now c.args.separator c.args.quote c.args.form.now (c.loop-index.index + 1)) (sym c.pass-at.ensures)
     (same-cell c.args.text.now c.args.start c.args.kinds.now c.args.separator c.args.quote c.args.form.now c.loop-index.index c.loop-index.at c.in_ok-end.end kind.Text c.requires.alike c.loop-index.invariant
-    (omega arith) found.after found.within found.mark found.cell)
+    (omega arith) (c.requires.whole c.loop-index.index kind.Text (omega arith)) found.after found.within found.mark found.cell)
 
 pub returns-clause-line : goal.returns-clause-line
 returns-clause-line c =
@@ -23,4 +23,4 @@ returns-clause-line c =
     let found = c.in_ok-end-2.ensures in
     subst (λ end. IsLineChangeOfKinds c.args.separator c.args.quote c.args.form.now c.args.kinds.now (slice_range c.args.text.now c.args.start end) (slice_range c.args.text.now c.args.start end)) (sym c.pass.ensures)
     (same-row c.args.text.now c.args.start c.args.kinds.now c.args.separator c.args.quote c.args.form.now c.loop-index.index c.loop-index.at c.in_ok-end-2.end kind.Text c.requires.alike c.loop-index.invariant
-    (omega arith) some found.after found.within found.mark found.cell)
+    (omega arith) some (c.requires.whole _ kind.Text (omega (arith, some))) found.after found.within found.mark found.cell)

@@ -1,5 +1,6 @@
 use Rattle.std.proofs.Common.{length, ◌-◌, ◌<◌, ◌≤◌, ◌+◌}
 use Rattle.std.specs.List.{slice_range}
+use Rattle.std.specs.Str.{IsUtf8}
 use Rattle.pl_verbatim.proofs.TextInnerLaws.{HasInner}
 use Rattle.pl_verbatim.proofs.texts.long_quoted_end.Given as goal
 
@@ -7,7 +8,7 @@ abbrev pub invariant-loop-from : goal.invariant-loop-from
 invariant-loop-from l = record {
   behind : l.at < l.from;
   within : l.from ≤ length l.text;
-  read : HasInner l.quote (slice_range l.text (l.at + 1) l.from);
+  read : HasInner IsUtf8 l.quote (slice_range l.text (l.at + 1) l.from);
 }
 
 abbrev pub decreases-loop-from : goal.decreases-loop-from

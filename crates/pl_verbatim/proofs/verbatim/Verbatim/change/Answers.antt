@@ -2,18 +2,20 @@
 use Rattle.std.proofs.Common.{◌+◌, ◌++◌, take, sym, subst, append-nil, arith}
 use Rattle.std.specs.Result.{is_ok}
 use Rattle.pl_verbatim.specs.Verbatim.{AreRowsCopied}
-use Rattle.pl_verbatim.proofs.FrontLaws.{copied-none, changed-more, row-behind}
+use Rattle.pl_verbatim.proofs.FrontLaws.{changed-more, row-behind}
 use Rattle.pl_verbatim.proofs.RowCopyLaws.{added}
 use Rattle.pl_verbatim.proofs.verbatim.Verbatim.change.Goals as goal
 
 pub loop-end-init : goal.loop-end-init
 loop-end-init c =
-    let none = copied-none c.args.self.now c.args.text.now c.args.from c.args.lines.now.items c.requires.inside in
+    let kept = c.swap_rows-kept.result in
+    let lines = c.swap_rows-kept.new.lines.items in
+    let first = subst (λ before. AreRowsCopied c.args.self.now c.args.text.now c.args.from kept.end kept.rows before lines) c.reserve.ensures.items c.swap_rows-kept.ensures.copied in
     record {
-      few = omega arith;
+      few = c.swap_rows-kept.ensures.few;
       room = omega arith;
-      copied = subst (AreRowsCopied c.args.self.now c.args.text.now c.args.from c.args.from 0 c.args.lines.now.items) (sym (append-nil c.args.lines.now.items)) none;
-      kept = none;
+      copied = subst (AreRowsCopied c.args.self.now c.args.text.now c.args.from kept.end kept.rows c.args.lines.now.items) (sym (append-nil lines)) first;
+      kept = first;
     }
 
 pub loop-end-preserved : goal.loop-end-preserved

@@ -1,5 +1,5 @@
 -- Each line is one more of the front.
-use Rattle.std.proofs.Common.{◌<◌, length, ap, sym, subst, arith}
+use Rattle.std.proofs.Common.{◌<◌, length, map, Some, ap, sym, subst, arith}
 use Rattle.std.specs.Prelude.{slice_range}
 use Rattle.pl_verbatim.specs.Kinds.{AreKindsOf}
 use Rattle.pl_verbatim.proofs.LineLaws.{line-printed}
@@ -20,7 +20,7 @@ loop-end-preserved c = record {
       let kinds = c.args.self.now.kinds.items in
       let some : 0 < length kinds = omega (arith, c.in-Some.ensures.some, ap length c.deref.ensures.value) in
       let given = is.same c.requires some in
-      let line = c.in-Some.ensures.line o schema given.cells (subst (AreKindsOf schema) (sym c.deref.ensures.value) given.kinds) in
+      let line = c.in-Some.ensures.line o schema given.cells (subst (AreKindsOf (map Some schema)) (sym c.deref.ensures.value) given.kinds) in
       IsFrontPrinted-line plan schema o c.args.text.now c.loop-end.end c.in-Some.next c.loop-end.rows can.dialect (c.loop-end.invariant.printed plan schema o can is) (omega (arith, c.in-Some.ensures.after))
       c.in-Some.ensures.within (line-printed plan schema o can given.rows c.rows_return.ensures (slice_range c.args.text.now c.loop-end.end c.in-Some.next) line);
 }

@@ -1,7 +1,8 @@
 -- The first rows of data, read and printed.
-use Rattle.std.proofs.Common.{◌≡◌, ℕ, true, not, ◌+◌, ◌-◌, ◌<◌, ◌≤◌, ◌^◌, List, ◌++◌, length, take, drop, map, refl, sym, ◌∙◌, ap, subst, arith, length-append}
+use Rattle.std.proofs.Common.{◌≡◌, ℕ, true, not, ◌+◌, ◌-◌, ◌<◌, ◌≤◌, ◌^◌, List, [], ◌++◌, length, Global, take, drop, map, refl, sym, ◌∙◌, ap, subst, arith, length-append, append_assoc}
 use Rattle.std.specs.Prelude.{Option, None, Some, IfSome, filter, Result, Ok, Err, IfOk}
 use Rattle.std.specs.Cow.{cow_slice_items}
+use Rattle.std.specs.declared.borrow.CowSlice.{CowSlice}
 use Rattle.std.specs.List.{concat, list_any}
 use Rattle.std.proofs.lemmas.List.{take-append-drop, take-append-le, take_all, take_rest}
 use Rattle.pl_frame.specs.Dialect.{IsDialect}
@@ -14,18 +15,19 @@ use Rattle.pl_rows.specs.declared.plan.RangePlan.{RangePlan}
 use Rattle.pl_rows.specs.Columns.{columns_in, entries_in, frame_of_rows}
 use Rattle.pl_rows.specs.Pieces.{end_behind, plan_behind, IsRowFit}
 use Rattle.pl_rows.specs.Plan.{rules_of}
-use Rattle.pl_rows.specs.Ranges.{limited, is_judged, end_of, range_end, range_frame, rows_read, sound_rows, IsRangeRead}
+use Rattle.pl_rows.specs.Ranges.{limited, rows_of, is_judged, end_of, range_end, range_frame, rows_read, sound_rows, IsRangeRead}
 use Rattle.pl_rows.specs.Rows.{first_faulty}
 use Rattle.pl_rows.specs.WholePieces.{IsSoundText, text_frame}
 use Rattle.pl_rows.proofs.RangeLaws.{few_rows}
-use Rattle.pl_rows.proofs.SoundTextLaws.{range-after, same-rows, row-fits}
+use Rattle.pl_rows.proofs.SoundTextLaws.{rows-behind, range-after, same-rows, row-fits}
 use Rattle.pl_write.specs.Batches.{all_lines}
 use Rattle.pl_write.proofs.StackLaws.{lines-stacked}
 use Rattle.pl_verbatim.specs.PrintedTexts.{CanPrint, IsTextPrinted, IsFrontPrinted}
 use Rattle.pl_verbatim.proofs.PrintingLaws.{level-text}
-use Rattle.pl_regions.specs.Limits.{without_limit}
+use Rattle.pl_regions.specs.Limits.{without_limit, HasRows, IsDecidedBy}
 use Rattle.pl_regions.specs.Printing.{IsLeftBehind, IsPrinted, IsPrintedFront}
 use Rattle.pl_regions.proofs.PrintingLaws.{left-behind}
+use Rattle.pl_regions.proofs.RegionLaws.{unread}
 use Rattle.pl_regions.specs.declared.front.Front.{Front}
 use Rattle.pl_regions.specs.declared.printing.PrintedRows.{PrintedRows}
 
@@ -62,6 +64,15 @@ pub joined-front : {E : Type 0} (result : Result Front E) (plan : RangePlan) (sc
     → IfOk result (IsPrintedFront plan schema o text)
 joined-front (Ok joined) plan schema o text first next dialect small is more end_is rows_are lines_are = front-joined plan schema o text first next joined dialect small is more end_is rows_are lines_are
 joined-front (Err fault) plan schema o text first next dialect small is more end_is rows_are lines_are = tt
+
+-- of nothing all is left
+pub nothing-printed : (plan : RangePlan) (schema : List Entry) (o : WriteOptions) (records : List ℕ) (front : Front) → length records < 2 ^ 64 → front.end ≡ 0 → front.rows ≡ 0 → front.lines.items ≡ []
+    → IsLeftBehind plan schema o records front records
+nothing-printed plan schema o records front small end rows lines = record {
+  small = small;
+  printed = unread plan schema o records front.end front.rows _ end rows (ap (λ (l : List (CowSlice ℕ Global)). concat (map cow_slice_items l)) lines);
+  left_is = sym (ap (λ (k : ℕ). drop k records) end);
+}
 
 -- ---- what is left behind a front, read up to the limit
 
@@ -133,6 +144,22 @@ few-rows : (plan : RangePlan) (records : List ℕ) (limit : Option ℕ) → IsDi
 few-rows plan records None dialect few = tt
 few-rows plan records (Some most) dialect few = omega (arith, few, few_rows (marks_of plan.dialect) (comment_of plan.dialect) dialect.distinct (length records) records (omega arith))
 
+-- data of the same rows has the same lines
+printed-by-rows : (plan : RangePlan) (schema : List Entry) (o : WriteOptions) (text records : List ℕ) (printed : PrintedRows) → rows_of plan records ≡ rows_of plan text
+    → IsPrinted plan schema o text printed → IsPrinted plan schema o records printed
+printed-by-rows plan schema o text records printed same is =
+    let places = plan.projection.places.now in
+    let columns = columns_in schema places in
+    let rules = rules_of plan in
+    let same_end : range_end plan columns records ≡ range_end plan columns text =
+    ap (λ (given : List Row). end_of (first_faulty rules columns 0 (filter (is_judged plan) given)) (list_any (λ row. not (is_judged plan row)) given)) same in
+    let same_frame : range_frame plan schema records ≡ range_frame plan schema text =
+    ap (λ (given : List Row). frame_of_rows rules (entries_in schema places) (sound_rows rules columns (filter (is_judged plan) given))) same in
+    record {
+      end_is = is.end_is ∙ sym same_end;
+      lines_are = λ sound. is.lines_are sound ∙ ap (all_lines o) (sym same_frame);
+    }
+
 -- A limit that is at least the number of bytes is not reached, since there are no more rows than bytes.
 pub all-printed : (plan : RangePlan) (schema : List Entry) (o : WriteOptions) (records : List ℕ) (printed : PrintedRows) → IsDialect (marks_of plan.dialect) (comment_of plan.dialect) → IfSome plan.limit (λ limit. length records ≤ limit)
     → IsPrinted (without_limit plan) schema o records printed → IsPrinted plan schema o records printed
@@ -149,6 +176,37 @@ all-printed plan schema o records printed dialect few is =
       end_is = is.end_is ∙ sym same_end;
       lines_are = λ sound. is.lines_are sound ∙ ap (all_lines o) (sym same_frame);
     }
+
+-- ---- a limit that a text reaches
+
+-- the first of two lists has as many as are wanted
+limited-front : {X : Type 0} (limit : Option ℕ) (number : ℕ) (xs ys : List X) → limit ≡ Some number → number ≤ length xs → limited limit (xs ++ ys) ≡ take number xs
+limited-front limit number xs ys is enough = ap (λ l. limited l (xs ++ ys)) is ∙ take-append-le number xs ys enough
+
+-- The first rows of a text that has as many are those of the text with more behind it.
+first-rows : (plan : RangePlan) (schema : List Entry) (o : WriteOptions) (text rest : List ℕ) (number : ℕ) → IsDialect (marks_of plan.dialect) (comment_of plan.dialect) → plan.limit ≡ Some number
+    → HasRows (without_limit plan) schema o text number → rows_of plan (text ++ rest) ≡ rows_of plan text
+first-rows plan schema o text rest number apart is many =
+    let m = marks_of plan.dialect in
+    let comment = comment_of plan.dialect in
+    let front = take many.end text in
+    let behind = drop many.end text in
+    let ends = many.front.front.sound.ends in
+    let count_is : many.rows ≡ length (rows m comment front) = many.front.front.count_is in
+    let enough : number ≤ length (rows m comment front) = omega (arith, many.enough, count_is) in
+    let of : (more : List ℕ) → rows_of plan (front ++ more) ≡ take number (rows m comment front) =
+    λ more. ap (limited plan.limit) (rows-behind plan.dialect front more apart ends) ∙ limited-front plan.limit number (rows m comment front) (rows m comment more) is enough in
+    ap (λ (t : List ℕ). rows_of plan (t ++ rest)) (sym (take-append-drop many.end text))
+    ∙ ap (rows_of plan) (append_assoc front behind rest)
+    ∙ of (behind ++ rest)
+    ∙ sym (of behind)
+    ∙ ap (rows_of plan) (take-append-drop many.end text)
+
+-- so what is printed of it is printed of that too
+pub decided : (plan : RangePlan) (schema : List Entry) (o : WriteOptions) (records text rest : List ℕ) (number : ℕ) → IsDialect (marks_of plan.dialect) (comment_of plan.dialect) → plan.limit ≡ Some number
+    → HasRows (without_limit plan) schema o text number → records ≡ text ++ rest → IsDecidedBy plan schema o records text
+decided plan schema o records text rest number apart is many whole = λ printed printed_is.
+    printed-by-rows plan schema o text records printed (ap (rows_of plan) whole ∙ first-rows plan schema o text rest number apart is many) printed_is
 
 -- ---- no limit
 

@@ -8,7 +8,7 @@ use Rattle.std.specs.Vec.Iter.{into_iter_items, into_iter_steps}
 use Rattle.std.specs.declared.borrow.CowSlice.{CowSlice}
 use Rattle.std.specs.declared.vec.IntoIter.{IntoIter}
 use Rattle.std.proofs.Math.Seq.{take-append_seam, take-append-add}
-use Rattle.std.proofs.lemmas.List.{map-append, take-append-drop, take-append-le, take_all, take_more}
+use Rattle.std.proofs.lemmas.List.{map-append, drop_at, take-append-drop, take-append-le, take_all, take_more}
 use Rattle.std.proofs.lemmas.List.Folds.{concat-append}
 use Rattle.pl_frame.specs.Dialect.{IsDialect}
 use Rattle.pl_frame.specs.Frame.{HaveHeight, height_of}
@@ -25,7 +25,9 @@ use Rattle.pl_verbatim.specs.declared.verbatim.Verbatim.{Verbatim}
 use Rattle.pl_verbatim.specs.PrintedTexts.{CanPrint, IsTextPrinted, IsFrontPrinted}
 use Rattle.pl_verbatim.specs.Verbatim.{IsVerbatimOf, AreRowsCopied}
 use Rattle.pl_verbatim.proofs.PrintingLaws.{level-text, IsTextPrinted-nil, IsTextPrinted-append, front-slice, IsFrontPrinted-none, IsFrontPrinted-more}
+use Rattle.pl_regions.specs.Limits.{IsFull}
 use Rattle.pl_regions.specs.Regions.{lines_so_far, lines_in, IsOpenPrinted, IsRegionPrinted, IsRegionOf, ArePlaced}
+use Rattle.pl_regions.specs.declared.front.Front.{Front}
 use Rattle.pl_regions.specs.declared.region.OpenRegion.{OpenRegion}
 use Rattle.pl_regions.specs.declared.region.Region.{Region}
 
@@ -33,6 +35,11 @@ use Rattle.pl_regions.specs.declared.region.Region.{Region}
 pub ok-holds : {A E : Type 0} (r : Result A E) (P : Type 0) → is_ok r ≡ true → OnOk r P → P
 ok-holds (Ok a) P ok holds = holds
 ok-holds (Err e) P ok holds = absurd (cc)
+
+-- no rows are not too many
+pub few-none : (most : Option ℕ) (rows : ℕ) → rows ≡ 0 → IfSome most (λ number. rows ≤ number)
+few-none None rows none = tt
+few-none (Some number) rows none = omega (arith, none)
 
 -- ---- texts
 
@@ -164,6 +171,22 @@ front-part plan schema o records texts count region end n lines apart whole next
       front = subst (λ t. IsTextPrinted plan schema o t (n + region.rows) (lines ++ lines_in region)) text both;
     }
 
+-- texts that were printed to their ends are a front of these and one more
+front-next : (plan : RangePlan) (schema : List Entry) (o : WriteOptions) (done : List (List ℕ)) (text : List ℕ) (end n : ℕ) (lines : List ℕ) → IsFrontOf plan schema o done end n lines
+    → IsFrontPrinted plan schema o (concat done ++ text) end n lines
+front-next plan schema o done text end n lines is = record {
+  within = omega (arith, is.end_is, length-append (concat done) text);
+  front = subst (λ t. IsTextPrinted plan schema o t n lines) (sym (ap (λ (k : ℕ). take k (concat done ++ text)) is.end_is ∙ take-append_seam (concat done) text)) is.front;
+}
+
+-- and with what was printed of that one
+front-with : (plan : RangePlan) (schema : List Entry) (o : WriteOptions) (done : List (List ℕ)) (region : Region) (end n : ℕ) (lines : List ℕ) → IsDialect (marks_of plan.dialect) (comment_of plan.dialect)
+    → IsFrontOf plan schema o done end n lines → IsRegionPrinted plan schema o region
+    → IsFrontPrinted plan schema o (concat done ++ region.text.now) (end + region.end) (n + region.rows) (lines ++ lines_in region)
+front-with plan schema o done region end n lines apart is printed =
+    front-behind plan schema o (concat done ++ region.text.now) end n region.end region.rows lines (lines_in region) apart (front-next plan schema o done region.text.now end n lines is)
+    (subst (λ t. IsFrontPrinted plan schema o t region.end region.rows (lines_in region)) (sym (drop_at (concat done) region.text.now end (sym is.end_is))) printed)
+
 -- it has no more rows than the data has bytes
 pub few-printed : (plan : RangePlan) (schema : List Entry) (o : WriteOptions) (text : List ℕ) (end n : ℕ) (lines : List ℕ) → IsDialect (marks_of plan.dialect) (comment_of plan.dialect)
     → IsFrontPrinted plan schema o text end n lines → n ≤ length text
@@ -188,6 +211,8 @@ next-of P all start done now next left holds gives taken step =
 
 -- the region behind so many others
 pub record IsNextRegion (plan : RangePlan) (schema : List Entry) (o : WriteOptions) (texts : List (List ℕ)) (count : ℕ) (region : Region) : Type 0 where
+  pub place_is : region.place ≡ count
+  pub inside : count < length texts
   pub next : take (count + 1) texts ≡ take count texts ++ region.text.now ∷ []
   pub printed : IsRegionPrinted plan schema o region
 
@@ -206,6 +231,32 @@ next-region plan schema o texts given places start done now place region left sa
     let own : IsRegionOf plan schema o bytes region = subst (λ l. IsRegionOf plan schema o (map (λ text. text.now) l) region) same here.1 in
     let is : region.text.now ≡ get_or bytes count [] = own.text_is ∙ ap (λ k. get_or bytes k []) here.0 in
     record {
+      place_is = here.0;
+      inside = omega (arith, here.0, own.inside);
       next = take_more bytes count [] (omega (arith, here.0, own.inside)) ∙ ap (λ t. take count bytes ++ t ∷ []) (sym is);
       printed = own.printed;
+    }
+
+-- with it there are more rows than there may be
+pub full-next : (plan : RangePlan) (schema : List Entry) (o : WriteOptions) (most : Option ℕ) (texts : List (List ℕ)) (count : ℕ) (region : Region) (front : Front) (number : ℕ)
+    → IsDialect (marks_of plan.dialect) (comment_of plan.dialect) → IsNextRegion plan schema o texts count region
+    → IsFrontOf plan schema o (take count texts) front.end front.rows (concat (map cow_slice_items front.lines.items)) → most ≡ Some number → number < front.rows + region.rows
+    → IsFull plan schema o most texts front (region.place + 1)
+full-next plan schema o most texts count region front number apart next is most_is past =
+    let lines = concat (map cow_slice_items front.lines.items) in
+    let texts_are : concat (take (region.place + 1) texts) ≡ concat (take count texts) ++ region.text.now =
+    ap (λ (k : ℕ). concat (take (k + 1) texts)) next.place_is ∙ ap concat next.next ∙ concat-more (take count texts) region.text.now in
+    record {
+      within = omega (arith, next.place_is, next.inside);
+      number = number;
+      most_is = most_is;
+      many = record {
+        end = front.end + region.end;
+        rows = front.rows + region.rows;
+        lines = lines ++ lines_in region;
+        front = subst (λ t. IsFrontPrinted plan schema o t (front.end + region.end) (front.rows + region.rows) (lines ++ lines_in region)) (sym texts_are)
+            (front-with plan schema o (take count texts) region front.end front.rows lines apart is next.printed);
+        enough = omega (arith, past);
+      };
+      is = subst (λ t. IsFrontPrinted plan schema o t front.end front.rows lines) (sym texts_are) (front-next plan schema o (take count texts) region.text.now front.end front.rows lines is);
     }

@@ -1,4 +1,4 @@
 pub mod Regions
 pub mod Printing
-pub mod Arriving
 pub mod Limits
+pub mod Arriving

@@ -1,21 +1,23 @@
 //! Texts of a source, read and printed by workers: each text is printed while those behind it are read.
-ghost use Rattle.std.specs.Prelude.{◌≡◌, ◌++◌, ◌<◌, ◌≤◌, ℕ, List, Option, true, All, IfOk, OnOk, IsErrOf, drop, map};
+ghost use Rattle.std.specs.Prelude.{◌≡◌, ◌++◌, ◌<◌, ◌≤◌, ℕ, List, Option, true, false, All, IfOk, IfSome, OnOk, IsErrOf, drop, length, map};
 ghost use Rattle.pl_intake.specs.declared.intake.Intake.{Intake};
 ghost use Rattle.std.specs.Io.KnownBytes.{IsAtEnd};
 ghost use Rattle.std.specs.List.{concat};
 ghost use Rattle.std.specs.Thread.{IsSync};
 ghost use Rattle.pl_frame.specs.Causes.{Rose};
 ghost use Rattle.pl_write.specs.Options.{cell_options};
-ghost use Rattle.pl_verbatim.specs.PrintedTexts.{CanPrint, IsFrontPrinted};
-ghost use Rattle.std.specs.Cow.{cow_slice_items};
+ghost use Rattle.pl_verbatim.specs.PrintedTexts.{CanPrint};
 ghost use Rattle.pl_verbatim.specs.Verbatim.{IsVerbatimOf};
 ghost use Rattle.pl_intake.specs.Intake.{HasGiven, HasStopped, IsPastLimit};
 ghost use Rattle.pl_intake.specs.Texts.{AreSetIn};
-ghost use Rattle.pl_regions.specs.Arriving.{IsTaken};
-ghost use Rattle.pl_regions.specs.Regions.{IsRegionOf};
+ghost use Rattle.pl_regions.specs.Arriving.{IsFrontArrived, IsTaken};
+ghost use Rattle.pl_regions.specs.Limits.{without_limit};
+ghost use Rattle.pl_regions.specs.Printing.{IsPrintedFront};
+ghost use Rattle.pl_regions.specs.Regions.{ArePlaced, IsRegionOf};
 
-use crate::front::front_of;
+use crate::front::{CutFront, Front, front_of};
 use crate::kept::Arrived;
+use crate::limits::without_limit;
 use crate::region::Region;
 use crate::taken::Taken;
 use crate::taking::{empty_places, put_regions};
@@ -61,8 +63,80 @@ fn settle<'a>(
     Ok(regions)
 }
 
-/// The front of the texts that these tokens show, whose regions were taken, and what is left of them and of what stands behind them.
+// The regions that were taken, by the places of these texts. Refuses only want of memory.
+fn places_of<'a>(
+    alloc: Global,
+    cells: &'a [OnceLock<Vec<u8>>],
+    tokens: &Vec<OnceToken<'a, Vec<u8>>>,
+    all: Vec<Vec<Taken<'a>>>,
+    schema: &Schema,
+    plan: &RangePlan<'_>,
+    options: &SerializeOptions,
+) -> Result<Vec<Option<Region<'a>>>, AllocError>
+    requires set { AreSetIn cells.now tokens.now.items }
+    requires taken { All (λ taken. All (IsTaken plan.now schema.now (cell_options options.now) cells.now) taken.items) all.items }
+    ensures { IfOk result (λ places. ArePlaced plan.now schema.now (cell_options options.now) (map (λ token. token.value.items) tokens.now.items) places.items) }
+{
+    let mut places = empty_places(alloc, tokens.len())?;
+    for taken in all {
+        let regions = settle(alloc, cells, tokens, taken, schema, plan, options)?;
+        put_regions(&mut places, regions);
+    }
+    Ok(places)
+}
+
+/// The front of the texts that these tokens show, whose regions were taken, with no more rows than a number, where there is one, and what is left
+/// of the texts. Refuses only want of memory.
 pub(crate) fn front_arrived<'a>(
+    alloc: Global,
+    cells: &'a [OnceLock<Vec<u8>>],
+    tokens: &Vec<OnceToken<'a, Vec<u8>>>,
+    all: Vec<Vec<Taken<'a>>>,
+    schema: &Schema,
+    plan: &RangePlan<'_>,
+    options: &SerializeOptions,
+    most: Option<usize>,
+) -> Result<Arrived<'a>, AllocError>
+    requires can { CanPrint plan.now schema.now }
+    requires set { AreSetIn cells.now tokens.now.items }
+    requires taken { All (λ taken. All (IsTaken plan.now schema.now (cell_options options.now) cells.now) taken.items) all.items }
+    ensures front { IfOk result (λ arrived. IsPrintedFront plan.now schema.now (cell_options options.now) (concat (map (λ token. token.value.items) tokens.now.items)) arrived.front) }
+    ensures few { IfOk result (λ arrived. IfSome most (λ most. arrived.front.rows ≤ most)) }
+    ensures left { IfOk result (λ arrived. arrived.left.items ≡ drop arrived.front.end (concat (map (λ token. token.value.items) tokens.now.items))) }
+{
+    let texts = texts_of(alloc, cells, tokens)?;
+    let places = places_of(alloc, cells, tokens, all, schema, plan, options)?;
+    let CutFront { front, full: _ } = front_of(alloc, &texts, places, schema, plan, options, most)?;
+    let Front { end, rows, lines } = front;
+    let left = left_behind(alloc, &texts, &[], end)?;
+    Ok(Arrived {
+        front: Front { end, rows, lines },
+        left,
+        is_long: false,
+    })
+}
+
+// Whether texts and what stands behind them are longer than a number of bytes.
+fn are_longer(texts: &[&[u8]], rest: &[u8], longest: usize) -> bool
+    ensures { result ≡ false → length (concat (map (λ text. text.now) texts.now) ++ rest.now) ≤ longest }
+{
+    let mut room = longest;
+    for text in texts {
+        match room.checked_sub(text.len()) {
+            Some(less) => room = less,
+            None => return true,
+        }
+    }
+    if rest.len() > room {
+        return true;
+    }
+    false
+}
+
+/// The front of the texts that these tokens show, whose regions were taken, with no more rows than the limit, and what is left of them and of what
+/// stands behind them, as far as it matters: where the texts reach the limit, what stands behind those that do is left out. Where they are longer
+/// than a number of bytes, all is left. Refuses only want of memory.
+pub(crate) fn front_decided<'a>(
     alloc: Global,
     cells: &'a [OnceLock<Vec<u8>>],
     tokens: &Vec<OnceToken<'a, Vec<u8>>>,
@@ -71,26 +145,44 @@ pub(crate) fn front_arrived<'a>(
     schema: &Schema,
     plan: &RangePlan<'_>,
     options: &SerializeOptions,
+    longest: usize,
 ) -> Result<Arrived<'a>, AllocError>
-    requires can { CanPrint plan.now schema.now }
+    requires can { CanPrint (without_limit plan.now) schema.now }
     requires set { AreSetIn cells.now tokens.now.items }
-    requires taken { All (λ taken. All (IsTaken plan.now schema.now (cell_options options.now) cells.now) taken.items) all.items }
-    ensures front { IfOk result (λ arrived. IsFrontPrinted plan.now schema.now (cell_options options.now)
-        (concat (map (λ token. token.value.items) tokens.now.items) ++ rest.now) arrived.front.end arrived.front.rows (concat (map cow_slice_items arrived.front.lines.items))) }
-    ensures left { IfOk result (λ arrived. arrived.left.items ≡ drop arrived.front.end (concat (map (λ token. token.value.items) tokens.now.items) ++ rest.now)) }
+    requires taken { All (λ taken. All (IsTaken (without_limit plan.now) schema.now (cell_options options.now) cells.now) taken.items) all.items }
+    ensures arrived { IfOk result (IsFrontArrived plan.now schema.now (cell_options options.now) longest (concat (map (λ token. token.value.items) tokens.now.items) ++ rest.now)) }
+    ensures few { IfOk result (λ arrived. IfSome plan.now.limit (λ limit. arrived.front.rows ≤ limit)) }
 {
-    let texts = texts_of(alloc, cells, tokens)?;
-    let mut places = empty_places(alloc, texts.len())?;
-    for taken in all {
-        let regions = settle(alloc, cells, tokens, taken, schema, plan, options)?;
-        put_regions(&mut places, regions);
+    let unlimited = without_limit(plan);
+    let own = texts_of(alloc, cells, tokens)?;
+    let texts = own.as_slice();
+    if are_longer(texts, rest, longest) {
+        let records = left_behind(alloc, texts, rest, 0)?;
+        return Ok(Arrived {
+            front: Front::new(alloc),
+            left: records,
+            is_long: true,
+        });
     }
-    let front = front_of(alloc, &texts, places, schema, plan, options)?;
-    let end = front.end;
-    match left_behind(alloc, &texts, rest, end) {
-        Ok(left) => Ok(Arrived { front, left }),
-        Err(fault) => Err(fault),
+    let places = places_of(alloc, cells, tokens, all, schema, &unlimited, options)?;
+    let CutFront { front, full } = front_of(
+        alloc, texts, places, schema, &unlimited, options, plan.limit,
+    )?;
+    let Front { end, rows, lines } = front;
+    if let Some(count) = full {
+        let first = left_behind(alloc, &texts[..count], &[], end)?;
+        return Ok(Arrived {
+            front: Front { end, rows, lines },
+            left: first,
+            is_long: false,
+        });
     }
+    let left = left_behind(alloc, texts, rest, end)?;
+    Ok(Arrived {
+        front: Front { end, rows, lines },
+        left,
+        is_long: false,
+    })
 }
 
 // Cells, what shows the texts of the first of them, and the regions that were taken by who reads.
@@ -109,6 +201,8 @@ fn read_and_take<'a, W: Wait, So: Source>(
     reading: &mut Reading<'a>,
     rooms: &Mutex<Rooms>,
     next: &AtomicUsize,
+    so_far: &AtomicUsize,
+    most: Option<usize>,
     intake: &mut Intake,
     source: &mut So,
     limit: usize,
@@ -153,7 +247,8 @@ fn read_and_take<'a, W: Wait, So: Source>(
         Ok(()) => {
             close_cells(rt, alloc, cells, tokens.len(), others.saturating_add(1));
             reading.taken = take_texts(
-                rt, alloc, cells, rooms, next, schema, plan, options, verbatim, piece_size,
+                rt, alloc, cells, rooms, next, so_far, most, schema, plan, options, verbatim,
+                piece_size,
             );
             Ok(())
         }
@@ -172,6 +267,7 @@ fn read_beside<'a, W: Threads + Wait + Sync, So: Source>(
     cells: &'a [OnceLock<Vec<u8>>],
     rooms: &Mutex<Rooms>,
     tokens: &mut Vec<OnceToken<'a, Vec<u8>>>,
+    most: Option<usize>,
     intake: &mut Intake,
     source: &mut So,
     limit: usize,
@@ -197,6 +293,7 @@ fn read_beside<'a, W: Threads + Wait + Sync, So: Source>(
     ensures later { So.faults source.old ≤ So.faults source.new }
 {
     let next = AtomicUsize::new(0);
+    let so_far = AtomicUsize::new(0);
     let mut reading = Reading {
         cells,
         tokens: std::mem::replace(tokens, Vec::new(alloc)),
@@ -209,7 +306,8 @@ fn read_beside<'a, W: Threads + Wait + Sync, So: Source>(
         requires size { 0 < piece_size }
     {
         take_each(
-            rt, alloc, others, cells, rooms, &next, schema, plan, options, verbatim, piece_size,
+            rt, alloc, others, cells, rooms, &next, &so_far, most, schema, plan, options, verbatim,
+            piece_size,
         )
     };
     let mut read = ||
@@ -227,6 +325,8 @@ fn read_beside<'a, W: Threads + Wait + Sync, So: Source>(
             &mut reading,
             rooms,
             &next,
+            &so_far,
+            most,
             intake,
             source,
             limit,
@@ -264,6 +364,7 @@ pub(crate) fn read_and_print<'a, W: Threads + Wait + Sync, So: Source>(
     workers: usize,
     cells: &'a [OnceLock<Vec<u8>>],
     rooms: &Mutex<Rooms>,
+    most: Option<usize>,
     intake: &mut Intake,
     source: &mut So,
     limit: usize,
@@ -304,9 +405,11 @@ pub(crate) fn read_and_print<'a, W: Threads + Wait + Sync, So: Source>(
     if intake.is_ended() {
         let workers = workers.min(tokens.len());
         let next = AtomicUsize::new(0);
+        let so_far = AtomicUsize::new(0);
         close_cells(rt, alloc, cells, tokens.len(), workers);
         let Ok(all) = take_each(
-            rt, alloc, workers, cells, rooms, &next, schema, plan, options, verbatim, piece_size,
+            rt, alloc, workers, cells, rooms, &next, &so_far, most, schema, plan, options,
+            verbatim, piece_size,
         ) else {
             return Err(ReadAllFault::OutOfMemory);
         };
@@ -320,6 +423,7 @@ pub(crate) fn read_and_print<'a, W: Threads + Wait + Sync, So: Source>(
         cells,
         rooms,
         &mut tokens,
+        most,
         intake,
         source,
         limit,

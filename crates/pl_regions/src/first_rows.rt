@@ -6,8 +6,10 @@ ghost use Rattle.pl_regions.specs.Limits.{without_limit};
 ghost use Rattle.pl_regions.specs.Printing.{IsLeftBehind, IsPrinted, IsPrintedFront};
 
 use crate::front::{Front, make_room};
+use crate::limits::without_limit;
 use crate::printing::{
-    PrintedRows, guess_front, join_fronts, lines_of, print_front, push_text, range_front,
+    PrintedRows, guess_front, join_fronts, lines_of, print_front, print_rest, push_text,
+    range_front,
 };
 use pl_frame::schema::Schema;
 use pl_rows::columns::read_columns;
@@ -161,16 +163,67 @@ fn print_behind<'a>(
     Ok(PrintedRows { lines, end })
 }
 
-// The same plan without a limit of rows.
-fn without_limit<'a>(plan: &RangePlan<'a>) -> RangePlan<'a>
-    ensures { result ≡ without_limit plan.now }
+// Reads and prints what is left of data behind a front that was printed: by workers as far as rows before the limit seem to go, and from there on as
+// one range, up to the limit. Refuses only want of memory.
+fn print_limited_rest<'a, W: Threads + Wait + Sync>(
+    rt: &W,
+    alloc: Global,
+    workers: usize,
+    front: Front<'a>,
+    left: &'a [u8],
+    schema: &Schema,
+    plan: &RangePlan<'_>,
+    options: &SerializeOptions,
+    piece_size: usize,
+    limit: usize,
+) -> Result<PrintedRows<'a>, AllocError>
+    requires workers { 0 < workers }
+    requires can { CanPrint (without_limit plan.now) schema.now }
+    requires last { plan.now.last ≡ true }
+    requires limit { plan.now.limit ≡ Some limit }
+    requires size { 0 < piece_size }
+    requires few { front.rows ≤ limit }
+    requires left { (records : List ℕ) × IsLeftBehind (without_limit plan.now) schema.now (cell_options options.now) records front left.now }
+    ensures { (records : List ℕ) → IsLeftBehind (without_limit plan.now) schema.now (cell_options options.now) records front.entry left.now → IfOk result (IsPrinted plan.now schema.now (cell_options options.now) records) }
 {
-    RangePlan {
-        dialect: plan.dialect,
-        projection: plan.projection,
-        options: plan.options,
-        limit: None,
-        last: plan.last,
+    let all = without_limit(plan);
+    let most = limit - front.rows;
+    let next = print_first(
+        rt, alloc, workers, left, schema, &all, options, piece_size, most,
+    )?;
+    let left = &left[next.end..];
+    let front = join_fronts(front, next)?;
+    print_behind(alloc, front, left, schema, plan, options)
+}
+
+/// Reads and prints what is left of data behind a front that was printed and has no more rows than the limit: as `print_rest` does, or where the
+/// plan has a limit, up to that. Refuses only want of memory.
+pub(crate) fn print_rows_left<'a, W: Threads + Wait + Sync>(
+    rt: &W,
+    alloc: Global,
+    workers: usize,
+    front: Front<'a>,
+    left: &'a [u8],
+    schema: &Schema,
+    plan: &RangePlan<'_>,
+    options: &SerializeOptions,
+    piece_size: usize,
+) -> Result<PrintedRows<'a>, AllocError>
+    requires workers { 0 < workers }
+    requires can { CanPrint (without_limit plan.now) schema.now }
+    requires last { plan.now.last ≡ true }
+    requires size { 0 < piece_size }
+    requires few { IfSome plan.now.limit (λ limit. front.rows ≤ limit) }
+    requires left { (records : List ℕ) × IsLeftBehind (without_limit plan.now) schema.now (cell_options options.now) records front left.now }
+    ensures { (records : List ℕ) → IsLeftBehind (without_limit plan.now) schema.now (cell_options options.now) records front.entry left.now → IfOk result (IsPrinted plan.now schema.now (cell_options options.now) records) }
+{
+    match plan.limit {
+        None => print_rest(
+            rt, alloc, workers, front, left, schema, plan, options, piece_size,
+        ),
+        Some(limit) => print_limited_rest(
+            rt, alloc, workers, front, left, schema, plan, options, piece_size, limit,
+        ),
     }
 }
 
@@ -200,11 +253,18 @@ fn print_limited<'a, W: Threads + Wait + Sync>(
         );
     }
     make_room(alloc);
-    let front = print_first(
-        rt, alloc, workers, records, schema, &all, options, piece_size, limit,
-    )?;
-    let left = &records[front.end..];
-    print_behind(alloc, front, left, schema, plan, options)
+    print_limited_rest(
+        rt,
+        alloc,
+        workers,
+        Front::new(alloc),
+        records,
+        schema,
+        plan,
+        options,
+        piece_size,
+        limit,
+    )
 }
 
 /// Reads and prints the rows of data by workers, as `print_front` does, or where the plan has a limit, the first so many of them. What stands behind

@@ -1,12 +1,14 @@
 //! The front of the data, read and printed by workers.
-ghost use Rattle.std.specs.Prelude.{◌≡◌, ◌<◌, [], IfOk, map};
+ghost use Rattle.std.specs.Prelude.{◌≡◌, ◌<◌, ◌≤◌, [], IfOk, IfSome, map};
 ghost use Rattle.std.specs.List.{concat};
 ghost use Rattle.pl_write.specs.Options.{cell_options};
 ghost use Rattle.pl_verbatim.specs.PrintedTexts.{CanPrint};
 ghost use Rattle.pl_verbatim.specs.Verbatim.{IsVerbatimOf};
+ghost use Rattle.pl_regions.specs.Limits.{IsFull};
 ghost use Rattle.pl_regions.specs.Printing.{IsPrintedFront};
 ghost use Rattle.pl_regions.specs.Regions.{ArePlaced};
 
+use crate::limits::is_past;
 use crate::region::Region;
 use crate::taking::print_regions;
 use pl_frame::schema::Schema;
@@ -53,8 +55,16 @@ fn lent_len(lines: &[CowSlice<'_, u8, Global>]) -> usize {
     len
 }
 
-/// Whether most lines of a text are written as they were read, so that they can be lent from there; of an empty text they are.
-pub(crate) fn are_lent(
+/// What the first bytes of records tell: how many rows they have, and whether most of their lines are written as they were read, so that they can
+/// be lent from there.
+#[derive(Clone, Copy)]
+pub(crate) struct Look {
+    pub(crate) rows: usize,
+    pub(crate) are_lent: bool,
+}
+
+/// Looks at a text; lines of an empty one are lent.
+pub(crate) fn look_at(
     alloc: Global,
     text: &[u8],
     schema: &Schema,
@@ -62,13 +72,16 @@ pub(crate) fn are_lent(
     options: &SerializeOptions,
     verbatim: &Verbatim,
     piece_size: usize,
-) -> bool
+) -> Look
     requires can { CanPrint plan.now schema.now }
     requires verbatim { IsVerbatimOf plan.now schema.now (cell_options options.now) verbatim.now }
     requires size { 0 < piece_size }
 {
     let Ok(mut printer) = RowPrinter::new(alloc) else {
-        return true;
+        return Look {
+            rows: 0,
+            are_lent: true,
+        };
     };
     let front = print_text(
         alloc,
@@ -80,7 +93,10 @@ pub(crate) fn are_lent(
         verbatim,
         piece_size,
     );
-    lent_len(&front.lines) >= front.end / 2
+    Look {
+        rows: front.rows,
+        are_lent: lent_len(&front.lines) >= front.end / 2,
+    }
 }
 
 // So much memory is taken and given back before the first piece.
@@ -94,8 +110,15 @@ pub(crate) fn make_room(alloc: Global) {
     let _ = room.reserve(ROOM);
 }
 
+/// The front of texts, with no more rows than a number, where there is one, and if it was cut for that, how many of the texts have more.
+#[derive(Drop)]
+pub(crate) struct CutFront<'a> {
+    pub(crate) front: Front<'a>,
+    pub(crate) full: Option<usize>,
+}
+
 /// The front of texts that stand one behind the other, of the regions that were printed of them: as far as each is there and was printed to
-/// its end, and with what was printed of the first that was not. Refuses only want of memory.
+/// its end, and with what was printed of the first that was not, but without one whose rows would be too many. Refuses only want of memory.
 pub(crate) fn front_of<'a>(
     alloc: Global,
     texts: &[&'a [u8]],
@@ -103,10 +126,13 @@ pub(crate) fn front_of<'a>(
     schema: &Schema,
     plan: &RangePlan<'_>,
     options: &SerializeOptions,
-) -> Result<Front<'a>, AllocError>
+    most: Option<usize>,
+) -> Result<CutFront<'a>, AllocError>
     requires can { CanPrint plan.now schema.now }
     requires placed { ArePlaced plan.now schema.now (cell_options options.now) (map (λ text. text.now) texts.now) places.items }
-    ensures { IfOk result (IsPrintedFront plan.now schema.now (cell_options options.now) (concat (map (λ text. text.now) texts.now))) }
+    ensures front { IfOk result (λ cut. IsPrintedFront plan.now schema.now (cell_options options.now) (concat (map (λ text. text.now) texts.now)) cut.front) }
+    ensures few { IfOk result (λ cut. IfSome most (λ most. cut.front.rows ≤ most)) }
+    ensures full { IfOk result (λ cut. IfSome cut.full (IsFull plan.now schema.now (cell_options options.now) most (map (λ text. text.now) texts.now) cut.front)) }
 {
     let mut front = Front::new(alloc);
     for place in places {
@@ -119,16 +145,20 @@ pub(crate) fn front_of<'a>(
         let Some(rows) = front.rows.checked_add(region.rows) else {
             break;
         };
+        if is_past(most, rows) {
+            let full = Some(region.place + 1);
+            return Ok(CutFront { front, full });
+        }
         let is_whole = region.end == region.text.len();
         front.end = end;
         front.rows = rows;
         let mut lines = region.lines;
         front.lines.append(&mut lines)?;
         if !is_whole {
-            return Ok(front);
+            return Ok(CutFront { front, full: None });
         }
     }
-    Ok(front)
+    Ok(CutFront { front, full: None })
 }
 
 /// The front of one text, by a printer whose memory is used again: its rows are read and printed, as far as the text goes in items, no row has
@@ -178,5 +208,6 @@ pub(crate) fn print_texts<'a, W: Threads + Sync>(
     let places = print_regions(
         rt, alloc, workers, texts, schema, plan, options, &verbatim, piece_size,
     )?;
-    front_of(alloc, texts, places, schema, plan, options)
+    let cut = front_of(alloc, texts, places, schema, plan, options, None)?;
+    Ok(cut.front)
 }

@@ -1,5 +1,5 @@
 //! The texts of a source, printed one after another, each in the memory of the one before it.
-ghost use Rattle.std.specs.Prelude.{◌≡◌, ◌<◌, ◌≤◌, ℕ, List, Option, true, IfOk, OnOk, IsErrOf, drop};
+ghost use Rattle.std.specs.Prelude.{◌≡◌, ◌<◌, ◌≤◌, ℕ, List, Option, true, IfOk, IfSome, OnOk, IsErrOf, drop};
 ghost use Rattle.std.specs.Io.KnownBytes.{IsAtEnd};
 ghost use Rattle.pl_frame.specs.Causes.{Rose};
 ghost use Rattle.pl_intake.specs.declared.intake.Intake.{Intake};
@@ -10,8 +10,9 @@ ghost use Rattle.pl_verbatim.specs.Verbatim.{IsVerbatimOf};
 ghost use Rattle.pl_regions.specs.Arriving.{HasPrinted};
 ghost use Rattle.pl_regions.specs.Printing.{IsPrintedFront};
 
-use crate::front::print_text;
+use crate::front::{Front, print_text};
 use crate::kept::{Arrived, Kept, keep_front};
+use crate::limits::{is_past, rows_left};
 use pl_frame::read_all::ReadAllFault;
 use pl_frame::schema::Schema;
 use pl_frame::source::Source;
@@ -28,7 +29,8 @@ const TEXTS: usize = 1 << 20;
 /// A text is as long as this part of what was read before it, at least: where pieces are short there are not many texts.
 pub(crate) const PART: usize = 1 << 14;
 
-// The front of a text, and what is left of it. Refuses only want of memory.
+// The front of a text, which is none of it where that has more rows than a number, where there is one; and what is left of the text. Refuses only
+// want of memory.
 fn print_one<'a>(
     alloc: Global,
     text: &'a [u8],
@@ -38,19 +40,33 @@ fn print_one<'a>(
     options: &SerializeOptions,
     verbatim: &Verbatim,
     piece_size: usize,
+    most: Option<usize>,
 ) -> Result<Arrived<'a>, AllocError>
     requires can { CanPrint plan.now schema.now }
     requires verbatim { IsVerbatimOf plan.now schema.now (cell_options options.now) verbatim.now }
     requires size { 0 < piece_size }
     ensures front { IfOk result (λ arrived. IsPrintedFront plan.now schema.now (cell_options options.now) text.now arrived.front) }
+    ensures few { IfOk result (λ arrived. IfSome most (λ most. arrived.front.rows ≤ most)) }
     ensures left { IfOk result (λ arrived. arrived.left.items ≡ drop arrived.front.end text.now) }
 {
-    let front = print_text(
+    let Front { end, rows, lines } = print_text(
         alloc, text, printer, schema, plan, options, verbatim, piece_size,
     );
     let mut left = Vec::new(alloc);
-    left.extend_from_slice(&text[front.end..])?;
-    Ok(Arrived { front, left })
+    if is_past(most, rows) {
+        left.extend_from_slice(text)?;
+        return Ok(Arrived {
+            front: Front::new(alloc),
+            left,
+            is_long: false,
+        });
+    }
+    left.extend_from_slice(&text[end..])?;
+    Ok(Arrived {
+        front: Front { end, rows, lines },
+        left,
+        is_long: false,
+    })
 }
 
 // Reads the next text of a source into memory, which it gives back, and prints it. Gives none where something was taken back: then there is
@@ -68,11 +84,14 @@ fn print_next<So: Source>(
     options: &SerializeOptions,
     verbatim: &Verbatim,
     piece_size: usize,
+    most: Option<usize>,
 ) -> Result<Option<Vec<u8>>, ReadAllFault>
     requires can { CanPrint plan.now schema.now }
     requires verbatim { IsVerbatimOf plan.now schema.now (cell_options options.now) verbatim.now }
     requires size { 0 < piece_size }
     requires within { intake.old.size ≤ limit }
+    requires few { IfSome most (λ most. kept.old.rows ≤ most) }
+    ensures few { OnOk result (IfSome most (λ most. kept.new.rows ≤ most)) }
     ensures printed { (before : Option (List ℕ)) (first : Intake) → HasPrinted plan.now schema.now (cell_options options.now) before (So.left source.old) limit first intake.old kept.old
         → OnOk result (HasPrinted plan.now schema.now (cell_options options.now) before (So.left source.new) limit first intake.new kept.new) }
     ensures too_long { IsErrOf result ReadAllFault.TooLong → IsPastLimit (So.left source.old) (So.left source.new) limit intake.old.size }
@@ -82,8 +101,9 @@ fn print_next<So: Source>(
 {
     let width = plan.projection.width;
     let text = intake.next_text(source, room, piece_size, limit, &plan.dialect, width)?;
+    let most = rows_left(most, kept.rows);
     let Ok(arrived) = print_one(
-        alloc, &text, printer, schema, plan, options, verbatim, piece_size,
+        alloc, &text, printer, schema, plan, options, verbatim, piece_size, most,
     ) else {
         return Err(ReadAllFault::OutOfMemory);
     };
@@ -94,8 +114,8 @@ fn print_next<So: Source>(
     }
 }
 
-/// Reads texts of a source and prints them, one after another, until it has no more or one is not printed to its end: what is left of that is kept,
-/// and what is left of the source is not read.
+/// Reads texts of a source and prints them, one after another, until it has no more, or one is not printed to its end or has too many rows: what is
+/// left of that is kept, and what is left of the source is not read.
 ///
 /// Refuses as `read_all` does, with those bytes that came before counted in.
 pub(crate) fn print_in_turn<So: Source>(
@@ -108,12 +128,14 @@ pub(crate) fn print_in_turn<So: Source>(
     options: &SerializeOptions,
     verbatim: &Verbatim,
     piece_size: usize,
+    most: Option<usize>,
 ) -> Result<Kept, ReadAllFault>
     requires can { CanPrint plan.now schema.now }
     requires verbatim { IsVerbatimOf plan.now schema.now (cell_options options.now) verbatim.now }
     requires size { 0 < piece_size }
     requires within { intake.old.size ≤ limit }
     requires ended { intake.old.is_ended ≡ true → IsAtEnd (So.left source.old) }
+    ensures few { IfOk result (λ kept. IfSome most (λ most. kept.rows ≤ most)) }
     ensures printed { IfOk result (HasPrinted plan.now schema.now (cell_options options.now) (So.left source.old) (So.left source.new) limit intake.old intake.new) }
     ensures too_long { IsErrOf result ReadAllFault.TooLong → IsPastLimit (So.left source.old) (So.left source.new) limit intake.old.size }
     ensures failed { IsErrOf result ReadAllFault.Source → HasStopped (So.left source.old) (So.left source.new) limit intake.old.size }
@@ -143,6 +165,7 @@ pub(crate) fn print_in_turn<So: Source>(
             options,
             verbatim,
             size,
+            most,
         )? {
             Some(text) => room = text,
             None => return Ok(kept),

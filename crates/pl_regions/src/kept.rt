@@ -1,5 +1,5 @@
 //! The lines of what came of a source, which are kept apart from the texts that they were read from: the memory of these is used again.
-ghost use Rattle.std.specs.Prelude.{◌≡◌, ◌++◌, ℕ, List, [], IfOk, OnOk, drop, map};
+ghost use Rattle.std.specs.Prelude.{◌≡◌, ◌+◌, ◌++◌, ℕ, List, [], IfOk, OnOk, drop, map};
 ghost use Rattle.std.specs.Cow.{cow_slice_items};
 ghost use Rattle.std.specs.List.{concat};
 ghost use Rattle.pl_frame.specs.Dialect.{IsDialect};
@@ -15,11 +15,13 @@ use pl_intake::intake::Intake;
 use std::alloc::{AllocError, Global};
 use std::borrow::CowSlice;
 
-/// What came of a source and was printed: the front of the records, and what is left of them behind it.
+/// What came of a source and was printed: the front of the records, and what is left of them behind it; and whether that is all of them, since they
+/// are too long to be printed.
 #[derive(Drop)]
 pub(crate) struct Arrived<'a> {
     pub(crate) front: Front<'a>,
     pub(crate) left: Vec<u8>,
+    pub(crate) is_long: bool,
 }
 
 /// The lines of all rows of texts that follow one another: how many bytes these have, how many rows, and their lines.
@@ -68,11 +70,16 @@ pub(crate) fn keep_front(
     arrived: Arrived<'_>,
     intake: &mut Intake,
 ) -> Result<bool, AllocError>
-    ensures { (plan : RangePlan) (schema : List Entry) (o : WriteOptions) (before text : List ℕ) → IsDialect (marks_of plan.dialect) (comment_of plan.dialect)
+    ensures printed { (plan : RangePlan) (schema : List Entry) (o : WriteOptions) (before text : List ℕ) → IsDialect (marks_of plan.dialect) (comment_of plan.dialect)
         → AreAllPrinted plan schema o before kept.old → IsPrintedFront plan schema o text arrived.entry.front → arrived.entry.left.items ≡ drop arrived.entry.front.end text
         → OnOk result (IsPrintedOn plan schema o (before ++ text) intake.old intake.new kept.new) }
+    ensures rows { OnOk result (kept.new.rows ≡ kept.old.rows + arrived.entry.front.rows) }
 {
-    let Arrived { front, left } = arrived;
+    let Arrived {
+        front,
+        left,
+        is_long: _,
+    } = arrived;
     let Front { end, rows, lines } = front;
     let Some(end) = kept.end.checked_add(end) else {
         return Err(AllocError);

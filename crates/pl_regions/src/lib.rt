@@ -8,6 +8,7 @@ pub mod first_rows;
 pub mod front;
 mod in_turn;
 mod kept;
+mod limits;
 pub mod printing;
 mod ranges;
 mod region;

@@ -1,5 +1,5 @@
 //! The texts of a source, printed by workers round by round, each round in the memory of the one before it.
-ghost use Rattle.std.specs.Prelude.{◌≡◌, ◌<◌, ◌≤◌, ℕ, List, Option, true, IfOk, OnOk, IsErrOf};
+ghost use Rattle.std.specs.Prelude.{◌≡◌, ◌<◌, ◌≤◌, ℕ, List, Option, true, IfOk, IfSome, OnOk, IsErrOf};
 ghost use Rattle.std.specs.Io.KnownBytes.{IsAtEnd};
 ghost use Rattle.pl_frame.specs.Causes.{Rose};
 ghost use Rattle.pl_intake.specs.declared.intake.Intake.{Intake};
@@ -12,6 +12,7 @@ ghost use Rattle.pl_regions.specs.Arriving.{HasPrinted};
 use crate::beside::{front_arrived, read_and_print};
 use crate::in_turn::{PART, print_in_turn};
 use crate::kept::{Kept, keep_front};
+use crate::limits::rows_left;
 use pl_frame::read_all::ReadAllFault;
 use pl_frame::schema::Schema;
 use pl_frame::source::Source;
@@ -61,12 +62,15 @@ fn print_round<W: Threads + Wait + Sync, So: Source>(
     options: &SerializeOptions,
     verbatim: &Verbatim,
     piece_size: usize,
+    most: Option<usize>,
 ) -> Result<bool, ReadAllFault>
     requires can { CanPrint plan.now schema.now }
     requires verbatim { IsVerbatimOf plan.now schema.now (cell_options options.now) verbatim.now }
     requires size { 0 < piece_size }
     requires within { intake.old.size ≤ limit }
     requires ended { intake.old.is_ended ≡ true → IsAtEnd (So.left source.old) }
+    requires few { IfSome most (λ most. kept.old.rows ≤ most) }
+    ensures few { OnOk result (IfSome most (λ most. kept.new.rows ≤ most)) }
     ensures printed { (before : Option (List ℕ)) (first : Intake) → HasPrinted plan.now schema.now (cell_options options.now) before (So.left source.old) limit first intake.old kept.old
         → OnOk result (HasPrinted plan.now schema.now (cell_options options.now) before (So.left source.new) limit first intake.new kept.new) }
     ensures too_long { IsErrOf result ReadAllFault.TooLong → IsPastLimit (So.left source.old) (So.left source.new) limit intake.old.size }
@@ -77,11 +81,12 @@ fn print_round<W: Threads + Wait + Sync, So: Source>(
     let Ok(cells) = make_cells(alloc, (ROUND / piece_size).max(FEWEST).min(MOST)) else {
         return Err(ReadAllFault::OutOfMemory);
     };
+    let most = rows_left(most, kept.rows);
     let (tokens, all) = read_and_print(
-        rt, alloc, workers, &cells, rooms, intake, source, limit, schema, plan, options, verbatim,
-        piece_size,
+        rt, alloc, workers, &cells, rooms, most, intake, source, limit, schema, plan, options,
+        verbatim, piece_size,
     )?;
-    let Ok(arrived) = front_arrived(alloc, &cells, &tokens, all, &[], schema, plan, options) else {
+    let Ok(arrived) = front_arrived(alloc, &cells, &tokens, all, schema, plan, options, most) else {
         return Err(ReadAllFault::OutOfMemory);
     };
     let Ok(is_all) = keep_front(alloc, kept, arrived, intake) else {
@@ -92,8 +97,8 @@ fn print_round<W: Threads + Wait + Sync, So: Source>(
     Ok(is_all)
 }
 
-// Reads texts of a source and prints them by workers, round by round, until it has no more or one is not printed to its end: what is left of that
-// is kept, and what is left of the source is not read.
+// Reads texts of a source and prints them by workers, round by round, until it has no more, or one is not printed to its end or has too many rows:
+// what is left of that is kept, and what is left of the source is not read.
 //
 // Refuses as `read_all` does, with those bytes that came before counted in.
 fn print_rounds<W: Threads + Wait + Sync, So: Source>(
@@ -108,12 +113,14 @@ fn print_rounds<W: Threads + Wait + Sync, So: Source>(
     options: &SerializeOptions,
     verbatim: &Verbatim,
     piece_size: usize,
+    most: Option<usize>,
 ) -> Result<Kept, ReadAllFault>
     requires can { CanPrint plan.now schema.now }
     requires verbatim { IsVerbatimOf plan.now schema.now (cell_options options.now) verbatim.now }
     requires size { 0 < piece_size }
     requires within { intake.old.size ≤ limit }
     requires ended { intake.old.is_ended ≡ true → IsAtEnd (So.left source.old) }
+    ensures few { IfOk result (λ kept. IfSome most (λ most. kept.rows ≤ most)) }
     ensures printed { IfOk result (HasPrinted plan.now schema.now (cell_options options.now) (So.left source.old) (So.left source.new) limit intake.old intake.new) }
     ensures too_long { IsErrOf result ReadAllFault.TooLong → IsPastLimit (So.left source.old) (So.left source.new) limit intake.old.size }
     ensures failed { IsErrOf result ReadAllFault.Source → HasStopped (So.left source.old) (So.left source.new) limit intake.old.size }
@@ -129,7 +136,7 @@ fn print_rounds<W: Threads + Wait + Sync, So: Source>(
         let size = piece_size.max(kept.end / PART);
         if !print_round(
             rt, alloc, workers, &mut kept, &rooms, intake, source, limit, schema, plan, options,
-            verbatim, size,
+            verbatim, size, most,
         )? {
             return Ok(kept);
         }
@@ -137,8 +144,8 @@ fn print_rounds<W: Threads + Wait + Sync, So: Source>(
     Ok(kept)
 }
 
-/// Reads texts of a source and prints them, by one worker text by text, by several round by round, until it has no more or one is not printed to its
-/// end: what is left of that is kept, and what is left of the source is not read.
+/// Reads texts of a source and prints them, by one worker text by text, by several round by round, until it has no more, or one is not printed to
+/// its end or has too many rows: what is left of that is kept, and what is left of the source is not read.
 ///
 /// Refuses as `read_all` does, with those bytes that came before counted in.
 pub(crate) fn print_again<W: Threads + Wait + Sync, So: Source>(
@@ -153,12 +160,14 @@ pub(crate) fn print_again<W: Threads + Wait + Sync, So: Source>(
     options: &SerializeOptions,
     verbatim: &Verbatim,
     piece_size: usize,
+    most: Option<usize>,
 ) -> Result<Kept, ReadAllFault>
     requires can { CanPrint plan.now schema.now }
     requires verbatim { IsVerbatimOf plan.now schema.now (cell_options options.now) verbatim.now }
     requires size { 0 < piece_size }
     requires within { intake.old.size ≤ limit }
     requires ended { intake.old.is_ended ≡ true → IsAtEnd (So.left source.old) }
+    ensures few { IfOk result (λ kept. IfSome most (λ most. kept.rows ≤ most)) }
     ensures printed { IfOk result (HasPrinted plan.now schema.now (cell_options options.now) (So.left source.old) (So.left source.new) limit intake.old intake.new) }
     ensures too_long { IsErrOf result ReadAllFault.TooLong → IsPastLimit (So.left source.old) (So.left source.new) limit intake.old.size }
     ensures failed { IsErrOf result ReadAllFault.Source → HasStopped (So.left source.old) (So.left source.new) limit intake.old.size }
@@ -167,10 +176,11 @@ pub(crate) fn print_again<W: Threads + Wait + Sync, So: Source>(
 {
     if workers == 1 {
         return print_in_turn(
-            alloc, intake, source, limit, schema, plan, options, verbatim, piece_size,
+            alloc, intake, source, limit, schema, plan, options, verbatim, piece_size, most,
         );
     }
     print_rounds(
         rt, alloc, workers, intake, source, limit, schema, plan, options, verbatim, piece_size,
+        most,
     )
 }

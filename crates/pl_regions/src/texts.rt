@@ -5,6 +5,7 @@ ghost use Rattle.pl_verbatim.specs.PrintedTexts.{CanPrint};
 ghost use Rattle.pl_verbatim.specs.Verbatim.{IsVerbatimOf};
 ghost use Rattle.pl_regions.specs.Arriving.{IsTaken};
 
+use crate::limits::is_past;
 use crate::region::Region;
 use crate::taken::Taken;
 use pl_frame::schema::Schema;
@@ -22,13 +23,16 @@ use std::thread;
 use std::thread::Threads;
 
 /// The regions that one worker takes, one after another, until one has no text or memory is wanting. It prints each, as far as it goes, and
-/// while a text is not there it makes room for one that comes later. After one that was not printed to its end nobody takes more.
+/// while a text is not there it makes room for one that comes later. After one that was not printed to its end nobody takes more, nor when all
+/// workers together printed more rows than a number, where there is one.
 pub(crate) fn take_texts<'a, W: Wait>(
     rt: &W,
     alloc: Global,
     cells: &'a [OnceLock<Vec<u8>>],
     rooms: &Mutex<Rooms>,
     next: &AtomicUsize,
+    so_far: &AtomicUsize,
+    most: Option<usize>,
     schema: &Schema,
     plan: &RangePlan<'_>,
     options: &SerializeOptions,
@@ -64,11 +68,12 @@ pub(crate) fn take_texts<'a, W: Wait>(
             verbatim,
             piece_size,
         );
-        let is_whole = region.end == text.len();
+        let before = so_far.fetch_add(region.rows, Ordering::SeqCst);
+        let is_last = region.end < text.len() || is_past(most, before.saturating_add(region.rows));
         if push(&mut taken, Taken { region, token }).is_err() {
             return taken;
         }
-        if !is_whole {
+        if is_last {
             next.store(cells.len(), Ordering::SeqCst);
         }
     }
@@ -83,6 +88,8 @@ pub(crate) fn take_each<'a, W: Threads + Wait + Sync>(
     cells: &'a [OnceLock<Vec<u8>>],
     rooms: &Mutex<Rooms>,
     next: &AtomicUsize,
+    so_far: &AtomicUsize,
+    most: Option<usize>,
     schema: &Schema,
     plan: &RangePlan<'_>,
     options: &SerializeOptions,
@@ -101,7 +108,8 @@ pub(crate) fn take_each<'a, W: Threads + Wait + Sync>(
         ensures { All (IsTaken plan.entry.now schema.entry.now (cell_options options.entry.now) cells.entry.now) result.items }
     {
         take_texts(
-            rt, alloc, cells, rooms, next, schema, plan, options, verbatim, piece_size,
+            rt, alloc, cells, rooms, next, so_far, most, schema, plan, options, verbatim,
+            piece_size,
         )
     };
     thread::map_indices(rt, alloc, workers, &take)

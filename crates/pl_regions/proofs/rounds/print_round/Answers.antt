@@ -1,8 +1,6 @@
-use Rattle.std.proofs.Common.{◌≡◌, List, ℕ, drop, subst, append-nil}
 use Rattle.std.specs.List.{concat}
 use Rattle.pl_write.specs.Options.{cell_options}
 use Rattle.pl_intake.proofs.TextLaws.{values_of}
-use Rattle.pl_regions.specs.Printing.{IsPrintedFront}
 use Rattle.pl_regions.proofs.ArrivingLaws.{HasPrinted-more}
 use Rattle.pl_regions.proofs.rounds.print_round.Goals as goal
 
@@ -12,8 +10,6 @@ returns-clause-printed g c = λ before first has.
     let schema = c.args.schema.now in
     let o = cell_options c.args.options.now in
     let text = concat (values_of c.in_ok-tokens.tokens.items) in
-    let arrived = c.in-Ok-front_arrived.arrived in
     HasPrinted-more plan schema o before (g.So.Source.left c.args.source.now) (g.So.Source.left c.read_and_print.new.source) c.args.limit first c.args.intake.now c.read_and_print.new.intake c.keep_front.new.intake c.args.kept.now
     c.keep_front.new.kept text has c.in_ok-tokens.ensures.given
-    (c.in-Ok-keep_front.ensures plan schema o has.text text c.requires.can.dialect has.is (subst (λ (t : List ℕ). IsPrintedFront plan schema o t arrived.front) (append-nil text) c.in-Ok-front_arrived.ensures.front)
-    (subst (λ (t : List ℕ). arrived.left.items ≡ drop arrived.front.end t) (append-nil text) c.in-Ok-front_arrived.ensures.left))
+    (c.in-Ok-keep_front.ensures.printed plan schema o has.text text c.requires.can.dialect has.is c.in-Ok-front_arrived.ensures.front c.in-Ok-front_arrived.ensures.left)

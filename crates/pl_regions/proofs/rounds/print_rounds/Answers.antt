@@ -2,6 +2,7 @@ use Rattle.std.proofs.Common.{rules, arith}
 use Rattle.pl_write.specs.Options.{cell_options}
 use Rattle.pl_intake.proofs.IntakeLaws.{IsTooLong-behind, HasStopped-behind}
 use Rattle.pl_regions.proofs.ArrivingLaws.{HasPrinted-none}
+use Rattle.pl_regions.proofs.RegionLaws.{few-none}
 use Rattle.pl_regions.proofs.rounds.print_rounds.Goals as goal
 
 pub loop-init : goal.loop-init
@@ -9,6 +10,7 @@ loop-init g c = record {
   printed =
       HasPrinted-none c.args.plan.now c.args.schema.now (cell_options c.args.options.now) (g.So.Source.left c.args.source.now) c.args.limit c.args.intake.now c.none-kept.result c.requires.within c.requires.ended
       c.none-kept.ensures.end c.none-kept.ensures.rows c.none-kept.ensures.lines;
+  few = few-none c.args.most c.none-kept.result.rows c.none-kept.ensures.rows;
   later = omega arith;
 }
 

@@ -1,0 +1,7 @@
+mod FrontLaws
+mod QuoteLaws
+mod CutLaws
+mod PlainLaws
+mod LineLaws
+mod NumberedLaws
+mod RowLaws

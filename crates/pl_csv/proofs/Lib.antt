@@ -10,6 +10,7 @@ pub mod MadeInputLaws
 pub mod MadeReadLaws
 pub mod MakingLaws
 pub mod MatchingLaws
+pub mod NumberingLaws
 pub mod OutcomeLaws
 pub mod ReturnLaws
 pub mod RunLaws

@@ -1,15 +1,12 @@
 -- What came of a source, and what was converted of it.
-use Rattle.std.proofs.Common.{◌≡◌, ℕ, true, ◌+◌, ◌≤◌, ◌^◌, List, [], ◌++◌, length, drop, map, refl, sym, ◌∙◌, ap, subst, inl, inr, arith, append_assoc, length-append}
+use Rattle.std.proofs.Common.{◌≡◌, ℕ, true, ◌+◌, ◌≤◌, ◌^◌, List, [], ◌++◌, length, take, drop, refl, sym, ◌∙◌, ap, subst, inl, inr, arith, append_assoc, length-append}
 use Rattle.std.specs.Prelude.{Option, unwrap_or, None, Result, Ok, Err, IfOk, OnOk, IfErr, IsErrOf, MatchResult}
-use Rattle.std.specs.Cow.{cow_slice_items}
 use Rattle.std.specs.Result.{is_ok}
 use Rattle.std.specs.Option.{option_copied}
 use Rattle.std.specs.Io.KnownBytes.{Consumes, IsAtEnd}
-use Rattle.std.proofs.lemmas.List.{drop-append-le}
+use Rattle.std.proofs.lemmas.List.{drop-append-le, take-append-drop}
 use Rattle.pl_frame.specs.Causes.{Rose}
-use Rattle.pl_frame.specs.Frame.{names_of}
 use Rattle.pl_frame.specs.Schema.{Entry, HaveDistinctNames}
-use Rattle.pl_text.specs.FrameText.{text_of_frame}
 use Rattle.pl_frame.specs.declared.error.PolarsError.{PolarsError}
 use Rattle.pl_frame.specs.declared.read_all.ReadAllFault.{ReadAllFault}
 use Rattle.pl_frame.specs.declared.read_all.ReadAllFault.TheVariants as read_fault
@@ -28,10 +25,9 @@ use Rattle.pl_regions.specs.declared.printing.PrintedRows.{PrintedRows}
 use Rattle.pl_regions.specs.Printing.{IsPrinted}
 use Rattle.pl_intake.specs.Intake as intake
 use Rattle.pl_intake.specs.declared.intake.Intake.{Intake}
-use Rattle.pl_write.specs.Options.{cell_options, frame_options}
-use Rattle.pl_write.specs.Printed.{printed_text}
+use Rattle.pl_write.specs.Options.{cell_options}
 use Rattle.pl_write.specs.declared.options.CsvWriterOptions.{CsvWriterOptions}
-use Rattle.pl_csv.specs.Converting.{IsPrintedRead}
+use Rattle.pl_csv.specs.Converting.{HasTextOf, IsPrintedRead}
 use Rattle.pl_csv.specs.Sources.{HasCome, IsUnconverted, IsUnprinted, IsKept, MayReadAhead, IsReadBy, IsReadAhead, ArePrintedOf, unread_of}
 use Rattle.pl_csv.specs.Transcoding.{IsUnread, IsTranscodeFault}
 use Rattle.pl_csv.specs.Views.{SourceView, Views}
@@ -78,11 +74,11 @@ come-ahead before now end rest bytes size limit is size_is limit_is came ended w
 }
 
 -- what tells the records of an input tells them of one behind it
-pub IsReadAhead-longer : (read : CsvReadOptions) (first more longer : List ℕ) (prepared : Prepared) → longer ≡ first ++ more → IsReadAhead read first prepared → IsReadAhead read longer prepared
-IsReadAhead-longer read first more longer prepared is ahead =
-    subst (λ text. IsReadAhead read text prepared) (sym is) (record {
+pub IsReadAhead-longer : (read : CsvReadOptions) (write : CsvWriterOptions) (longest : ℕ) (first more longer : List ℕ) (prepared : Prepared) → longer ≡ first ++ more → IsReadAhead read write longest first prepared → IsReadAhead read write longest longer prepared
+IsReadAhead-longer read write longest first more longer prepared is ahead =
+    subst (λ text. IsReadAhead read write longest text prepared) (sym is) (record {
       within = omega (arith, ahead.within, length-append first more);
-      is = λ rest. subst (λ input. IsReadBy read input prepared) (sym (append_assoc first more rest)) (ahead.is (more ++ rest));
+      is = λ rest. subst (λ input. IsReadBy read write longest input prepared) (sym (append_assoc first more rest)) (ahead.is (more ++ rest));
     })
 
 -- where bytes were skipped, the records begin within what is kept
@@ -118,12 +114,12 @@ unprinted read write before now (unconverted.Polars fault) same (inr is) =
 -- ---- what is printed of an input whose rows were prepared ahead
 
 -- it means a frame that can be written, and its text was printed; or it means none
-pub read-or-unread : (read : CsvReadOptions) (write : CsvWriterOptions) (input records : List ℕ) (prepared : Prepared) (result : Result Printed PolarsError) → MayReadAhead read write → IsReadBy read input prepared
+pub read-or-unread : (read : CsvReadOptions) (write : CsvWriterOptions) (longest : ℕ) (input records : List ℕ) (prepared : Prepared) (result : Result Printed PolarsError) → MayReadAhead read write → IsReadBy read write longest input prepared
     → records ≡ drop prepared.start input
-    → IfOk result (λ printed. printed_text (frame_options write) (names_of printed.rest) (map cow_slice_items printed.lines.items) printed.rest ≡ text_of_frame (frame_options write) (data_frame read prepared.schema records))
+    → IfOk result (λ printed. HasTextOf write printed (data_frame read prepared.schema records))
     → OnOk result (data_cause read prepared.schema records ≡ None) → IfErr result (IsFault (data_cause read prepared.schema records))
     → MatchResult result (IsPrintedRead read write input) (IsUnread read (settled_schema read input) input write)
-read-or-unread read write input records prepared result may by records_are text none fault =
+read-or-unread read write longest input records prepared result may by records_are text none fault =
     let schema : List Entry = settled_schema read input in
     let is = by.is in
     let cause : data_cause read prepared.schema records ≡ late_cause read schema input =
@@ -134,23 +130,31 @@ read-or-unread read write input records prepared result may by records_are text 
     ∙ ap (λ (some : Option (List ℕ)). data_frame read schema (unwrap_or some [])) (sym is.data_is) in
     printed-or-unread read schema input write result refl may.allowed may.quote
     (subst
-    (λ f. IfOk result (λ printed. printed_text (frame_options write) (names_of printed.rest) (map cow_slice_items printed.lines.items) printed.rest ≡ text_of_frame (frame_options write) f))
+    (λ f. IfOk result (λ printed. HasTextOf write printed f))
     frame text)
     (subst (λ (f : Option PolarsError). OnOk result (f ≡ None)) cause none)
     (subst (λ (f : Option PolarsError). IfErr result (IsFault f)) cause fault)
 
 -- data whose rows were prepared ahead can be read
-pub can-ahead : (read : CsvReadOptions) (input : List ℕ) (prepared : Prepared) (plan : RangePlan) → MayRead read → IsReadBy read input prepared → IsPlanOf plan read prepared.schema
+pub can-ahead : (read : CsvReadOptions) (write : CsvWriterOptions) (longest : ℕ) (input : List ℕ) (prepared : Prepared) (plan : RangePlan) → MayRead read → IsReadBy read write longest input prepared → IsPlanOf plan read prepared.schema
     → option_copied plan.options.null_values ≡ prepared.null_values → HaveDistinctNames prepared.schema → CanReadData plan read prepared.schema (drop prepared.start input)
-can-ahead read input prepared plan may by is nulls distinct =
+can-ahead read write longest input prepared plan may by is nulls distinct =
     can-read read input (drop prepared.start input) prepared plan may (IsPrepared-own read (settled_schema read input) input prepared by.is) is nulls distinct (omega arith)
 
 -- and is printed where its rows are
-pub printed-ahead : (read : CsvReadOptions) (write : CsvWriterOptions) (rest kept bytes : List ℕ) (prepared : Prepared) (plan : RangePlan) (printed : PrintedRows) → MayRead read → IsReadAhead read rest prepared
-    → IsPlanOf plan read prepared.schema → option_copied plan.options.null_values ≡ prepared.null_values → HaveDistinctNames prepared.schema → kept ≡ drop prepared.start rest
+pub printed-ahead : (read : CsvReadOptions) (write : CsvWriterOptions) (longest : ℕ) (rest kept bytes : List ℕ) (prepared : Prepared) (plan : RangePlan) (printed : PrintedRows) → MayRead read → IsReadAhead read write longest rest prepared
+    → IsPlanOf plan read prepared.schema → option_copied plan.options.null_values ≡ prepared.null_values → HaveDistinctNames prepared.schema → kept ≡ drop prepared.start rest → length (kept ++ bytes) ≤ longest
     → IsPrinted plan prepared.schema (cell_options write.serialize_options) (kept ++ bytes) printed → ArePrintedOf plan read prepared.schema write (kept ++ bytes) printed
-printed-ahead read write rest kept bytes prepared plan printed may ahead is nulls distinct kept_is lines =
+printed-ahead read write longest rest kept bytes prepared plan printed may ahead is nulls distinct kept_is small lines =
     let by = ahead.is bytes in
     let records = records-ahead prepared.start rest bytes kept ahead.within kept_is in
-    let can = can-ahead read (rest ++ bytes) prepared plan may by is nulls distinct in
-    record { can = subst (CanReadData plan read prepared.schema) (sym records) can; plain = by.plain _; is = lines }
+    let can = can-ahead read write longest (rest ++ bytes) prepared plan may by is nulls distinct in
+    record { can = subst (CanReadData plan read prepared.schema) (sym records) can; plain = by.plain (kept ++ bytes) small; is = lines }
+
+-- what was skipped, and what came behind it, is the input
+pub joined-ahead : (start : ℕ) (rest kept bytes records : List ℕ) → kept ≡ drop start rest → records ≡ kept ++ bytes → rest ++ bytes ≡ take start rest ++ records
+joined-ahead start rest kept bytes records kept_is records_are =
+    ap (λ (l : List ℕ). l ++ bytes) (sym (take-append-drop start rest))
+    ∙ append_assoc (take start rest) (drop start rest) bytes
+    ∙ ap (λ (l : List ℕ). take start rest ++ (l ++ bytes)) (sym kept_is)
+    ∙ ap (λ (l : List ℕ). take start rest ++ l) (sym records_are)

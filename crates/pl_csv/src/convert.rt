@@ -1,11 +1,12 @@
 //! From the bytes of an input to the text of its frame, each piece printed as soon as it is read.
-ghost use Rattle.std.specs.Prelude.{◌≡◌, ◌<◌, ◌≤◌, ℕ, List, [], None, map, drop, length, slice_index, IfOk, OnOk, IfErr, MatchResult};
+ghost use Rattle.std.specs.Prelude.{◌≡◌, ◌<◌, ◌≤◌, ℕ, List, [], None, drop, length, slice_index, IfOk, IfSome, OnOk, IfErr, IsErrOf, MatchResult};
 ghost use Rattle.std.specs.Bool.{OnTrue};
-ghost use Rattle.std.specs.Cow.{cow_slice_items};
+ghost use Rattle.std.specs.Io.KnownBytes.{Appends};
 ghost use Rattle.std.specs.List.{list_any};
+ghost use Rattle.std.specs.Option.{option_map};
 ghost use Rattle.pl_cells.specs.InitBuffers.{entry_at};
-ghost use Rattle.pl_frame.specs.Schema.{Entry};
-ghost use Rattle.pl_frame.specs.Frame.{IsFrame, names_of};
+ghost use Rattle.pl_frame.specs.Causes.{Rose};
+ghost use Rattle.pl_frame.specs.Frame.{ColumnValue, IsFrame, height_of};
 ghost use Rattle.pl_text.specs.FrameText.{text_of_frame};
 ghost use Rattle.pl_options.specs.FirstCause.{IsFault};
 ghost use Rattle.pl_infer.specs.Schemas.{is_categorical};
@@ -13,14 +14,14 @@ ghost use Rattle.pl_read.specs.Options.{settled_schema};
 ghost use Rattle.pl_read.specs.Reading.{frame_of};
 ghost use Rattle.pl_read.specs.Preparing.{IsPrepared};
 ghost use Rattle.pl_read.specs.Projection.{projected};
-ghost use Rattle.pl_read.specs.Rows.{data_frame};
+ghost use Rattle.pl_read.specs.Rows.{data_frame, with_index};
 ghost use Rattle.pl_read.specs.Steps.{MayRead, late_cause, data_cause, CanReadData};
 ghost use Rattle.pl_regions.specs.Limits.{without_limit};
 ghost use Rattle.pl_rows.specs.Ranges.{range_frame};
 ghost use Rattle.pl_verbatim.specs.PrintedTexts.{CanPrint};
 ghost use Rattle.pl_write.specs.Options.{frame_options};
-ghost use Rattle.pl_write.specs.Printed.{printed_text};
-ghost use Rattle.pl_csv.specs.Converting.{IsPrintedRead, IsRowByRow};
+ghost use Rattle.pl_write.specs.Writing.{AppendsPrefix};
+ghost use Rattle.pl_csv.specs.Converting.{AreNumberable, AreUnnumbered, HasTextOf, IsPrintedRead, IsRowByRow};
 ghost use Rattle.pl_csv.specs.Sources.{ArePrintedOf};
 ghost use Rattle.pl_csv.specs.Transcoding.{IsUnread, IsConverted, IsTranscodeFault};
 ghost use Rattle.pl_csv.specs.Views.{sink_view};
@@ -33,29 +34,34 @@ use pl_frame::frame::DataFrame;
 use pl_frame::schema::Schema;
 use pl_frame::sink::{Sink, SinkFault};
 use pl_options::read_options::CsvReadOptions;
+use pl_options::row_index::RowIndex;
 use pl_read::checks::check_options;
+use pl_read::indexing::with_index;
 use pl_read::preparing::{Prepared, prepare};
 use pl_read::reading::{plan_of, read_prepared};
 use pl_read::workers::{piece_size_for, worker_count};
 use pl_regions::first_rows::print_rows;
 use pl_regions::printing::PrintedRows;
+use pl_row_numbers::{can_number, write_numbered};
 use pl_rows::columns::read_columns;
 use pl_rows::plan::RangePlan;
 use pl_rows::range::RangeEnd;
 use pl_write::options::CsvWriterOptions;
 use pl_write::printed::write_behind;
-use std::alloc::{AllocError, Global};
+use std::alloc::Global;
 use std::borrow::CowSlice;
 use std::sync::Wait;
 use std::thread::Threads;
 
-// So many categories have codes of 32 bits.
-const CODES: usize = 1 << 32;
+/// So many categories have codes of 32 bits.
+pub(crate) const CODES: usize = 1 << 32;
 
-/// What was read of an input: the lines of its first rows, and the frame of the others.
+/// What was read of an input: the lines of its first rows, the number of the first one where their numbers are still to be put in front, and the
+/// frame of the others.
 #[derive(Drop)]
 pub(crate) struct Printed<'a> {
     pub(crate) lines: Vec<CowSlice<'a, u8, Global>>,
+    pub(crate) numbers: Option<u64>,
     pub(crate) rest: DataFrame,
 }
 
@@ -81,33 +87,77 @@ fn have_categories(schema: &Schema, places: &[usize]) -> bool
     false
 }
 
-/// Whether rows may be printed as they are read, of whatever data.
-pub(crate) fn is_row_by_row(read: &CsvReadOptions, prepared: &Prepared) -> bool
+// Whether the numbers of a row index may be put in front of the lines of rows that were printed without them: the lines have cells and can be told
+// apart, and the numbers of so many rows fit 64 bits.
+fn is_numberable(index: &RowIndex, write: &CsvWriterOptions, width: usize, amount: usize) -> bool
+    ensures { OnTrue result (AreNumberable write.now width index.now.offset amount) }
+{
+    width > 0 && can_number(&write.serialize_options) && index.offset <= u64::MAX - amount as u64
+}
+
+// The same where a row index is asked.
+fn are_numberable(
+    read: &CsvReadOptions,
+    write: &CsvWriterOptions,
+    width: usize,
+    amount: usize,
+) -> bool
+    ensures { OnTrue result (IfSome read.now.row_index (λ index. AreNumberable write.now width index.offset amount)) }
+{
+    match &read.row_index {
+        Some(index) => is_numberable(index, write, width, amount),
+        None => true,
+    }
+}
+
+/// Whether rows may be printed as they are read, of whatever data of no more than so many bytes. It has no more rows, so where there are as many codes
+/// of categories, all of them fit.
+pub(crate) fn is_row_by_row(
+    read: &CsvReadOptions,
+    write: &CsvWriterOptions,
+    prepared: &Prepared,
+    amount: usize,
+) -> bool
     requires { prepared.now.places.items ≡ projected read.now prepared.now.schema }
-    ensures { OnTrue result ((records : List ℕ) → IsRowByRow read.now prepared.now.schema records) }
+    ensures { OnTrue result ((records : List ℕ) → length records ≤ amount → IsRowByRow read.now write.now prepared.now.schema records) }
 {
-    read.row_index.is_none() && !have_categories(&prepared.schema, &prepared.places)
+    if !are_numberable(read, write, prepared.places.len(), amount) {
+        return false;
+    }
+    if amount <= CODES {
+        return true;
+    }
+    if have_categories(&prepared.schema, &prepared.places) {
+        return false;
+    }
+    true
 }
 
-// Whether the rows of data may be printed as they are read, whatever columns it has: it has no more bytes than there are codes of categories.
-fn is_codable(read: &CsvReadOptions, records: &[u8]) -> bool
-    ensures { (schema : List Entry) → OnTrue result (IsRowByRow read.now schema records.now) }
+// The number of the first row, where a row index is asked.
+fn first_number(read: &CsvReadOptions) -> Option<u64>
+    ensures { result ≡ option_map (λ index. index.offset) read.now.row_index }
 {
-    read.row_index.is_none() && records.len() <= CODES
+    match &read.row_index {
+        Some(index) => Some(index.offset),
+        None => None,
+    }
 }
 
-// A frame of no rows, with the columns that are read. Refuses only want of memory.
+// A frame of no rows, with the columns that are read behind their row index, where one is asked. Refuses only want of memory.
 fn frame_of_none(
     alloc: Global,
+    read: &CsvReadOptions,
     schema: &Schema,
     plan: &RangePlan<'_>,
-) -> Result<DataFrame, AllocError>
+) -> PolarsResult<DataFrame>
     requires can { CanPrint (without_limit plan.now) schema.now }
-    requires frame { IsFrame (range_frame plan.now schema.now []) }
-    ensures { IfOk result (λ frame. frame ≡ range_frame plan.now schema.now []) }
+    requires frame { IsFrame (with_index read.now.row_index (height_of (range_frame plan.now schema.now [])) (range_frame plan.now schema.now [])) }
+    ensures { IfOk result (λ frame. frame ≡ with_index read.now.row_index (height_of (range_frame plan.now schema.now [])) (range_frame plan.now schema.now [])) }
 {
-    let read = read_columns(alloc, schema, &[], plan)?;
-    Ok(DataFrame::of_distinct(read.columns))
+    match read_columns(alloc, schema, &[], plan) {
+        Ok(columns) => with_index(alloc, read.row_index.as_ref(), columns.columns),
+        Err(_) => Err(PolarsError::OutOfMemory),
+    }
 }
 
 /// What data is whose rows were printed. Refuses the first cause against it, and want of memory.
@@ -121,8 +171,7 @@ pub(crate) fn read_printed<'a>(
 ) -> PolarsResult<Printed<'a>>
     requires printed { (records : List ℕ) × ArePrintedOf plan.now read.now schema.now write.now records rows }
     ensures text { (records : List ℕ) → ArePrintedOf plan.now read.now schema.now write.now records rows.entry
-        → IfOk result (λ printed. printed_text (frame_options write.now) (names_of printed.rest) (map cow_slice_items printed.lines.items) printed.rest
-        ≡ text_of_frame (frame_options write.now) (data_frame read.now schema.now records)) }
+        → IfOk result (λ printed. HasTextOf write.now printed (data_frame read.now schema.now records)) }
     ensures sound { (records : List ℕ) → ArePrintedOf plan.now read.now schema.now write.now records rows.entry → OnOk result (data_cause read.now schema.now records ≡ None) }
     ensures refused { (records : List ℕ) → ArePrintedOf plan.now read.now schema.now write.now records rows.entry → IfErr result (IsFault (data_cause read.now schema.now records)) }
 {
@@ -131,11 +180,12 @@ pub(crate) fn read_printed<'a>(
             Err(PolarsError::ComputeError(ComputeFault::Record { row, column, kind }))
         }
         RangeEnd::Closed | RangeEnd::Open => {
-            let Ok(rest) = frame_of_none(alloc, schema, plan) else {
+            let Ok(rest) = frame_of_none(alloc, read, schema, plan) else {
                 return Err(PolarsError::OutOfMemory);
             };
             Ok(Printed {
                 lines: rows.lines,
+                numbers: first_number(read),
                 rest,
             })
         }
@@ -155,9 +205,8 @@ fn print_data<'a, W: Threads + Wait + Sync>(
     write: &CsvWriterOptions,
 ) -> PolarsResult<Printed<'a>>
     requires can { CanReadData plan.now read.now schema.now records.now }
-    requires plain { IsRowByRow read.now schema.now records.now }
-    ensures text { IfOk result (λ printed. printed_text (frame_options write.now) (names_of printed.rest) (map cow_slice_items printed.lines.items) printed.rest
-        ≡ text_of_frame (frame_options write.now) (data_frame read.now schema.now records.now)) }
+    requires plain { IsRowByRow read.now write.now schema.now records.now }
+    ensures text { IfOk result (λ printed. HasTextOf write.now printed (data_frame read.now schema.now records.now)) }
     ensures sound { OnOk result (data_cause read.now schema.now records.now ≡ None) }
     ensures refused { IfErr result (IsFault (data_cause read.now schema.now records.now)) }
 {
@@ -181,13 +230,12 @@ fn print_by<'a, W: Threads + Wait + Sync>(
 ) -> PolarsResult<Printed<'a>>
     requires allowed { MayRead read.now }
     requires prepared { IsPrepared read.now prepared.now.schema input.now prepared.now }
-    ensures text { IfOk result (λ printed. printed_text (frame_options write.now) (names_of printed.rest) (map cow_slice_items printed.lines.items) printed.rest
-        ≡ text_of_frame (frame_options write.now) (data_frame read.now prepared.now.schema (drop prepared.now.start input.now))) }
+    ensures text { IfOk result (λ printed. HasTextOf write.now printed (data_frame read.now prepared.now.schema (drop prepared.now.start input.now))) }
     ensures sound { OnOk result (data_cause read.now prepared.now.schema (drop prepared.now.start input.now) ≡ None) }
     ensures refused { IfErr result (IsFault (data_cause read.now prepared.now.schema (drop prepared.now.start input.now))) }
 {
     let records = &input[prepared.start..];
-    if is_codable(read, records) || is_row_by_row(read, prepared) {
+    if is_row_by_row(read, write, prepared, records.len()) {
         let plan = plan_of(read, prepared);
         let schema = &prepared.schema;
         return print_data(
@@ -204,6 +252,7 @@ fn print_by<'a, W: Threads + Wait + Sync>(
     match read_prepared(rt, alloc, &OpenGate, input, read, prepared) {
         Ok(rest) => Ok(Printed {
             lines: Vec::new(alloc),
+            numbers: None,
             rest,
         }),
         Err(fault) => Err(fault),
@@ -222,8 +271,7 @@ fn print_prepared<'a, W: Threads + Wait + Sync>(
 ) -> PolarsResult<Printed<'a>>
     requires allowed { MayRead read.now }
     requires prepared { IsPrepared read.now prepared.old.schema input.now prepared.old }
-    ensures text { IfOk result (λ printed. printed_text (frame_options write.now) (names_of printed.rest) (map cow_slice_items printed.lines.items) printed.rest
-        ≡ text_of_frame (frame_options write.now) (data_frame read.now prepared.old.schema (drop prepared.old.start input.now))) }
+    ensures text { IfOk result (λ printed. HasTextOf write.now printed (data_frame read.now prepared.old.schema (drop prepared.old.start input.now))) }
     ensures sound { OnOk result (data_cause read.now prepared.old.schema (drop prepared.old.start input.now) ≡ None) }
     ensures refused { IfErr result (IsFault (data_cause read.now prepared.old.schema (drop prepared.old.start input.now))) }
 {
@@ -247,8 +295,7 @@ fn print_checked<'a, W: Threads + Wait + Sync>(
     write: &CsvWriterOptions,
 ) -> PolarsResult<Printed<'a>>
     requires allowed { MayRead read.now }
-    ensures text { IfOk result (λ printed. printed_text (frame_options write.now) (names_of printed.rest) (map cow_slice_items printed.lines.items) printed.rest
-        ≡ text_of_frame (frame_options write.now) (frame_of read.now (settled_schema read.now input.now) input.now)) }
+    ensures text { IfOk result (λ printed. HasTextOf write.now printed (frame_of read.now (settled_schema read.now input.now) input.now)) }
     ensures sound { OnOk result (late_cause read.now (settled_schema read.now input.now) input.now ≡ None) }
     ensures refused { IfErr result (IsFault (late_cause read.now (settled_schema read.now input.now) input.now)) }
 {
@@ -311,6 +358,59 @@ pub fn convert<W: Threads + Wait + Sync, S: Sink>(
     written
 }
 
+// Appends the text of what was printed without its row index to a sink, whose first number this is. Refuses a fault of the device, and want of memory.
+// A prefix of the text was then appended.
+fn write_unnumbered<W: Threads + Sync, S: Sink>(
+    rt: &W,
+    alloc: Global,
+    workers: usize,
+    printed: &Printed<'_>,
+    offset: u64,
+    write: &CsvWriterOptions,
+    sink: &mut S,
+) -> Result<(), SinkFault>
+    requires { 0 < workers }
+    ensures text { (frame : List ColumnValue) → AreUnnumbered write.now offset printed.now frame → OnOk result (Appends (S.received sink.old) (S.received sink.new) (text_of_frame (frame_options write.now) frame)) }
+    ensures prefix { (frame : List ColumnValue) → AreUnnumbered write.now offset printed.now frame → AppendsPrefix (S.received sink.old) (S.received sink.new) (text_of_frame (frame_options write.now) frame) }
+    ensures later { S.faults sink.old ≤ S.faults sink.new }
+    ensures later_wants { S.wants sink.old ≤ S.wants sink.new }
+    ensures device { IsErrOf result SinkFault.Device → Rose (S.faults sink.old) (S.faults sink.new) }
+{
+    let columns = printed.rest.columns();
+    match write_behind(rt, alloc, workers, &[], columns, write, sink) {
+        Ok(()) => {
+            let options = &write.serialize_options;
+            write_numbered(alloc, &printed.lines, offset, options, sink)
+        }
+        Err(fault) => Err(fault),
+    }
+}
+
+// Appends the text of what was read and printed to a sink. Refuses a fault of the device, and want of memory. A prefix of the text was then appended.
+fn write_text<W: Threads + Sync, S: Sink>(
+    rt: &W,
+    alloc: Global,
+    workers: usize,
+    printed: &Printed<'_>,
+    write: &CsvWriterOptions,
+    sink: &mut S,
+) -> Result<(), SinkFault>
+    requires { 0 < workers }
+    ensures text { (frame : List ColumnValue) → HasTextOf write.now printed.now frame → OnOk result (Appends (S.received sink.old) (S.received sink.new) (text_of_frame (frame_options write.now) frame)) }
+    ensures prefix { (frame : List ColumnValue) → HasTextOf write.now printed.now frame → AppendsPrefix (S.received sink.old) (S.received sink.new) (text_of_frame (frame_options write.now) frame) }
+    ensures later { S.faults sink.old ≤ S.faults sink.new }
+    ensures later_wants { S.wants sink.old ≤ S.wants sink.new }
+    ensures device { IsErrOf result SinkFault.Device → Rose (S.faults sink.old) (S.faults sink.new) }
+{
+    match printed.numbers {
+        Some(offset) => write_unnumbered(rt, alloc, workers, printed, offset, write, sink),
+        None => {
+            let columns = printed.rest.columns();
+            write_behind(rt, alloc, workers, &printed.lines, columns, write, sink)
+        }
+    }
+}
+
 /// Writes the text of what was read and printed to a sink. Refuses a fault of the sink (`IO`), and want of memory; the sink then received
 /// a prefix of the text.
 pub(crate) fn write_printed<W: Threads + Wait + Sync, S: Sink>(
@@ -329,15 +429,7 @@ pub(crate) fn write_printed<W: Threads + Wait + Sync, S: Sink>(
     ensures later_wants { S.wants sink.old ≤ S.wants sink.new }
 {
     let workers = count_with_space(alloc, worker_count(read.n_threads), printed.rest.height());
-    match write_behind(
-        rt,
-        alloc,
-        workers,
-        &printed.lines,
-        printed.rest.columns(),
-        write,
-        sink,
-    ) {
+    match write_text(rt, alloc, workers, printed, write, sink) {
         Ok(()) => Ok(()),
         Err(SinkFault::Device) => Err(PolarsError::IO),
         Err(SinkFault::OutOfMemory) => Err(PolarsError::OutOfMemory),

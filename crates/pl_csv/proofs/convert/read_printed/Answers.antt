@@ -1,5 +1,6 @@
-use Rattle.std.proofs.Common.{inl}
+use Rattle.std.proofs.Common.{refl, inl}
 use Rattle.pl_csv.proofs.ConvertLaws.{can-print, none-is-frame, data-text, data-sound, data-fault}
+use Rattle.pl_csv.specs.declared.convert.Printed.{Printed}
 use Rattle.pl_csv.proofs.convert.read_printed.Goals as goal
 
 pub returns-in-Fault-clause-refused : goal.returns-in-Fault-clause-refused
@@ -16,7 +17,8 @@ frame_of_none-requires-clause-frame c = none-is-frame c.args.plan.now c.args.rea
 
 pub returns-clause-text : goal.returns-clause-text
 returns-clause-text c = λ records is.
-    data-text c.args.plan.now c.args.read.now c.args.schema.now c.args.write.now records c.args.rows c.in-Ok.rest is c.in-Closed.is c.in-Ok.ensures
+    let made : Printed = record { lines = c.args.rows.lines; numbers = c.first_number.result; rest = c.in-Ok.rest } in
+    data-text c.args.plan.now c.args.read.now c.args.schema.now c.args.write.now records c.args.rows made is c.in-Closed.is refl c.first_number.ensures c.in-Ok.ensures
 
 pub returns-clause-sound : goal.returns-clause-sound
 returns-clause-sound c = λ records is. data-sound c.args.plan.now c.args.read.now c.args.schema.now c.args.write.now records c.args.rows is c.in-Closed.is

@@ -12,7 +12,7 @@ HERE = os.path.dirname(os.path.realpath(__file__))
 PROGRAM = os.path.join(HERE, "..", "release", "pl_csv-x86_64-linux")
 
 SCHEMA = ["--schema", "n:int64,t:string,d:date", "--no-header"]
-WAYS = [("printed while it comes", SCHEMA), ("read to a frame", SCHEMA + ["--row-index", "row"]), ("with inference", []), ("always quoted", SCHEMA + ["--style", "always"])]
+WAYS = [("printed while it comes", SCHEMA), ("read to a frame", SCHEMA + ["--row-index", "row", "--style", "never"]), ("with inference", []), ("always quoted", SCHEMA + ["--style", "always"])]
 
 
 def run(program, words, path, limit, environment):

@@ -44,7 +44,7 @@ def cases(size):
         yield f"four categories, {workers}", ["--schema", "c:category", "--no-header", "--piece", "1"] + by, "q\np\nq\nr\n"
         yield f"sales with inference, {workers}", sales + by, SALES
         yield f"every type, {workers}", ["--schema", TYPES[0], "--no-header", "--piece", "1"] + by, TYPES[1]
-        yield f"every type in a frame, {workers}", ["--schema", TYPES[0], "--no-header", "--piece", "1", "--limit", "9", "--style", "always"] + by, TYPES[1]
+        yield f"every type under a limit, {workers}", ["--schema", TYPES[0], "--no-header", "--piece", "1", "--limit", "9", "--style", "always"] + by, TYPES[1]
         yield f"a misfit, {workers}", three + ["--piece", "1"] + by, "1,a,\n2,b,\nx,c,\n4,d,\n"
         yield f"a name that stands twice, {workers}", by, "a,a,a_duplicated_0\n1,2,3\n"
         yield f"a name that is not there, {workers}", three + ["--columns", "t,z"] + by, "1,a,\n"
@@ -52,10 +52,10 @@ def cases(size):
     yield "printed while it comes, 4", three + four, rows
     yield "a misfit at the end while it comes, 4", three + four, rows + "x,,\n"
     yield "printed by regions, 4", three + ["--skip-rows", "1"] + four, rows
-    yield "read to a frame by workers, 4", three + ["--row-index", "row"] + four, rows
+    yield "read to a frame by workers, 4", three + ["--row-index", "row", "--style", "never"] + four, rows
     yield "with inference, 4", four, "n,t,d\n" + rows
     yield "with categories, 4", ["--schema", "n:int64,t:category,d:date", "--no-header"] + four, rows
-    yield "written by workers, 4", three + ["--row-index", "row", "--batch", "100", "--style", "always"] + four, rows
+    yield "written by workers, 4", three + ["--row-index", "row", "--batch", "100", "--style", "never"] + four, rows
     yield "made, 4", ["--make", "2000"] + four, ""
 
 

@@ -1,6 +1,6 @@
 -- What is put of a row is what is put of a field, and behind its separator what is put of the rest of the row.
-use Rattle.std.proofs.Common.{◌≡◌, ℕ, ◌+◌, ◌-◌, ◌<◌, Bool, true, false, ◌&&◌, if◌then◌else◌, List, [], ◌∷◌, ◌++◌, length, get_or, Option, None, Some, refl, sym, ap, ap₂, ◌∙◌, subst, arith, append_assoc, append-nil, ◌≤◌}
-use Rattle.std.specs.Prelude.{slice_range}
+use Rattle.std.proofs.Common.{◌≡◌, ℕ, ◌+◌, ◌-◌, ◌<◌, Bool, true, false, ◌&&◌, if◌then◌else◌, List, [], ◌∷◌, ◌++◌, length, get_or, take, Option, None, Some, refl, sym, ap, ap₂, ◌∙◌, subst, arith, append_assoc, append-nil, ◌≤◌}
+use Rattle.std.specs.Prelude.{slice_range, IfSome, IfNone}
 use Rattle.std.specs.List.{flat_map, join_with_byte}
 use Rattle.pl_frame.specs.Schema.{Entry}
 use Rattle.pl_text.specs.FrameText.{WriteOptions}
@@ -11,7 +11,8 @@ use Rattle.pl_verbatim.specs.declared.form.Form.{Form}
 use Rattle.pl_verbatim.specs.declared.kinds.Kind.{Kind}
 use Rattle.pl_verbatim.specs.CellTexts.{as_read}
 use Rattle.pl_verbatim.specs.Kinds.{AreReadable, AreKindsOf, is_passed}
-use Rattle.pl_verbatim.specs.Changes.{null_test_of, field_marks, IsAnyField, IsChangeOfKind, IsFormOf, IsPutOf, AreChangesOf, IsLineChangeOf, IsLineChangeOfKinds, IsFieldPassed, IsColumnPut, IsRowPut}
+use Rattle.pl_verbatim.specs.Changes.{null_test_of, field_marks, IsAnyField, IsFormOf, IsPutOf, AreChangesOf, IsLineChangeOfKinds, IsFieldPassed, IsCellPut, IsColumnPut, IsRowPut}
+use Rattle.pl_verbatim.proofs.FrontKeptLaws.{front-kept, put-behind}
 use Rattle.pl_verbatim.proofs.KindLaws.{not-passed}
 use Rattle.pl_verbatim.proofs.RowStepLaws.{AreLinesBefore, line-step, line-last}
 
@@ -178,6 +179,26 @@ passed-put text at next own mark separator quote form is_first now passed field 
   put = subst (λ t. IsPutOf t is_first separator quote form own (slice_range text at field.end) []) (sym passed) (refl, field.field);
 }
 
+-- what is written of a cell, behind a separator unless it is the first
+pub cell-column : (text : List ℕ) (at next : ℕ) (own : Kind) (mark separator quote : ℕ) (form : Form) (is_first : Bool) (before joins now : List ℕ) → is_passed own ≡ false
+    → joins ≡ before ++ (if is_first then [] else form.separator ∷ []) → IsCellPut text at next own mark separator quote form joins now → IsColumnPut text at next own mark separator quote form is_first before now
+cell-column text at next own mark separator quote form is_first before joins now read joined_is one = record {
+  end = one.end;
+  next_is = one.next_is;
+  after = one.after;
+  within = one.within;
+  mark_is = one.mark_is;
+  part = (if is_first then [] else form.separator ∷ []) ++ one.written;
+  now_is = one.now_is ∙ ap (λ l. l ++ one.written) joined_is ∙ append_assoc before (if is_first then [] else form.separator ∷ []) one.written;
+  put =
+      subst (λ t. IsPutOf t is_first separator quote form own (slice_range text at one.end) ((if is_first then [] else form.separator ∷ []) ++ one.written)) (sym read)
+      (one.written, marked is_first, one.cell);
+}
+  where
+    marked : (first : Bool) → (if first then [] else form.separator ∷ []) ++ one.written ≡ (if first then one.written else form.separator ∷ one.written)
+    marked true = refl
+    marked false = refl
+
 pub and-true : (t : Bool) → (t && true) ≡ t
 and-true true = refl
 and-true false = refl
@@ -212,3 +233,17 @@ put-row text start kinds separator quote form index at next is_first any before 
     (ended_by ∙ ap (λ l. l ++ form.terminator.items) one.now_is ∙ append_assoc now one.part form.terminator.items)
     (last-rest separator quote form (is_passed own) is_first own (slice_range text at one.end) one.part refl one.put) in
     subst (IsRowPut text start kinds separator quote form before all) (sym one.next_is) (record { copy = ended.copy; now_is = ended.now_is; line = ended.line })
+
+-- ---- blocks
+
+-- what stands in front stays, whether something is put or not
+pub stays : (put : Option (ℕ × ℕ)) (text : List ℕ) (at : ℕ) (kind : Kind) (mark separator quote : ℕ) (form : Form) (place : ℕ) (old now : List ℕ) → place ≤ length old
+    → IfSome put (λ p. IsCellPut text at (p.0 + 1) kind mark separator quote form (take place old) (take p.1 now)) → IfSome put (λ p. p.1 < length now) → IfNone put (now ≡ old) → take place now ≡ take place old
+stays None text at kind mark separator quote form place old now low is within same = ap (take place) same
+stays (Some p) text at kind mark separator quote form place old now low is within same = front-kept place p.1 old now is.written low (omega (arith, within)) is.now_is
+
+-- and what is put stands behind it
+pub grown : (put : Option (ℕ × ℕ)) (text : List ℕ) (at : ℕ) (kind : Kind) (mark separator quote : ℕ) (form : Form) (from place : ℕ) (old now : List ℕ) → from ≤ place → place ≤ length old
+    → IfSome put (λ p. IsCellPut text at (p.0 + 1) kind mark separator quote form (take place old) (take p.1 now)) → IfSome put (λ p. p.1 < length now) → IfSome put (λ p. from ≤ p.1)
+grown None text at kind mark separator quote form from place old now before low is within = tt
+grown (Some p) text at kind mark separator quote form from place old now before low is within = omega (arith, before, put-behind place p.1 old now is.written low (omega (arith, within)) is.now_is)

@@ -1,11 +1,11 @@
--- Lines that stand as they are written, with another separator in the place of theirs, are what is written of them by that.
-use Rattle.std.proofs.Common.{◌≡◌, ℕ, zero, suc, ◌+◌, ◌-◌, ◌<◌, ◌≤◌, Bool, true, false, ◌||◌, ◌==◌, cond, if◌then◌else◌, List, [], ◌∷◌, ◌++◌, length, get_or, set, take, drop, map, Option, None, Some, refl, sym, ◌∙◌, ap, ap₂, subst, arith, append-nil, append_assoc}
-use Rattle.std.specs.Prelude.{All, slice_range}
+-- What is written of cells that stand as they are written is the same by another separator, where it does not stand in them; so what waits of a row is put with the separator changed.
+use Rattle.std.proofs.Common.{◌≡◌, ℕ, zero, suc, ◌+◌, ◌-◌, ◌<◌, ◌≤◌, Bool, true, false, ◌&&◌, ◌||◌, ◌==◌, cond, if◌then◌else◌, List, [], ◌∷◌, ◌++◌, length, get_or, set, take, take-add, drop, map, Option, None, Some, refl, sym, ◌∙◌, ap, ap₂, subst, arith, append-nil, append_assoc}
+use Rattle.std.specs.Prelude.{All, slice_index, slice_range}
 use Rattle.std.specs.List.{AllByRecursion, join_with_byte, list_any}
 use Rattle.std.proofs.lemmas.Bool.Decides.{nat_tests}
-use Rattle.std.proofs.lemmas.List.{drop_all, drop-drop, drop-set-lt, get_or-drop, length-drop, map-append, take_more, take_more_set, take_rest}
-use Rattle.std.proofs.Math.Seq.{drop-append_seam, take-append_seam}
-use Rattle.memchr.specs.Find.{IsFirstByte, Nowhere, Passes, is_byte2}
+use Rattle.std.proofs.lemmas.List.{drop_all, drop-drop, drop-set-lt, get_or-drop, length-drop, map-append, take_more, take_more_set, take_rest, length-take-le, length-map}
+use Rattle.std.proofs.Math.Seq.{drop-append_seam, take-append_seam, take-append-add}
+use Rattle.memchr.specs.Find.{IsFirstByte, Nowhere, Passes, is_byte}
 use Rattle.pl_frame.specs.declared.data_type.DataType.{DataType}
 use Rattle.pl_frame.specs.Frame.{Scalar, Truth, Number, Letters}
 use Rattle.pl_frame.specs.Schema.{Entry}
@@ -16,22 +16,24 @@ use Rattle.pl_cells.specs.Cells.{cell}
 use Rattle.pl_cells.specs.NullValues.{means_null}
 use Rattle.pl_round_trip.specs.RoundTrip.{RowsReturn}
 use Rattle.pl_round_trip.specs.Fits.{FitsOptions, FitsCell}
-use Rattle.pl_round_trip.proofs.FieldLaws.{lacks, lacks-both, lacks-first, lacks-none, lacks-plain, neither, number_type, truth_type, same_byte}
+use Rattle.pl_round_trip.proofs.FieldLaws.{same_byte, lacks, lacks-both, lacks-first, lacks-none, lacks-plain, neither, number_type, truth_type}
 use Rattle.pl_round_trip.proofs.PlainLaws.{printed-plain}
 use Rattle.pl_round_trip.proofs.WrittenLaws.{readable}
 use Rattle.pl_verbatim.specs.declared.form.Form.{Form}
 use Rattle.pl_verbatim.specs.declared.kinds.Kind.{Kind}
 use Rattle.pl_verbatim.specs.declared.verbatim.Verbatim.{Verbatim}
 use Rattle.pl_verbatim.specs.CellTexts.{as_read, IsCellOf, IsChangeOf}
-use Rattle.pl_verbatim.specs.Changes.{null_test_of, AreChangesOf, IsFormOf, IsLineChangeOf, IsLineChangeOfKinds}
+use Rattle.pl_verbatim.specs.Changes.{null_test_of, AreChangesOf, IsCellPut, IsChangeOfKind, IsFormOf, IsLineChangeOf, IsLineChangeOfKinds, IsRowPut}
 use Rattle.pl_verbatim.specs.Kinds.{AreReadable, AreKindsOf, is_passed}
 use Rattle.pl_verbatim.specs.Swaps.{swapped, IsSwap}
 use Rattle.pl_verbatim.specs.Verbatim.{AreCellsOf, AreRowsCopied, IsLineOf}
-use Rattle.pl_verbatim.proofs.CellLaws.{no-written_null}
+use Rattle.pl_verbatim.proofs.CellLaws.{IsCellOfKind, no-written_null}
 use Rattle.pl_verbatim.proofs.ChangeLaws.{read-options}
 use Rattle.pl_verbatim.proofs.CopyLaws.{bare-written, cell-read, cell-field, value-written}
-use Rattle.pl_verbatim.proofs.FrontLaws.{copied-none, changed-more}
-use Rattle.pl_verbatim.proofs.NumberLaws.{slice-parts}
+use Rattle.pl_verbatim.proofs.FrontLaws.{changed-more, copied-none}
+use Rattle.pl_verbatim.proofs.FrontKeptLaws.{front-kept, put-behind}
+use Rattle.pl_verbatim.proofs.NumberLaws.{slice-cons, slice-parts}
+use Rattle.pl_verbatim.proofs.RowChangeLaws.{ArePutBefore, and-false, cell-column, put-column, put-none, put-row}
 use Rattle.pl_verbatim.proofs.RowLaws.{IsLineOfKinds, nothing}
 use Rattle.pl_verbatim.proofs.SameLaws.{alike-style}
 
@@ -52,16 +54,13 @@ other-bare s other q (x ∷ xs) none lack =
 needs-none : (s q : ℕ) (text : List ℕ) → (length text == 0) ≡ false → list_any (is_special s q) text ≡ false → needs_quotes s q text ≡ false
 needs-none s q text some none = rw (some, none) refl
 
--- what is written of a text, where neither the quote nor the other separator stands in it: the same, and the first separator does not stand in it
-text-same : (s : ℕ) (o : WriteOptions) (field text : List ℕ) → o.style ≡ 0 → lacks o.quote field ≡ true → lacks o.separator field ≡ true → field ≡ written_text (as_read s o) text
+-- what is written of a text that doesn't stand between quotes, where the other separator does not stand in it: the same, and the first separator does not stand in it
+text-same : (s : ℕ) (o : WriteOptions) (field text : List ℕ) → o.style ≡ 0 → ((rest : List ℕ) → field ≡ o.quote ∷ rest → ⊥) → lacks o.separator field ≡ true → field ≡ written_text (as_read s o) text
     → (field ≡ written_text o text) × (lacks s field ≡ true)
-text-same s o field text style quotes other is = by (needs_quotes s o.quote text) refl is
+text-same s o field text style opens other is = by (needs_quotes s o.quote text) refl is
   where
     by : (t : Bool) → needs_quotes s o.quote text ≡ t → field ≡ (if t then quoted o.quote text else text) → (field ≡ written_text o text) × (lacks s field ≡ true)
-    by true needs e =
-        let first = lacks-first o.quote o.quote (doubled o.quote text ++ o.quote ∷ []) (subst (λ l. lacks o.quote l ≡ true) e quotes) in
-        let no = first.0 in
-        let yes = same_byte o.quote in absurd (cc)
+    by true needs e = absurd (opens (doubled o.quote text ++ o.quote ∷ []) e)
     by false needs e =
         let parts = neither (length text == 0) (list_any (is_special s o.quote) text) needs in
         let bare = other-bare s o.separator o.quote text parts.1 (subst (λ l. lacks o.separator l ≡ true) e other) in
@@ -69,17 +68,49 @@ text-same s o field text style quotes other is = by (needs_quotes s o.quote text
 
 -- and so of a cell
 cell-same : (s : ℕ) (o : WriteOptions) (type : DataType) (value : Option Scalar) (field : List ℕ) → FitsOptions (as_read s o) → is_readable type ≡ true → FitsCell (as_read s o) type value → o.style ≡ 0
-    → written_null o ≡ [] → lacks o.quote field ≡ true → lacks o.separator field ≡ true → field ≡ written_cell (as_read s o) type value → (field ≡ written_cell o type value) × (lacks s field ≡ true)
-cell-same s o type None field fits can held style null quotes other is = (is ∙ sym null, subst (λ l. lacks s l ≡ true) (sym is) (lacks-none s))
-cell-same s o type (Some (Letters text)) field fits can held style null quotes other is = text-same s o field text style quotes other is
-cell-same s o type (Some (Number n)) field fits can held style null quotes other is =
+    → written_null o ≡ [] → ((rest : List ℕ) → field ≡ o.quote ∷ rest → ⊥) → lacks o.separator field ≡ true → field ≡ written_cell (as_read s o) type value → (field ≡ written_cell o type value) × (lacks s field ≡ true)
+cell-same s o type None field fits can held style null opens other is = (is ∙ sym null, subst (λ l. lacks s l ≡ true) (sym is) (lacks-none s))
+cell-same s o type (Some (Letters text)) field fits can held style null opens other is = text-same s o field text style opens other is
+cell-same s o type (Some (Number n)) field fits can held style null opens other is =
     let read = readable (as_read s o) type (Number n) can held in
     let lack = lacks-plain s (printed type (Number n)) fits.separator (printed-plain type (Number n) (number_type type n read) read).1 in
     (is ∙ sym (value-written o (is_numeric type) (printed type (Number n)) style), subst (λ l. lacks s l ≡ true) (sym is) lack)
-cell-same s o type (Some (Truth b)) field fits can held style null quotes other is =
+cell-same s o type (Some (Truth b)) field fits can held style null opens other is =
     let read = readable (as_read s o) type (Truth b) can held in
     let lack = lacks-plain s (printed type (Truth b)) fits.separator (printed-plain type (Truth b) (truth_type type b read) read).1 in
     (is ∙ sym (value-written o (is_numeric type) (printed type (Truth b)) style), subst (λ l. lacks s l ≡ true) (sym is) lack)
+
+-- what does not stand in a text is not changed in it
+swapped-none : (s t : ℕ) (text : List ℕ) → lacks s text ≡ true → swapped s t text ≡ text
+swapped-none s t [] h = refl
+swapped-none s t (x ∷ text) h =
+    let first = lacks-first s x text h in
+    ap₂ (λ y l. y ∷ l) (ap (λ b. if b then t else x) first.0) (swapped-none s t text first.1)
+
+swapped-append : (s t : ℕ) (xs ys : List ℕ) → swapped s t (xs ++ ys) ≡ swapped s t xs ++ swapped s t ys
+swapped-append s t xs ys = map-append (λ x. if x == s then t else x) xs ys
+
+-- so what is written of a field of a kind is the field, and the swap changes nothing in it
+cell-swapped : (s quote : ℕ) (form : Form) (own : Kind) (field : List ℕ) → IsSwap form → ((rest : List ℕ) → field ≡ quote ∷ rest → ⊥) → lacks form.separator field ≡ true → IsCellOfKind s quote own field
+    → IsChangeOfKind s quote form (null_test_of form) own field (swapped s form.separator field)
+cell-swapped s quote form own field swap opens other cells o type fits is can holds =
+    let r = as_read s o in
+    let options = read-options s quote form o is in
+    let here : IsCellOf r type field = cells r type options holds in
+    let same = cell-same s o type here.value field fits can here.fits (alike-style o form.separator quote form is swap.alike) (sym is.null_is ∙ swap.null_is) (λ rest e. opens rest (e ∙ ap (λ q. q ∷ rest) is.quote_is))
+    (subst (λ t. lacks t field ≡ true) (sym is.separator_is) other) here.text_is in
+    record {
+      value = here.value;
+      cell_is = λ reading missing.
+          ap (λ n. cell reading (means_null n 0) (Some o.quote) type field) swap.nulls_are
+          ∙ cell-read r type field fits (no-written_null r s quote options) can here reading missing;
+      field_text = cell-field r type field fits can here;
+      written_is = swapped-none s form.separator field same.1 ∙ same.0;
+    }
+
+-- what a byte does not stand in doesn't begin with it
+lacks-opens : (c : ℕ) (field : List ℕ) → lacks c field ≡ true → (rest : List ℕ) → field ≡ c ∷ rest → ⊥
+lacks-opens c field lack rest is = let first = lacks-first c c rest (subst (λ l. lacks c l ≡ true) is lack) in let no = first.0 in let yes = same_byte c in absurd (cc)
 
 -- each of these texts lacks a byte
 abbrev AllLack : ℕ → List (List ℕ) → Type 0
@@ -93,7 +124,7 @@ fields-same s quote form o (entry ∷ schema) [] swap is fits can cells quotes o
 fields-same s quote form o (entry ∷ schema) (field ∷ fields) swap is fits can cells quotes others =
     let r = as_read s o in
     let here : IsCellOf r entry.1 field = cells.0 in
-    let same = cell-same s o entry.1 here.value field fits can.0 here.fits (alike-style o form.separator quote form is swap.alike) (sym is.null_is ∙ swap.null_is) quotes.0 others.0 here.text_is in
+    let same = cell-same s o entry.1 here.value field fits can.0 here.fits (alike-style o form.separator quote form is swap.alike) (sym is.null_is ∙ swap.null_is) (lacks-opens o.quote field quotes.0) others.0 here.text_is in
     let rest = fields-same s quote form o schema fields swap is fits can.1 cells.1 quotes.1 others.1 in
     let change : IsChangeOf r o (null_test_of form) entry.1 field field =
     record {
@@ -123,16 +154,6 @@ each-lacks c s (field ∷ next ∷ fields) tail h =
     let rest = join_with_byte s (next ∷ fields) in
     let parts = lacks-append c field ((s ∷ rest) ++ tail) (subst (λ l. lacks c l ≡ true) (append_assoc field (s ∷ rest) tail) h) in
     (parts.0, each-lacks c s (next ∷ fields) tail (lacks-first c s (rest ++ tail) parts.1).1)
-
--- what does not stand in a text is not changed in it
-swapped-none : (s t : ℕ) (text : List ℕ) → lacks s text ≡ true → swapped s t text ≡ text
-swapped-none s t [] h = refl
-swapped-none s t (x ∷ text) h =
-    let first = lacks-first s x text h in
-    ap₂ (λ y l. y ∷ l) (ap (λ b. if b then t else x) first.0) (swapped-none s t text first.1)
-
-swapped-append : (s t : ℕ) (xs ys : List ℕ) → swapped s t (xs ++ ys) ≡ swapped s t xs ++ swapped s t ys
-swapped-append s t xs ys = map-append (λ x. if x == s then t else x) xs ys
 
 -- fields that lack a separator, which stands between them
 swapped-join : (s t : ℕ) (fields : List (List ℕ)) → AllLack s fields → swapped s t (join_with_byte s fields) ≡ join_with_byte t fields
@@ -190,38 +211,41 @@ off : (t : Bool) → (t ≡ true → ⊥) → t ≡ false
 off true never = absurd (never refl)
 off false never = refl
 
-lacks-front : (a b : ℕ) (xs : List ℕ) (n : ℕ) → ((k : ℕ) → k < n → is_byte2 a b (get_or xs k 0) ≡ false) → (lacks a (take n xs) ≡ true) × (lacks b (take n xs) ≡ true)
-lacks-front a b xs zero none = (lacks-none a, lacks-none b)
-lacks-front a b [] (suc n) none = (lacks-none a, lacks-none b)
-lacks-front a b (x ∷ xs) (suc n) none =
-    let here = neither (x == a) (x == b) (none 0 (omega arith)) in
-    let rest = lacks-front a b xs n (λ k below. none (suc k) (omega (arith, below))) in
-    (lacks-both a x (take n xs) here.0 rest.0, lacks-both b x (take n xs) here.1 rest.1)
+lacks-front : (b : ℕ) (xs : List ℕ) (n : ℕ) → ((k : ℕ) → k < n → is_byte b (get_or xs k 0) ≡ false) → lacks b (take n xs) ≡ true
+lacks-front b xs zero none = lacks-none b
+lacks-front b [] (suc n) none = lacks-none b
+lacks-front b (x ∷ xs) (suc n) none = lacks-both b x (take n xs) (none 0 (omega arith)) (lacks-front b xs n (λ k below. none (suc k) (omega (arith, below))))
 
-lacks-slice : (a b : ℕ) (text : List ℕ) (from to start end : ℕ) → Nowhere (Passes (is_byte2 a b) text) from to → from ≤ start → end ≤ to
-    → (lacks a (slice_range text start end) ≡ true) × (lacks b (slice_range text start end) ≡ true)
-lacks-slice a b text from to start end none low high =
-    lacks-front a b (drop start text) (end - start) (λ k below.
-    ap (is_byte2 a b) (get_or-drop start text k 0) ∙ off (is_byte2 a b (get_or text (start + k) 0)) (none (start + k) (omega (arith, low)) (omega (arith, below, high))))
+pub lacks-slice : (b : ℕ) (text : List ℕ) (from to end : ℕ) → Nowhere (Passes (is_byte b) text) from to → end ≤ to → lacks b (slice_range text from end) ≡ true
+lacks-slice b text from to end none high =
+    lacks-front b (drop from text) (end - from) (λ k below. ap (is_byte b) (get_or-drop from text k 0) ∙ off (is_byte b (get_or text (from + k) 0)) (none (from + k) (omega arith) (omega (arith, below, high))))
 
--- up to the first of two bytes behind a place
-nowhere-behind : (a b : ℕ) (text : List ℕ) (from count : ℕ) → Nowhere (Passes (is_byte2 a b) (drop from text)) 0 count → Nowhere (Passes (is_byte2 a b) text) from (from + count)
-nowhere-behind a b text from count none k low high is =
+-- up to the first such byte behind a place
+nowhere-behind : (b : ℕ) (text : List ℕ) (from count : ℕ) → Nowhere (Passes (is_byte b) (drop from text)) 0 count → Nowhere (Passes (is_byte b) text) from (from + count)
+nowhere-behind b text from count none k low high is =
     let place : from + (k - from) ≡ k = omega (arith, low) in
-    none (k - from) (omega arith) (omega (arith, low, high)) (ap (is_byte2 a b) (get_or-drop from text (k - from) 0 ∙ ap (λ n. get_or text n 0) place) ∙ is)
+    none (k - from) (omega arith) (omega (arith, low, high)) (ap (is_byte b) (get_or-drop from text (k - from) 0 ∙ ap (λ n. get_or text n 0) place) ∙ is)
 
-pub first-behind : (a b : ℕ) (text : List ℕ) (from : ℕ) (found : Option ℕ) (count : ℕ) → IsFirstByte (is_byte2 a b) (slice_range text from (length text)) found → found ≡ Some count
-    → Nowhere (Passes (is_byte2 a b) text) from (from + count)
-first-behind a b text from found count given is =
-    let first : IsFirstByte (is_byte2 a b) (slice_range text from (length text)) (Some count) = subst (IsFirstByte (is_byte2 a b) (slice_range text from (length text))) is given in
-    nowhere-behind a b text from count (subst (λ l. Nowhere (Passes (is_byte2 a b) l) 0 count) (take_rest text from) first.0.before)
+pub first-behind : (b : ℕ) (text : List ℕ) (from : ℕ) (found : Option ℕ) (count : ℕ) → IsFirstByte (is_byte b) (slice_range text from (length text)) found → found ≡ Some count
+    → Nowhere (Passes (is_byte b) text) from (from + count)
+first-behind b text from found count given is =
+    let first : IsFirstByte (is_byte b) (slice_range text from (length text)) (Some count) = subst (IsFirstByte (is_byte b) (slice_range text from (length text))) is given in
+    nowhere-behind b text from count (subst (λ l. Nowhere (Passes (is_byte b) l) 0 count) (take_rest text from) first.0.before)
 
-pub none-behind : (a b : ℕ) (text : List ℕ) (from : ℕ) (found : Option ℕ) → from ≤ length text → IsFirstByte (is_byte2 a b) (slice_range text from (length text)) found → found ≡ None
-    → Nowhere (Passes (is_byte2 a b) text) from (length text)
-none-behind a b text from found inside given is =
+pub none-behind : (b : ℕ) (text : List ℕ) (from : ℕ) (found : Option ℕ) → from ≤ length text → IsFirstByte (is_byte b) (slice_range text from (length text)) found → found ≡ None
+    → Nowhere (Passes (is_byte b) text) from (length text)
+none-behind b text from found inside given is =
     let place : from + length (drop from text) ≡ length text = omega (arith, inside, length-drop from text) in
-    let none : IsFirstByte (is_byte2 a b) (slice_range text from (length text)) None = subst (IsFirstByte (is_byte2 a b) (slice_range text from (length text))) is given in
-    subst (Nowhere (Passes (is_byte2 a b) text) from) place (nowhere-behind a b text from (length (drop from text)) (subst (λ l. Nowhere (Passes (is_byte2 a b) l) 0 (length l)) (take_rest text from) none))
+    let none : IsFirstByte (is_byte b) (slice_range text from (length text)) None = subst (IsFirstByte (is_byte b) (slice_range text from (length text))) is given in
+    subst (Nowhere (Passes (is_byte b) text) from) place (nowhere-behind b text from (length (drop from text)) (subst (λ l. Nowhere (Passes (is_byte b) l) 0 (length l)) (take_rest text from) none))
+
+-- what stands at a place that has another byte doesn't begin with this one
+pub not-opened : (text : List ℕ) (at end byte : ℕ) → at < length text → (get_or text at 0 ≡ byte → ⊥) → (rest : List ℕ) → slice_range text at end ≡ byte ∷ rest → ⊥
+not-opened text at end byte inside other rest is = by (end - at) refl is
+  where
+    by : (n : ℕ) → end - at ≡ n → take n (drop at text) ≡ byte ∷ rest → ⊥
+    by zero e same = absurd (omega (arith, ap length same))
+    by (suc n) e same = other (sym (ap (λ l. get_or l 0 0) (slice-cons text at end inside (omega (arith, e)))) ∙ ap (λ l. get_or l 0 0) is)
 
 -- ---- rows
 
@@ -233,25 +257,20 @@ swap-none verbatim other text from inside =
 
 -- one more
 pub swap-more : (verbatim : Verbatim) (form : Form) (text : List ℕ) (from to end next rows : ℕ) (kinds : List Kind) → RowsReturn → verbatim.reads_all ≡ true → verbatim.form ≡ Some form → kinds ≡ verbatim.kinds.items → 0 < length kinds
-    → IsSwap form → Nowhere (Passes (is_byte2 verbatim.quote_char form.separator) text) from to → end < next → next ≤ length text → next ≤ to
+    → IsSwap form → Nowhere (Passes (is_byte verbatim.quote_char) text) from to → Nowhere (Passes (is_byte form.separator) text) from to → end < next → next ≤ length text → next ≤ to
     → IsLineOfKinds verbatim.separator verbatim.quote_char kinds (slice_range text end next)
     → AreRowsCopied verbatim text from end rows [] (swapped verbatim.separator form.separator (slice_range text from end))
     → AreRowsCopied verbatim text from next (rows + 1) [] (swapped verbatim.separator form.separator (slice_range text from next))
-swap-more verbatim form text from to end next rows kinds returns whole has same some swap none after within before line copied =
+swap-more verbatim form text from to end next rows kinds returns whole has same some swap quotes others after within before line copied =
     let s = verbatim.separator in
     let row = slice_range text end next in
-    let lack = lacks-slice verbatim.quote_char form.separator text from to end next none copied.after before in
+    let lack : (c : ℕ) → Nowhere (Passes (is_byte c) text) from to → lacks c row ≡ true = λ c none. lacks-slice c text end to next (λ k low high. none k (omega (arith, low, copied.after)) high) before in
     changed-more verbatim form text from end next rows kinds [] (swapped s form.separator (slice_range text from end)) (swapped s form.separator (slice_range text from next)) copied returns has same some after within
     (record {
       copy = swapped s form.separator row;
       now_is = ap (swapped s form.separator) (slice-parts text from end next copied.after (omega (arith, after))) ∙ swapped-append s form.separator (slice_range text from end) row;
-      line = swap-line s verbatim.quote_char form kinds row (subst (All (λ own. is_passed own ≡ false)) (sym same) (verbatim.whole whole)) swap lack.0 lack.1 line;
+      line = swap-line s verbatim.quote_char form kinds row (subst (All (λ own. is_passed own ≡ false)) (sym same) (verbatim.whole whole)) swap (lack verbatim.quote_char quotes) (lack form.separator others) line;
     })
-
--- where memory is wanting lines stay
-pub unchanged : (t : Bool) (before now copy : List ℕ) → t ≡ false → now ≡ cond t (before ++ copy) before → before ≡ now
-unchanged true before now copy wants is = absurd (cc)
-unchanged false before now copy wants is = sym is
 
 -- they are appended to lines
 pub swap-behind : (verbatim : Verbatim) (text : List ℕ) (from end rows : ℕ) (copy before now : List ℕ) → AreRowsCopied verbatim text from end rows [] copy → now ≡ before ++ copy
@@ -263,6 +282,123 @@ swap-behind verbatim text from end rows copy before now copied is = record {
   within = copied.within;
   printed = copied.printed;
 }
+
+-- a cell that is written as it stands waits
+pub cell-waits : (text : List ℕ) (from at end next : ℕ) (own : Kind) (mark s quote : ℕ) (form : Form) (front : List ℕ) → IsSwap form → from ≤ at → at ≤ end → end < length text → slice_index text end ≡ mark → next ≡ end + 1
+    → ((rest : List ℕ) → slice_range text at end ≡ quote ∷ rest → ⊥) → lacks form.separator (slice_range text at end) ≡ true → IsCellOfKind s quote own (slice_range text at end)
+    → IsCellPut text at next own mark s quote form (front ++ swapped s form.separator (slice_range text from at)) (front ++ swapped s form.separator (slice_range text from (next - 1)))
+cell-waits text from at end next own mark s quote form front swap low after within is behind opens other cells =
+    let t = form.separator in
+    let place : next - 1 ≡ end = omega (arith, behind) in
+    record {
+      end = end;
+      next_is = behind;
+      after = after;
+      within = within;
+      mark_is = is;
+      written = swapped s t (slice_range text at end);
+      now_is =
+          ap (λ n. front ++ swapped s t (slice_range text from n)) place
+          ∙ ap (λ l. front ++ l) (ap (swapped s t) (slice-parts text from at end low after) ∙ swapped-append s t (slice_range text from at) (slice_range text at end))
+          ∙ sym (append_assoc front (swapped s t (slice_range text from at)) (swapped s t (slice_range text at end)));
+      cell = cell-swapped s quote form own (slice_range text at end) swap opens other cells;
+    }
+
+-- behind one that was put nothing waits
+pub cell-put : (text : List ℕ) (at end next : ℕ) (own : Kind) (mark s quote : ℕ) (form : Form) (before now : List ℕ) → next ≡ end + 1 → IsCellPut text at (end + 1) own mark s quote form before now
+    → IsCellPut text at next own mark s quote form before (now ++ swapped s form.separator (slice_range text end (next - 1)))
+cell-put text at end next own mark s quote form before now behind put =
+    let place : next - 1 ≡ end = omega (arith, behind) in
+    record {
+      end = put.end;
+      next_is = behind ∙ put.next_is;
+      after = put.after;
+      within = put.within;
+      mark_is = put.mark_is;
+      written = put.written;
+      now_is = ap (λ n. now ++ swapped s form.separator (slice_range text end n)) place ∙ ap (λ l. now ++ swapped s form.separator l) (nothing text end) ∙ append-nil now ∙ put.now_is;
+      cell = put.cell;
+    }
+
+-- the fields of the first kinds of a row are put, or wait; so does a separator behind them
+pub record AreSwappedBefore (text : List ℕ) (start : ℕ) (kinds : List Kind) (s quote : ℕ) (form : Form) (index from at : ℕ) (before front : List ℕ) : Type 0 where
+  pub seen : ℕ
+  pub is_first : Bool
+  pub joined_is : front ++ swapped s form.separator (slice_range text from at) ≡ (front ++ swapped s form.separator (slice_range text from seen)) ++ (if is_first then [] else form.separator ∷ [])
+  pub row : ArePutBefore text start kinds s quote form index at is_first before (front ++ swapped s form.separator (slice_range text from seen))
+
+-- none
+pub swapped-first : (text : List ℕ) (start : ℕ) (kinds : List Kind) (s quote : ℕ) (form : Form) (from : ℕ) (front : List ℕ) → start ≤ length text
+    → AreSwappedBefore text start kinds s quote form 0 from start (front ++ swapped s form.separator (slice_range text from start)) front
+swapped-first text start kinds s quote form from front inside = record {
+  seen = start;
+  is_first = true;
+  joined_is = sym (append-nil (front ++ swapped s form.separator (slice_range text from start)));
+  row = put-none text start kinds s quote form (front ++ swapped s form.separator (slice_range text from start)) inside;
+}
+
+-- a mark is the last of what waits
+mark-behind : (text : List ℕ) (from next s t : ℕ) (front : List ℕ) → from < next → next ≤ length text
+    → front ++ swapped s t (slice_range text from next) ≡ (front ++ swapped s t (slice_range text from (next - 1))) ++ (if get_or text (next - 1) 0 == s then t else get_or text (next - 1) 0) ∷ []
+mark-behind text from next s t front some within =
+    let end = next - 1 in
+    let low : from ≤ end = omega (arith, some) in
+    let last : slice_range text end next ≡ get_or text end 0 ∷ [] =
+    slice-cons text end next (omega (arith, some, within)) (omega (arith, some)) ∙ ap (λ l. get_or text end 0 ∷ l) (ap (λ n. slice_range text n next) (omega (arith, some)) ∙ nothing text next) in
+    ap (λ l. front ++ l) (ap (swapped s t) (slice-parts text from end next low (omega arith)) ∙ swapped-append s t (slice_range text from end) (slice_range text end next))
+    ∙ ap (λ l. front ++ (swapped s t (slice_range text from end) ++ swapped s t l)) last
+    ∙ sym (append_assoc front (swapped s t (slice_range text from end)) ((if get_or text end 0 == s then t else get_or text end 0) ∷ []))
+
+-- one more
+pub swapped-column : (text : List ℕ) (start : ℕ) (kinds : List Kind) (s quote : ℕ) (form : Form) (index from at from_now next : ℕ) (any : Kind) (before front front_now : List ℕ) → All (λ own. is_passed own ≡ false) kinds
+    → AreSwappedBefore text start kinds s quote form index from at before front → index + 1 < length kinds → from_now < next
+    → IsCellPut text at next (get_or kinds index any) s s quote form (front ++ swapped s form.separator (slice_range text from at)) (front_now ++ swapped s form.separator (slice_range text from_now (next - 1)))
+    → AreSwappedBefore text start kinds s quote form (index + 1) from_now next before front_now
+swapped-column text start kinds s quote form index from at from_now next any before front front_now whole row few some put =
+    let t = form.separator in
+    let own = get_or kinds index any in
+    let read : is_passed own ≡ false = whole index any (omega arith) in
+    let place : next - 1 ≡ put.end = omega (arith, put.next_is) in
+    let mark : get_or text (next - 1) 0 ≡ s = ap (λ n. get_or text n 0) place ∙ put.mark_is in
+    let same : (get_or text (next - 1) 0 == s) ≡ true = grind (arith, nat_tests, mark) in
+    record {
+      seen = next - 1;
+      is_first = row.is_first && is_passed own;
+      joined_is =
+          mark-behind text from_now next s t front_now some (omega (arith, put.next_is, put.within))
+          ∙ ap₂ (λ b f. (front_now ++ swapped s t (slice_range text from_now (next - 1))) ++ (if f then [] else (if b then t else get_or text (next - 1) 0) ∷ [])) same (sym (and-false row.is_first) ∙ ap (λ b. row.is_first && b) (sym read));
+      row =
+          put-column text start kinds s quote form index at next row.is_first any before (front ++ swapped s t (slice_range text from row.seen)) (front_now ++ swapped s t (slice_range text from_now (next - 1))) row.row few
+          (cell-column text at next own s s quote form row.is_first (front ++ swapped s t (slice_range text from row.seen)) (front ++ swapped s t (slice_range text from at)) (front_now ++ swapped s t (slice_range text from_now (next - 1))) read row.joined_is put);
+    }
+
+-- the last, and the line feed behind it
+pub swapped-row : (text : List ℕ) (start : ℕ) (kinds : List Kind) (s quote : ℕ) (form : Form) (index from at from_now next : ℕ) (any : Kind) (before front front_now : List ℕ) → All (λ own. is_passed own ≡ false) kinds
+    → IsSwap form → (s ≡ 10 → ⊥) → AreSwappedBefore text start kinds s quote form index from at before front → index ≡ length kinds - 1 → 0 < length kinds → from_now < next
+    → IsCellPut text at next (get_or kinds (length kinds - 1) any) 10 s quote form (front ++ swapped s form.separator (slice_range text from at)) (front_now ++ swapped s form.separator (slice_range text from_now (next - 1)))
+    → IsRowPut text start kinds s quote form before (front_now ++ swapped s form.separator (slice_range text from_now next)) next
+swapped-row text start kinds s quote form index from at from_now next any before front front_now whole swap apart row last_is filled some put =
+    let t = form.separator in
+    let own = get_or kinds (length kinds - 1) any in
+    let read : is_passed own ≡ false = whole (length kinds - 1) any (omega (arith, filled)) in
+    let place : next - 1 ≡ put.end = omega (arith, put.next_is) in
+    let mark : get_or text (next - 1) 0 ≡ 10 = ap (λ n. get_or text n 0) place ∙ put.mark_is in
+    let other : (get_or text (next - 1) 0 == s) ≡ false = grind (arith, nat_tests, mark, apart) in
+    put-row text start kinds s quote form index at next row.is_first any before (front ++ swapped s t (slice_range text from row.seen)) (front_now ++ swapped s t (slice_range text from_now (next - 1)))
+    (front_now ++ swapped s t (slice_range text from_now next)) row.row last_is filled
+    (cell-column text at next own 10 s quote form row.is_first (front ++ swapped s t (slice_range text from row.seen)) (front ++ swapped s t (slice_range text from at)) (front_now ++ swapped s t (slice_range text from_now (next - 1))) read row.joined_is put)
+    (mark-behind text from_now next s t front_now some (omega (arith, put.next_is, put.within))
+    ∙ ap₂ (λ b x. (front_now ++ swapped s t (slice_range text from_now (next - 1))) ++ (if b then t else x) ∷ []) other mark
+    ∙ ap (λ l. (front_now ++ swapped s t (slice_range text from_now (next - 1))) ++ l) (sym swap.alike.terminator_is))
+
+-- where nothing waits lines stay
+pub swapped-nothing : (s t : ℕ) (text : List ℕ) (at : ℕ) (lines : List ℕ) → lines ++ swapped s t (slice_range text at at) ≡ lines
+swapped-nothing s t text at lines = ap (λ l. lines ++ swapped s t l) (nothing text at) ∙ append-nil lines
+
+-- where memory is wanting lines stay
+pub unchanged : (t : Bool) (before now copy : List ℕ) → t ≡ false → now ≡ cond t (before ++ copy) before → before ≡ now
+unchanged true before now copy wants is = absurd (cc)
+unchanged false before now copy wants is = sym is
 
 -- ---- bytes
 
@@ -299,3 +435,23 @@ swap-lines s t m before copy lines changed is long swap =
     let none : drop (length lines - m) (drop m lines) ≡ [] = drop_all (length lines - m) (drop m lines) (omega (arith, length-drop m lines)) in
     let now : changed ≡ swapped s t copy = swap ∙ ap (swapped s t) (take_rest lines m ∙ back) in
     ap₂ (λ a b. a ++ b) front (ap₂ (λ a b. a ++ b) now none ∙ append-nil (swapped s t copy))
+
+-- so is what was put into a block
+pub swap-front : (s t place end : ℕ) (old out bytes read : List ℕ) → place ≤ length old → end ≤ length out → take end out ≡ take place old ++ read → bytes ≡ swapped s t (take (end - place) (drop place out))
+    → take end (take place out ++ (bytes ++ drop (end - place) (drop place out))) ≡ take place old ++ swapped s t read
+swap-front s t place end old out bytes read low high is swap =
+    let after = put-behind place end old out read low high is in
+    let kept = front-kept place end old out read low high is in
+    let part = take (end - place) (drop place out) in
+    let rest = drop (end - place) (drop place out) in
+    let front : length (take place out) ≡ place = length-take-le place out (omega (arith, after, high)) in
+    let sum : place + (end - place) ≡ end = omega (arith, after) in
+    let cut : take end out ≡ take place out ++ part = ap (λ n. take n out) (sym sum) ∙ take-add place (end - place) out in
+    let own : part ≡ read =
+    sym (drop-append_seam (take place out) part) ∙ ap (drop (length (take place out))) (sym cut ∙ is ∙ ap (λ l. l ++ read) (sym kept)) ∙ drop-append_seam (take place out) read in
+    let long : length bytes ≡ end - place =
+    ap length swap ∙ length-map part (λ x. if x == s then t else x) ∙ length-take-le (end - place) (drop place out) (omega (arith, high, length-drop place out)) in
+    ap (λ n. take n (take place out ++ (bytes ++ rest))) (sym sum ∙ ap (λ n. n + (end - place)) (sym front))
+    ∙ take-append-add (take place out) (bytes ++ rest) (end - place)
+    ∙ ap (λ l. take place out ++ l) (ap (λ n. take n (bytes ++ rest)) (sym long) ∙ take-append_seam bytes rest)
+    ∙ ap₂ (λ a b. a ++ b) kept (swap ∙ ap (swapped s t) own)

@@ -15,11 +15,11 @@ use crate::passed::pass_field;
 use pl_write::puts::{put_byte, put_byte_if, put_bytes};
 
 // What is written of a cell needs no more room beside its text: two quotes, a point and zeros, a mark, and what a copy of fixed size puts behind it.
-const ROOM: usize = 64;
+pub(crate) const ROOM: usize = 64;
 
 // Puts what stands from one place to another. A short text goes there with what stands behind it.
 #[inline(always)]
-fn put_part(text: &[u8], from: usize, to: usize, out: &mut [u8], place: usize) -> usize
+pub(crate) fn put_part(text: &[u8], from: usize, to: usize, out: &mut [u8], place: usize) -> usize
     requires ordered { from ≤ to }
     requires inside { to ≤ length text.now }
     requires room { place + (to - from) + 32 ≤ length out.old }
@@ -96,7 +96,7 @@ fn put_text(text: &[u8], out: &mut [u8], place: usize) -> Option<usize>
 // Puts what is written of the cell at a place that is not empty, where there is room and no text means null, and answers the end of its field, and the
 // place behind what was put. `CALLER` is that of `cell_end`.
 #[inline(always)]
-fn put_value<const CALLER: usize>(
+pub(crate) fn put_value<const CALLER: usize>(
     text: &[u8],
     at: usize,
     kind: Kind,
@@ -245,10 +245,9 @@ fn put_read<const CALLER: usize>(
     )
 }
 
-/// Puts what is written of the row at a place, where there is room, and answers the place behind its own line, and the place behind what was put.
-/// None also where no such row is found; what stands in front stays.
-#[inline]
-pub(crate) fn put_row(
+// What `put_row` does. With `READS_ALL` no column is asked whether it is read. `CELL` and `LAST` are callers of `put_read`.
+#[inline(always)]
+fn put_row_of<const READS_ALL: bool, const CELL: usize, const LAST: usize>(
     text: &[u8],
     start: usize,
     kinds: &[Kind],
@@ -265,6 +264,7 @@ pub(crate) fn put_row(
     requires place { from ≤ length out.old }
     requires alike { are_alike form.now.nulls ≡ true }
     requires begin { AreStartsOf form.now.nulls form.now.starts }
+    requires whole { READS_ALL ≡ true → All (λ kind. is_passed kind ≡ false) kinds.now }
     ensures some { IfSome result (λ put. 0 < length kinds.now) }
     ensures after { IfSome result (λ put. start < put.0) }
     ensures within { IfSome result (λ put. put.0 ≤ length text.now) }
@@ -282,11 +282,11 @@ pub(crate) fn put_row(
     let mut is_first = true;
     for index in 0..last {
         let kind = kinds[index];
-        if kind.is_passed() {
+        if !READS_ALL && kind.is_passed() {
             at = pass_field(text, at, separator, separator, quote, marks)?;
             continue;
         }
-        let (next, end) = put_read::<5>(
+        let (next, end) = put_read::<CELL>(
             text, at, kind, separator, separator, quote, form, marks, out, place, is_first,
         )?;
         at = next;
@@ -294,14 +294,51 @@ pub(crate) fn put_row(
         is_first = false;
     }
     let kind = kinds[last];
-    if kind.is_passed() {
+    if !READS_ALL && kind.is_passed() {
         let next = pass_field(text, at, b'\n', separator, quote, marks)?;
         let behind = put_text(&form.terminator, out, place)?;
         return Some((next, behind));
     }
-    let (next, end) = put_read::<6>(
+    let (next, end) = put_read::<LAST>(
         text, at, kind, b'\n', separator, quote, form, marks, out, place, is_first,
     )?;
     let behind = put_text(&form.terminator, out, end)?;
     Some((next, behind))
+}
+
+/// Puts what is written of the row at a place, where there is room, and answers the place behind its own line, and the place behind what was put.
+/// None also where no such row is found; what stands in front stays. Where all columns are read, it has a loop of its own, which is faster.
+#[inline(always)]
+pub(crate) fn put_row(
+    text: &[u8],
+    start: usize,
+    kinds: &[Kind],
+    separator: u8,
+    quote: u8,
+    form: &Form,
+    marks: &mut Marks,
+    out: &mut [u8],
+    from: usize,
+    reads_all: bool,
+) -> Option<(usize, usize)>
+    requires inside { start ≤ length text.now }
+    requires sound { All (λ kind. is_sound_kind kind ≡ true) kinds.now }
+    requires ascii { quote < 128 }
+    requires place { from ≤ length out.old }
+    requires alike { are_alike form.now.nulls ≡ true }
+    requires begin { AreStartsOf form.now.nulls form.now.starts }
+    requires whole { reads_all ≡ true → All (λ kind. is_passed kind ≡ false) kinds.now }
+    ensures some { IfSome result (λ put. 0 < length kinds.now) }
+    ensures after { IfSome result (λ put. start < put.0) }
+    ensures within { IfSome result (λ put. put.0 ≤ length text.now) }
+    ensures room { IfSome result (λ put. put.1 ≤ length out.new) }
+    ensures long { length out.new ≡ length out.old }
+    ensures kept { take from out.new ≡ take from out.old }
+    ensures put { IfSome result (λ put. IsRowPut text.now start kinds.now separator quote form.now (take from out.old) (take put.1 out.new) put.0) }
+{
+    if reads_all {
+        put_row_of::<true, 5, 6>(text, start, kinds, separator, quote, form, marks, out, from)
+    } else {
+        put_row_of::<false, 20, 21>(text, start, kinds, separator, quote, form, marks, out, from)
+    }
 }

@@ -21,6 +21,7 @@ use crate::form::Form;
 use crate::kinds::{Kind, kind_of};
 use crate::marks::Marks;
 use crate::rows::{copy_row, row_end, same_row_end};
+use crate::swapped::{has_few_quotes, is_swap};
 use crate::verbatim::{Verbatim, VerbatimFront};
 use pl_cells::null_values::NullValuesCompiled;
 use pl_frame::schema::Schema;
@@ -30,9 +31,9 @@ use pl_write::options::{QuoteStyle, SerializeOptions};
 use std::alloc::{AllocError, Global};
 
 // What is written of rows is put together in so many bytes, and is appended when it has so many.
-const BLOCK: usize = 1 << 16;
+pub(crate) const BLOCK: usize = 1 << 16;
 
-const FULL: usize = 1 << 15;
+pub(crate) const FULL: usize = 1 << 15;
 
 // Whether these places are all of so many, in order.
 fn are_all(places: &[usize], width: usize) -> bool
@@ -274,8 +275,7 @@ impl Verbatim {
         VerbatimFront { end, rows }
     }
 
-    // What `copy` does of rows that are written by a form: the first, as far as they stand as they are written but for the separator, in one go,
-    // and the others cell by cell.
+    // What `copy` does of rows that are written by a form.
     fn change(&self, text: &[u8], from: usize, form: &Form, lines: &mut Vec<u8>) -> VerbatimFront
         requires inside { from ≤ length text.now }
         requires form { self.now.form ≡ Some form.now }
@@ -283,11 +283,17 @@ impl Verbatim {
     {
         rows_return();
         let _ = lines.reserve(text.len() - from);
-        let mut kept = self.swap_rows(text, from, form, lines);
+        if self.reads_all
+            && is_swap(form, self.separator)
+            && has_few_quotes(text, from, self.quote_char, self.kinds.len())
+        {
+            return self.swap_rows(text, from, form, lines);
+        }
+        let mut kept = VerbatimFront { end: from, rows: 0 };
         let mut block = [0u8; BLOCK];
         let mut place = 0;
-        let mut end = kept.end;
-        let mut rows = kept.rows;
+        let mut end = from;
+        let mut rows = 0;
         let mut marks = Marks::later(end);
         while end < text.len() {
             match put_row(
@@ -300,6 +306,7 @@ impl Verbatim {
                 &mut marks,
                 &mut block,
                 place,
+                self.reads_all,
             ) {
                 Some((next, behind)) => {
                     end = next;

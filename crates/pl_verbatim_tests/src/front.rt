@@ -390,3 +390,31 @@ fn rows_are_copied_with_another_separator_up_to_a_quote_or_that_separator(rt: Ho
     let dtype = DataType::Datetime(TimeUnit::Milliseconds);
     assert!(rt; is_swapped(&rt, alloc, &dtype, rows, copy));
 }
+
+#[test]
+fn cells_that_stand_as_they_are_written_wait_for_one_that_does_not(rt: HostRuntime) {
+    let alloc = rt.alloc();
+    let mut text = Vec::new(alloc);
+    let mut copy = Vec::new(alloc);
+    let rows = [
+        ("a text,another\n", "a text;another\n"),
+        (",\n", ";\n"),
+        ("\"quoted, one\",b\n", "quoted, one;b\n"),
+        ("c,\"with \"\"quotes\"\"\"\n", "c;\"with \"\"quotes\"\"\"\n"),
+        ("d;e,f\n", "\"d;e\";f\n"),
+    ];
+    for index in 0..6000 {
+        // (those that need more than a copy come one by one, and then none for as many as fill the block)
+        let count = if index < 2000 || index > 5000 { 5 } else { 2 };
+        let (read, written) = rows[index % count];
+        text.extend_from_slice(read.as_bytes())
+            .expect(&rt, "memory");
+        copy.extend_from_slice(written.as_bytes())
+            .expect(&rt, "memory");
+    }
+    let test = styled_test_of(&rt, alloc, &DataType::String, b';', QuoteStyle::Necessary);
+    let mut lines = Vec::new(alloc);
+    let copied = test.copy(&text, 0, &mut lines);
+    assert!(&rt; copied.end == text.len() && copied.rows == 6000);
+    assert!(rt; lines == copy);
+}

@@ -1,20 +1,11 @@
 -- What is put of a cell is what is written of it.
-use Rattle.std.proofs.Common.{◌≡◌, ℕ, ◌+◌, ◌<◌, ◌≤◌, List, ◌++◌, length, take, Option, None, Some, ap, sym, subst, ◌∙◌, arith}
-use Rattle.std.specs.Prelude.{IfSome, IfNone}
-use Rattle.pl_verbatim.specs.declared.form.Form.{Form}
-use Rattle.pl_verbatim.specs.declared.kinds.Kind.{Kind}
-use Rattle.pl_verbatim.specs.Changes.{IsChangeOfKind, IsCellPut, null_test_of}
+use Rattle.std.proofs.Common.{◌++◌, take, ap, sym, subst, ◌∙◌, arith}
+use Rattle.pl_verbatim.specs.Changes.{IsChangeOfKind, null_test_of}
 use Rattle.pl_verbatim.proofs.ChangeLaws.{missing-change}
-use Rattle.pl_verbatim.proofs.FrontKeptLaws.{front-kept}
+use Rattle.pl_verbatim.proofs.RowChangeLaws.{stays}
 use Rattle.pl_verbatim.proofs.RowLaws.{nothing}
 use Rattle.pl_verbatim.proofs.changes.put_cell.Goals as goal
 use Rattle.pl_verbatim.proofs.changes.put_cell.Goals.{then-form-text, else-form-text}
-
--- what stands in front stays, whether something is put or not
-stays : (put : Option (ℕ × ℕ)) (text : List ℕ) (at : ℕ) (kind : Kind) (mark separator quote : ℕ) (form : Form) (place : ℕ) (old now : List ℕ) → place ≤ length old
-    → IfSome put (λ p. IsCellPut text at (p.0 + 1) kind mark separator quote form (take place old) (take p.1 now)) → IfSome put (λ p. p.1 < length now) → IfNone put (now ≡ old) → take place now ≡ take place old
-stays None text at kind mark separator quote form place old now low is within same = ap (take place) same
-stays (Some p) text at kind mark separator quote form place old now low is within same = front-kept place p.1 old now is.written low (omega (arith, within)) is.now_is
 
 pub returns-then-text-at-clause-put : goal.returns-then-text-at-clause-put
 returns-then-text-at-clause-put g c = record {

@@ -1,4 +1,4 @@
-use Rattle.std.proofs.Common.{◌+◌, arith}
+use Rattle.std.proofs.Common.{arith}
 use Rattle.pl_verbatim.proofs.PassedLaws.{IsAny}
 use Rattle.pl_verbatim.proofs.TextInnerLaws.{IsNextQuote, part_read, quote_read, text_read}
 use Rattle.pl_verbatim.proofs.passed.any_quoted_end.Goals as goal

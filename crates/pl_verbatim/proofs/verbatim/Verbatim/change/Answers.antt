@@ -2,19 +2,19 @@
 use Rattle.std.proofs.Common.{◌+◌, ◌++◌, take, sym, subst, append-nil, arith}
 use Rattle.std.specs.Result.{is_ok}
 use Rattle.pl_verbatim.specs.Verbatim.{AreRowsCopied}
-use Rattle.pl_verbatim.proofs.FrontLaws.{changed-more, row-behind}
+use Rattle.pl_verbatim.proofs.FrontLaws.{changed-more, copied-none, row-behind}
 use Rattle.pl_verbatim.proofs.RowCopyLaws.{added}
 use Rattle.pl_verbatim.proofs.verbatim.Verbatim.change.Goals as goal
 
 pub loop-end-init : goal.loop-end-init
 loop-end-init c =
-    let kept = c.swap_rows-kept.result in
-    let lines = c.swap_rows-kept.new.lines.items in
-    let first = subst (λ before. AreRowsCopied c.args.self.now c.args.text.now c.args.from kept.end kept.rows before lines) c.reserve.ensures.items c.swap_rows-kept.ensures.copied in
+    let lines = c.reserve.new.self.items in
+    let first =
+    subst (λ before. AreRowsCopied c.args.self.now c.args.text.now c.args.from c.args.from 0 before lines) c.reserve.ensures.items (copied-none c.args.self.now c.args.text.now c.args.from lines c.requires.inside) in
     record {
-      few = c.swap_rows-kept.ensures.few;
+      few = omega arith;
       room = omega arith;
-      copied = subst (AreRowsCopied c.args.self.now c.args.text.now c.args.from kept.end kept.rows c.args.lines.now.items) (sym (append-nil lines)) first;
+      copied = subst (AreRowsCopied c.args.self.now c.args.text.now c.args.from c.args.from 0 c.args.lines.now.items) (sym (append-nil lines)) first;
       kept = first;
     }
 

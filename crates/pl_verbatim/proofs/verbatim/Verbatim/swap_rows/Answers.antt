@@ -1,46 +1,77 @@
--- The rows that were found are copied, with the other separator.
-use Rattle.std.proofs.Common.{◌≡◌, ◌-◌, ◌==◌, ◌++◌, if◌then◌else◌, length, take, drop, rules, ap, ◌∙◌, subst, arith, length-append}
+-- Each row is one more of those that were copied.
+use Rattle.std.proofs.Common.{◌+◌, ◌<◌, ◌++◌, take, refl, sym, subst, arith}
 use Rattle.std.specs.Prelude.{slice_range}
-use Rattle.std.proofs.lemmas.List.{length-map}
-use Rattle.std.specs.Result.{is_ok}
-use Rattle.pl_rows.proofs.FrameLaws.{written_back}
+use Rattle.memchr.specs.Find.{Nowhere, Passes, is_byte}
 use Rattle.pl_verbatim.specs.Swaps.{swapped}
 use Rattle.pl_verbatim.specs.Verbatim.{AreRowsCopied}
-use Rattle.pl_verbatim.proofs.FrontLaws.{copied-none}
-use Rattle.pl_verbatim.proofs.RowCopyLaws.{added}
-use Rattle.pl_verbatim.proofs.SwapLaws.{unchanged, swap-lines, swap-behind}
+use Rattle.pl_verbatim.proofs.FrontLaws.{changed-more, copied-none, row-behind}
+use Rattle.pl_verbatim.proofs.SwapLaws.{swap-behind, swapped-nothing}
 use Rattle.pl_verbatim.proofs.verbatim.Verbatim.swap_rows.Goals as goal
+use Rattle.pl_verbatim.proofs.verbatim.Verbatim.swap_rows.Goals.{then-other-now, else-other-now}
 
-pub returns-then-not-self-clause-copied : goal.returns-then-not-self-clause-copied
-returns-then-not-self-clause-copied c = copied-none c.args.self.now c.args.text.now c.args.from c.args.lines.now.items c.requires.inside
-
-pub returns-then-not-is_swap-clause-copied : goal.returns-then-not-is_swap-clause-copied
-returns-then-not-is_swap-clause-copied c = copied-none c.args.self.now c.args.text.now c.args.from c.args.lines.now.items c.requires.inside
-
-pub returns-then-is_none-clause-copied : goal.returns-then-is_none-clause-copied
-returns-then-is_none-clause-copied c = copied-none c.args.self.now c.args.text.now c.args.from c.args.lines.now.items c.requires.inside
-
-pub returns-then-is_err-clause-copied : goal.returns-then-is_err-clause-copied
-returns-then-is_err-clause-copied c =
-    subst (AreRowsCopied c.args.self.now c.args.text.now c.args.from c.args.from 0 c.args.lines.now.items)
-    (unchanged (is_ok c.extend_from_slice.result) c.args.lines.now.items c.extend_from_slice.new.self.items _ (search rules) c.extend_from_slice.ensures.items)
+pub returns-then-not-append_waiting : goal.returns-then-not-append_waiting
+returns-then-not-append_waiting c =
+    subst (AreRowsCopied c.args.self.now c.args.text.now c.args.from c.args.from 0 c.args.lines.now.items) (sym (c.if-not-append_waiting.ensures.same refl))
     (copied-none c.args.self.now c.args.text.now c.args.from c.args.lines.now.items c.requires.inside)
 
-pub returns-clause-copied : goal.returns-clause-copied
-returns-clause-copied c =
-    let separator = c.args.self.now.separator in
-    let other = c.args.form.now.separator in
+pub loop-now-init : goal.loop-now-init
+loop-now-init c =
     let before = c.args.lines.now.items in
-    let found = c.swapped_rows-found.result in
-    let read = slice_range c.args.text.now c.args.from found.end in
-    let grown = c.extend_from_slice.new.self in
-    let lines = c.deref_mut.result.now in
-    let m = c.len-len.result in
-    let now = take m lines ++ (c.swap.new.bytes ++ drop (length lines - m) (drop m lines)) in
-    let is : lines ≡ before ++ read =
-    c.deref_mut.ensures.value ∙ added (is_ok c.extend_from_slice.result) before grown.items read c.if-is_err.ensures.negation c.extend_from_slice.ensures.items in
-    let whole : now ≡ before ++ swapped separator other read = swap-lines separator other m before read lines c.swap.new.bytes is (omega (arith, c.len-len.ensures)) c.swap.ensures in
-    let long : length now ≡ length grown.items =
-    omega (arith, ap length whole, ap length is, length-append before read, length-append before (swapped separator other read), length-map read (λ x. if x == separator then other else x), c.deref_mut.ensures.len, grown.ok) in
-    let back : take grown.len (now ++ drop (length now) grown.items) ≡ now = written_back grown.items now grown.len (omega (arith, grown.ok, c.deref_mut.ensures.len)) long in
-    swap-behind c.args.self.now c.args.text.now c.args.from found.end found.rows (swapped separator other read) before _ c.swapped_rows-found.ensures.copied (back ∙ whole)
+    let first = c.swapped_rows-first in
+    let lines = c.append_waiting.new.lines.items in
+    let copied =
+    swap-behind c.args.self.now c.args.text.now c.args.from first.result.end first.result.rows (swapped c.args.self.now.separator c.args.form.now.separator (slice_range c.args.text.now c.args.from first.result.end)) before lines
+    first.ensures.copied c.if-not-append_waiting.ensures.appended in
+    record {
+      few = first.ensures.few;
+      ordered = omega arith;
+      room = omega arith;
+      none = λ k low high. c.first_of-other.ensures.none k (omega (arith, low, first.ensures.copied.after)) high;
+      copied = subst (AreRowsCopied c.args.self.now c.args.text.now c.args.from first.result.end first.result.rows before) (sym (swapped-nothing c.args.self.now.separator c.args.form.now.separator c.args.text.now first.result.end lines)) copied;
+      kept = copied;
+    }
+
+pub loop-now-preserved-then-now-ge-FULL : goal.loop-now-preserved-then-now-ge-FULL
+loop-now-preserved-then-now-ge-FULL c =
+    let lines = c.loop-now.lines.items in
+    let next = c.in-Some.next in
+    let more = c.append_waiting-then-now-ge-FULL.new.lines.items in
+    let none : Nowhere (Passes (is_byte c.args.form.now.separator) c.args.text.now) next.at c.if-other-now.other = elim c.if-other-now.branch [
+      | then-other-now w ↦ λ k low high. w.first_of-other-then-other-now.ensures.none k (omega (arith, low, c.in-Some.ensures.after)) (subst (λ n. k < n) w.other-is high)
+      | else-other-now w ↦ λ k low high. c.loop-now.invariant.none k (omega (arith, low, c.in-Some.ensures.after)) (subst (λ n. k < n) w.other-is high)
+    ] in
+    let copied =
+    changed-more c.args.self.now c.args.form.now c.args.text.now c.args.from c.loop-now.now.at next.at c.loop-now.rows c.deref.result.now c.args.lines.now.items _
+    (lines ++ (take next.place c.swap_row.new.out ++ swapped c.args.self.now.separator c.args.form.now.separator (slice_range c.args.text.now next.from next.at))) c.loop-now.invariant.copied c.rows_return.ensures
+    c.requires.form c.deref.ensures.value c.in-Some.ensures.some c.in-Some.ensures.after c.in-Some.ensures.within
+    (row-behind c.args.text.now c.loop-now.now.at c.deref.result.now c.args.self.now.separator c.args.self.now.quote_char c.args.form.now lines _ _ next.at c.in-Some.ensures.put) in
+    let kept = subst (AreRowsCopied c.args.self.now c.args.text.now c.args.from next.at (c.loop-now.rows + 1) c.args.lines.now.items) (sym c.if-not-append_waiting-2.ensures.appended) copied in
+    record {
+      few = omega (arith, c.loop-now.invariant.few, c.in-Some.ensures.after);
+      ordered = omega arith;
+      room = omega arith;
+      none = none;
+      copied = subst (AreRowsCopied c.args.self.now c.args.text.now c.args.from next.at (c.loop-now.rows + 1) c.args.lines.now.items) (sym (swapped-nothing c.args.self.now.separator c.args.form.now.separator c.args.text.now next.at more)) kept;
+      kept = kept;
+    }
+
+pub loop-now-preserved : goal.loop-now-preserved
+loop-now-preserved c =
+    let lines = c.loop-now.lines.items in
+    let next = c.in-Some.next in
+    let none : Nowhere (Passes (is_byte c.args.form.now.separator) c.args.text.now) next.at c.if-other-now.other = elim c.if-other-now.branch [
+      | then-other-now w ↦ λ k low high. w.first_of-other-then-other-now.ensures.none k (omega (arith, low, c.in-Some.ensures.after)) (subst (λ n. k < n) w.other-is high)
+      | else-other-now w ↦ λ k low high. c.loop-now.invariant.none k (omega (arith, low, c.in-Some.ensures.after)) (subst (λ n. k < n) w.other-is high)
+    ] in
+    record {
+      few = omega (arith, c.loop-now.invariant.few, c.in-Some.ensures.after);
+      ordered = c.in-Some.ensures.ordered;
+      room = c.in-Some.ensures.room;
+      none = none;
+      copied =
+          changed-more c.args.self.now c.args.form.now c.args.text.now c.args.from c.loop-now.now.at next.at c.loop-now.rows c.deref.result.now c.args.lines.now.items _
+          (lines ++ (take next.place c.swap_row.new.out ++ swapped c.args.self.now.separator c.args.form.now.separator (slice_range c.args.text.now next.from next.at))) c.loop-now.invariant.copied c.rows_return.ensures
+          c.requires.form c.deref.ensures.value c.in-Some.ensures.some c.in-Some.ensures.after c.in-Some.ensures.within
+          (row-behind c.args.text.now c.loop-now.now.at c.deref.result.now c.args.self.now.separator c.args.self.now.quote_char c.args.form.now lines _ _ next.at c.in-Some.ensures.put);
+      kept = c.loop-now.invariant.kept;
+    }

@@ -16,5 +16,5 @@ loop-end-preserved c = record {
   before = omega arith;
   copied =
       swap-more c.args.self.now c.args.form.now c.args.text.now c.args.from c.args.to c.loop-end.end c.in-Some.next c.loop-end.rows c.deref.result.now c.rows_return.ensures c.requires.whole c.requires.form c.deref.ensures.value c.in-Some.ensures.some
-      c.requires.swap c.requires.none c.in-Some.ensures.after c.in-Some.ensures.within (omega arith) c.in-Some.ensures.line c.loop-end.invariant.copied;
+      c.requires.swap c.requires.quotes c.requires.others c.in-Some.ensures.after c.in-Some.ensures.within (omega arith) c.in-Some.ensures.line c.loop-end.invariant.copied;
 }

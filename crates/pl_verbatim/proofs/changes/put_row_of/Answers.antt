@@ -5,10 +5,11 @@ use Rattle.pl_verbatim.specs.declared.kinds.Kind.TheVariants as kind
 use Rattle.pl_verbatim.proofs.FrontKeptLaws.{front-shorter, front-kept, put-behind}
 use Rattle.pl_verbatim.proofs.RowChangeLaws.{ArePutBefore, and-true, and-false, passed-put, put-none, put-column, put-row}
 use Rattle.pl_verbatim.specs.Kinds.{is_passed}
-use Rattle.pl_verbatim.proofs.changes.put_row.Goals as goal
+use Rattle.pl_verbatim.proofs.changes.put_row_of.Goals as goal
+use Rattle.pl_verbatim.proofs.changes.put_row_of.Goals.{else-not-this-via-then-not-this+else-is_passed, else-not-this-via-else-not-this}
 
 pub loop-index-init : goal.loop-index-init
-loop-index-init c = record {
+loop-index-init g c = record {
   after = omega arith;
   room = omega (arith, c.if-from-out.false);
   long = refl;
@@ -17,7 +18,7 @@ loop-index-init c = record {
 }
 
 pub loop-index-preserved-then-is_passed : goal.loop-index-preserved-then-is_passed
-loop-index-preserved-then-is_passed c =
+loop-index-preserved-then-is_passed g c =
     let row = c.loop-index in
     let passed : is_passed (get_or c.args.kinds.now row.index kind.Text) ≡ true = sym c.is_passed.ensures ∙ c.if-is_passed.true in
     record {
@@ -34,13 +35,17 @@ loop-index-preserved-then-is_passed c =
     }
 
 pub loop-index-preserved : goal.loop-index-preserved
-loop-index-preserved c =
+loop-index-preserved g c =
     let row = c.loop-index in
     let one = c.in_ok-next.ensures in
     let end = c.in_ok-next.end in
     let out = c.put_read.new.out in
     let behind : row.place ≤ end = put-behind row.place end row.out out one.put.part (omega (arith, row.invariant.room)) (omega (arith, one.within)) one.put.now_is in
-    let read : is_passed (get_or c.args.kinds.now row.index kind.Text) ≡ false = sym c.is_passed.ensures ∙ c.if-is_passed.false in
+    let read : is_passed (get_or c.args.kinds.now row.index kind.Text) ≡ false =
+    elim c.else-not-this.branch [
+      | else-not-this-via-then-not-this+else-is_passed w ↦ sym w.is_passed.ensures ∙ w.if-is_passed.false
+      | else-not-this-via-else-not-this w ↦ c.requires.whole (grind (arith, nat_tests, w.if-not-this.false)) row.index kind.Text (omega arith)
+    ] in
     record {
       after = omega (arith, row.invariant.after, behind);
       room = one.within;
@@ -54,17 +59,17 @@ loop-index-preserved c =
     }
 
 pub returns-in_err-next-3-clause-kept : goal.returns-in_err-next-3-clause-kept
-returns-in_err-next-3-clause-kept c =
+returns-in_err-next-3-clause-kept g c =
     front-shorter c.args.from c.loop-index.place c.put_read-2.new.out c.loop-index.out c.loop-index.invariant.after c.in_err-next-3.ensures.kept ∙ c.loop-index.invariant.kept
 
 pub returns-in_err-behind-2-clause-kept : goal.returns-in_err-behind-2-clause-kept
-returns-in_err-behind-2-clause-kept c =
+returns-in_err-behind-2-clause-kept g c =
     ap (take c.args.from) c.in_err-behind-2.ensures.unchanged
     ∙ front-shorter c.args.from c.loop-index.place c.put_read-2.new.out c.loop-index.out c.loop-index.invariant.after c.in_ok-next-3.ensures.kept
     ∙ c.loop-index.invariant.kept
 
 pub returns-clause-kept : goal.returns-clause-kept
-returns-clause-kept c =
+returns-clause-kept g c =
     let row = c.loop-index in
     let one = c.in_ok-next-3.ensures in
     let end = c.in_ok-next-3.end in
@@ -77,7 +82,7 @@ returns-clause-kept c =
     ∙ row.invariant.kept
 
 pub returns-clause-put : goal.returns-clause-put
-returns-clause-put c =
+returns-clause-put g c =
     let row = c.loop-index in
     let some : 0 < length c.args.kinds.now = grind (arith, nat_tests, c.if-is_empty.ensures) in
     put-row c.args.text.now c.args.start c.args.kinds.now c.args.separator c.args.quote c.args.form.now row.index row.at c.in_ok-next-3.next row.is_first kind.Text (take c.args.from c.args.out.now) (take row.place row.out)
@@ -85,10 +90,10 @@ returns-clause-put c =
     (c.in_ok-behind-2.ensures.text ∙ ap (λ l. take c.in_ok-next-3.end c.put_read-2.new.out ++ l) c.deref-2.ensures.value)
 
 pub returns-in_err-behind-clause-kept : goal.returns-in_err-behind-clause-kept
-returns-in_err-behind-clause-kept c = ap (take c.args.from) c.in_err-behind.ensures.unchanged ∙ c.loop-index.invariant.kept
+returns-in_err-behind-clause-kept g c = ap (take c.args.from) c.in_err-behind.ensures.unchanged ∙ c.loop-index.invariant.kept
 
 pub returns-then-is_passed-2-clause-kept : goal.returns-then-is_passed-2-clause-kept
-returns-then-is_passed-2-clause-kept c =
+returns-then-is_passed-2-clause-kept g c =
     let row = c.loop-index in
     let low : row.place ≤ length row.out = omega (arith, row.invariant.room) in
     front-shorter c.args.from row.place c.put_text.new.out row.out row.invariant.after
@@ -96,10 +101,10 @@ returns-then-is_passed-2-clause-kept c =
     ∙ row.invariant.kept
 
 pub returns-then-is_passed-2-clause-put : goal.returns-then-is_passed-2-clause-put
-returns-then-is_passed-2-clause-put c =
+returns-then-is_passed-2-clause-put g c =
     let row = c.loop-index in
     let some : 0 < length c.args.kinds.now = grind (arith, nat_tests, c.if-is_empty.ensures) in
-    let passed : is_passed (get_or c.args.kinds.now (length c.args.kinds.now - 1) kind.Text) ≡ true = sym c.is_passed-2.ensures ∙ c.if-is_passed-2.true in
+    let passed : is_passed (get_or c.args.kinds.now (length c.args.kinds.now - 1) kind.Text) ≡ true = sym c.is_passed-then-not-this-2.ensures ∙ c.if-is_passed-2.true in
     put-row c.args.text.now c.args.start c.args.kinds.now c.args.separator c.args.quote c.args.form.now row.index row.at c.in_ok-next-2.next row.is_first kind.Text (take c.args.from c.args.out.now) (take row.place row.out)
     (take row.place row.out) (take c.in_ok-behind.behind c.put_text.new.out) row.invariant.row (omega arith) some
     (passed-put c.args.text.now row.at c.in_ok-next-2.next (get_or c.args.kinds.now (length c.args.kinds.now - 1) kind.Text) 10 c.args.separator c.args.quote c.args.form.now row.is_first (take row.place row.out) passed

@@ -1,10 +1,10 @@
 -- What is put of the fields of the row so far was put.
 use Rattle.std.proofs.Common.{◌≡◌, ◌<◌, ◌≤◌, length, take}
 use Rattle.pl_verbatim.proofs.RowChangeLaws.{ArePutBefore}
-use Rattle.pl_verbatim.proofs.changes.put_row.Given as goal
+use Rattle.pl_verbatim.proofs.changes.put_row_of.Given as goal
 
 abbrev pub invariant-loop-index : goal.invariant-loop-index
-invariant-loop-index l = record {
+invariant-loop-index g l = record {
   after : l.from ≤ l.place;
   room : l.place < length l.out;
   long : length l.out ≡ length l.fn.out;

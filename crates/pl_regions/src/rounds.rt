@@ -27,13 +27,17 @@ use std::sync::{Mutex, OnceLock, Wait};
 use std::thread::Threads;
 
 // A round has about so many bytes, whose memory is used again in the next one,
-const ROUND: usize = 10 << 20;
+const ROUND: usize = 8 << 20;
 
 // and no fewer texts than this,
 const FEWEST: usize = 32;
 
 // nor more than this.
 const MOST: usize = 80;
+
+// A text of a round has no more bytes than this, as long as that is no small part of what was read before: the last texts of a round keep each worker
+// busy for as long as one takes.
+const TEXT: usize = 1 << 17;
 
 // So many rounds there are at most; what comes behind them is read as a whole.
 const ROUNDS: usize = 1 << 20;
@@ -133,7 +137,7 @@ fn print_rounds<W: Threads + Wait + Sync, So: Source>(
         if intake.is_ended() {
             return Ok(kept);
         }
-        let size = piece_size.max(kept.end / PART);
+        let size = piece_size.min(TEXT).max(kept.end / PART);
         if !print_round(
             rt, alloc, workers, &mut kept, &rooms, intake, source, limit, schema, plan, options,
             verbatim, size, most,

@@ -4,4 +4,5 @@ mod CutLaws
 mod PlainLaws
 mod LineLaws
 mod NumberedLaws
+mod FollowedLaws
 mod RowLaws

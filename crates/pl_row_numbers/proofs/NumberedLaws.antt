@@ -1,13 +1,12 @@
 -- A text that is numbered part by part.
-use Rattle.std.proofs.Common.{◌≡◌, ℕ, ◌+◌, ◌<◌, ◌≤◌, Bool, true, false, not, ◌==◌, cond, List, [], ◌∷◌, ◌++◌, length, take, drop, refl, sym, ◌∙◌, ap, subst, append_assoc, arith}
+use Rattle.std.proofs.Common.{◌≡◌, ℕ, ◌+◌, ◌<◌, Bool, false, not, ◌==◌, cond, List, [], ◌∷◌, ◌++◌, length, take, drop, refl, sym, ◌∙◌, ap, append_assoc, arith}
 use Rattle.std.proofs.Math.Seq.{take-add}
-use Rattle.std.proofs.lemmas.List.{take_all, take-append-drop, drop-drop}
+use Rattle.std.proofs.lemmas.List.{take-append-drop, drop-drop}
 use Rattle.pl_scan.specs.Bits.{xor}
 use Rattle.pl_row_numbers.specs.Numbered.{next_line, in_line, next_stand, stand_behind, front_at, numbered}
-use Rattle.pl_row_numbers.specs.Parts.{is_end, Goes, IsLast, IsPart}
+use Rattle.pl_row_numbers.specs.Parts.{is_end, Goes, IsLast}
 use Rattle.pl_row_numbers.specs.declared.fronts.FrontForm.{FrontForm}
 use Rattle.pl_row_numbers.specs.declared.numbering.Stand.{Stand}
-use Rattle.pl_row_numbers.specs.declared.parts.Part.{Part}
 use Rattle.pl_row_numbers.proofs.QuoteLaws.{Goes-first}
 
 -- a text and what stands behind it
@@ -22,7 +21,7 @@ stand_behind-append s [] ys = refl
 stand_behind-append s (x ∷ xs) ys = stand_behind-append (next_stand s x) xs ys
 
 -- behind a byte that ends no line
-next-in_line : (s : Stand) (x : ℕ) → is_end s.odd x ≡ false → next_stand s x ≡ in_line s (xor (x == 34) s.odd)
+pub next-in_line : (s : Stand) (x : ℕ) → is_end s.odd x ≡ false → next_stand s x ≡ in_line s (xor (x == 34) s.odd)
 next-in_line s x stays = ap (λ t. cond t (next_line s) (in_line s (xor (x == 34) s.odd))) stays
 
 -- in a line, where none ends
@@ -70,38 +69,6 @@ numbered-line form s text last = by last.body last.goes last.is
               ∙ ap (λ l. front_at form s ++ l) (sym is),
           ap (stand_behind s) is ∙ stand_behind-append s body (10 ∷ []) ∙ ap (λ t. stand_behind t (10 ∷ [])) front.1,
         )
-
--- where a text stands behind a part
-abbrev pub behind : Stand → Part → Stand
-behind s part = cond part.ended (next_line s) (in_line s part.odd)
-
--- a part at the front
-numbered-first : (form : FrontForm) (s : Stand) (text : List ℕ) (part : Part) → IsPart s.odd text part → 0 < part.len → part.len ≤ length text
-    → (numbered form s (take part.len text) ≡ front_at form s ++ take part.len text) × (stand_behind s (take part.len text) ≡ behind s part)
-numbered-first form s text part is some fits = by part.ended refl
-  where
-    by : (t : Bool) → part.ended ≡ t → (numbered form s (take part.len text) ≡ front_at form s ++ take part.len text) × (stand_behind s (take part.len text) ≡ behind s part)
-    by true e =
-        let line = numbered-line form s (take part.len text) (is.line e) in
-        (line.0, line.1 ∙ ap (λ t. cond t (next_line s) (in_line s part.odd)) (sym e))
-    by false e =
-        let rest = is.rest e in
-        let all : take part.len text ≡ text = take_all part.len text (omega (arith, rest.0)) in
-        let inside = numbered-part form s part.odd (take part.len text) (omega (arith, ap length all, rest.0, some)) (subst (λ l. Goes s.odd l part.odd) (sym all) rest.1) in
-        (inside.0, inside.1 ∙ ap (λ t. cond t (next_line s) (in_line s part.odd)) (sym e))
-
--- the lines so far, and a part more
-pub numbered-more : (form : FrontForm) (s now : Stand) (text : List ℕ) (part : Part) (from : ℕ) → from ≤ length text → IsPart now.odd (drop from text) part → 0 < part.len → part.len ≤ length (drop from text)
-    → stand_behind s (take from text) ≡ now
-    → (numbered form s (take (from + part.len) text) ≡ numbered form s (take from text) ++ (front_at form now ++ take part.len (drop from text))) × (stand_behind s (take (from + part.len) text) ≡ behind now part)
-numbered-more form s now text part from inside is some fits stands =
-    let more : take (from + part.len) text ≡ take from text ++ take part.len (drop from text) = take-add from part.len text in
-    let first = numbered-first form now (drop from text) part is some fits in
-    let front = take from text in
-    let piece = take part.len (drop from text) in (
-      ap (numbered form s) more ∙ numbered-append form s front piece ∙ ap (λ t. numbered form s front ++ numbered form t piece) stands ∙ ap (λ l. numbered form s front ++ l) first.0,
-      ap (stand_behind s) more ∙ stand_behind-append s front piece ∙ ap (λ t. stand_behind t piece) stands ∙ first.1,
-    )
 
 -- a part of a text that is numbered next
 pub numbered-cut : (form : FrontForm) (now : Stand) (text : List ℕ) (from count : ℕ)

@@ -26,7 +26,7 @@ and_both : (a b c : Bool) → (a && (b && c)) ≡ ((a && b) && c)
 and_both true b c = refl
 and_both false b c = refl
 
-odd_behind-append : (odd : Bool) (xs ys : List ℕ) → odd_behind odd (xs ++ ys) ≡ odd_behind (odd_behind odd xs) ys
+pub odd_behind-append : (odd : Bool) (xs ys : List ℕ) → odd_behind odd (xs ++ ys) ≡ odd_behind (odd_behind odd xs) ys
 odd_behind-append odd [] ys = refl
 odd_behind-append odd (x ∷ xs) ys = odd_behind-append (xor (x == 34) odd) xs ys
 

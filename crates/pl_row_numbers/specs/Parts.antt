@@ -1,7 +1,6 @@
 -- Parts of lines: how quotes and line feeds stand in a text.
-use Rattle.std.specs.Prelude.{◌≡◌, ℕ, Bool, true, false, not, ◌&&◌, ◌==◌, List, [], ◌∷◌, ◌++◌, length, take}
+use Rattle.std.specs.Prelude.{◌≡◌, ℕ, Bool, true, false, not, ◌&&◌, ◌==◌, List, [], ◌∷◌, ◌++◌}
 use Rattle.pl_scan.specs.Bits.{xor}
-use Rattle.pl_row_numbers.specs.declared.parts.Part.{Part}
 
 -- whether an odd number of quotes stands behind a text, given whether it does in front
 abbrev pub odd_behind : Bool → List ℕ → Bool
@@ -27,8 +26,3 @@ pub record IsLast (odd : Bool) (text : List ℕ) : Type 0 where
   pub body : List ℕ
   pub is : text ≡ body ++ 10 ∷ []
   pub goes : Goes odd body false
-
--- the part at the front of a text: up to the first end of a line, or all
-pub record IsPart (odd : Bool) (text : List ℕ) (part : Part) : Type 0 where
-  pub line : part.ended ≡ true → IsLast odd (take part.len text)
-  pub rest : part.ended ≡ false → (part.len ≡ length text) × Goes odd text part.odd

@@ -1,5 +1,5 @@
 //! What stands in front of a line: its number and a separator.
-ghost use Rattle.std.specs.Prelude.{◌≡◌, ◌++◌, ◌+◌, ◌%◌, ◌^◌, ◌≤◌, ◌==◌, ℕ, length, take};
+ghost use Rattle.std.specs.Prelude.{◌≡◌, ◌++◌, ◌+◌, ◌%◌, ◌^◌, ◌≤◌, ◌==◌, length, take};
 ghost use Rattle.pl_row_numbers.specs.Numbered.{IsFront, front_text};
 ghost use Rattle.pl_write.specs.Options.{style_number};
 
@@ -24,11 +24,14 @@ pub(crate) fn form_of(options: &SerializeOptions) -> FrontForm
     }
 }
 
-/// The front of a line: the first bytes of a text of fixed size, which is copied at once.
+/// The front of a line of this number: the first bytes of a text of fixed size, which is copied at once, but for the last digit, which is put
+/// behind.
 #[derive(Drop)]
 pub(crate) struct Front {
+    pub(crate) number: u64,
+    pub(crate) form: FrontForm,
     text: [u8; 32],
-    len: usize,
+    pub(crate) len: usize,
 }
 
 // Puts a number, as a cell, and a separator.
@@ -46,35 +49,44 @@ fn put_number(to: &mut [u8], at: usize, number: u64, form: FrontForm) -> usize
 
 /// The front of a line of this number.
 pub(crate) fn front_of(number: u64, form: FrontForm) -> Front
-    ensures { IsFront form number result }
+    ensures front { IsFront result }
+    ensures number { result.number ≡ number }
+    ensures form { result.form ≡ form }
 {
     let mut text = [0; 32];
     let len = put_number(&mut text, 0, number, form);
-    Front { text, len }
+    Front {
+        number,
+        form,
+        text,
+        len,
+    }
 }
 
 /// Makes the front of a line that of the next one. In nine of ten only the last digit changes.
 #[inline(always)]
-pub(crate) fn advance(front: &mut Front, number: u64, form: FrontForm)
-    requires { IsFront form number front.old }
-    ensures { IsFront form ((number + 1) % 2 ^ 64) front.new }
+pub(crate) fn advance(front: &mut Front)
+    requires { IsFront front.old }
+    ensures front { IsFront front.new }
+    ensures number { front.new.number ≡ (front.old.number + 1) % 2 ^ 64 }
+    ensures form { front.new.form ≡ front.old.form }
 {
-    if number % 10 == 9 || number == u64::MAX {
-        *front = front_of(number.wrapping_add(1), form);
-        return;
+    front.number = front.number.wrapping_add(1);
+    if front.number % 10 == 0 {
+        *front = front_of(front.number, front.form);
     }
-    let last = front.len - 2 - form.quoted as usize;
-    front.text[last] += 1;
 }
 
 /// Puts the front of a line.
 #[inline(always)]
 pub(crate) fn put_front(to: &mut [u8], at: usize, front: &Front) -> usize
     requires room { at + 32 ≤ length to.old }
-    requires front { (form : FrontForm) × (number : ℕ) × IsFront form number front.now }
-    ensures text { (form : FrontForm) (number : ℕ) → IsFront form number front.now → take result to.new ≡ take at to.old ++ front_text form number }
+    requires front { IsFront front.now }
+    ensures text { take result to.new ≡ take at to.old ++ front_text front.now.form front.now.number }
     ensures end { result ≤ at + 23 }
 {
     put_bytes(to, at, &front.text);
-    at + front.len
+    let end = at + front.len;
+    to[end - 2 - front.form.quoted as usize] = b'0' + (front.number % 10) as u8;
+    end
 }

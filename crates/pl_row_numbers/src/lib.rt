@@ -2,9 +2,9 @@
 #![tactic(auto)]
 
 mod fronts;
+mod line_ends;
 mod numbering;
 mod options;
-mod parts;
 mod writing;
 
 pub use options::can_number;

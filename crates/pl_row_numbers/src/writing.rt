@@ -23,8 +23,8 @@ use std::borrow::CowSlice;
 const PIECE: usize = 1 << 15;
 
 // They need no more room with their numbers: a byte and the number in front of it, 20 digits between quotes and a separator, and the bytes that
-// are copied with a short line.
-const ROOM: usize = 24 * PIECE + 64;
+// are copied with few.
+const ROOM: usize = 24 * PIECE + 96;
 
 // Appends a text to a sink, with a number in front of each line that begins in it, and answers where it stands then. Refuses what the sink
 // refuses; a prefix was then appended.

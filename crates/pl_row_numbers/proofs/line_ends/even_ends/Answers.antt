@@ -2,7 +2,7 @@ use Rattle.std.proofs.Common.{◌+◌, Bool, not, ◌&&◌, ap, sym, ◌∙◌, 
 use Rattle.pl_scan.specs.Bits.{test, odd_at}
 use Rattle.pl_scan.proofs.BitLaws.{test-and, flip, test-flip, top_bit}
 use Rattle.pl_row_numbers.proofs.CutLaws.{odd-same}
-use Rattle.pl_row_numbers.proofs.parts.even_ends.Goals as goal
+use Rattle.pl_row_numbers.proofs.line_ends.even_ends.Goals as goal
 
 pub returns-then-quotes-eq0-clause-ends : goal.returns-then-quotes-eq0-clause-ends
 returns-then-quotes-eq0-clause-ends c i h =

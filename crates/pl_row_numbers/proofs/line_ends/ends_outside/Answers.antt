@@ -2,7 +2,7 @@ use Rattle.std.proofs.Common.{◌≡◌, Bool, true, false, not, ◌&&◌, refl,
 use Rattle.pl_scan.specs.Bits.{test}
 use Rattle.pl_scan.proofs.BitLaws.{test-none}
 use Rattle.pl_row_numbers.proofs.QuoteLaws.{and_false}
-use Rattle.pl_row_numbers.proofs.parts.ends_outside.Goals as goal
+use Rattle.pl_row_numbers.proofs.line_ends.ends_outside.Goals as goal
 
 and_true : (t : Bool) → (t && true) ≡ t
 and_true true = refl

@@ -25,8 +25,11 @@ _UNITS = ("ms", "us", "ns")
 _EPOCH = datetime.datetime(1970, 1, 1)
 _FLOATS = ("exact", "float")
 
-# What numpy calls the numbers of a type, where they are no plain whole numbers.
-_WORDS = {"date": "<M8[D]", "time": "<m8[ns]"}
+# The numbers of a type as numpy has them, where they are no plain whole numbers.
+_NUMBERS = {"date": numpy.dtype("<M8[D]"), "time": numpy.dtype("<m8[ns]")}
+_INSTANTS = [numpy.dtype(f"<M8[{unit}]") for unit in _UNITS]
+
+_FLAG, _BYTE, _INT64, _UINT64 = (numpy.dtype(it) for it in ("|b1", "|u1", "<i8", "<u8"))
 
 
 class _Owner:
@@ -42,13 +45,34 @@ class _Owner:
 
 
 class _Held:
-    """An array in the library's memory, as numpy asks for it. The numpy array keeps this, and this the owner."""
+    """Memory of the library, as numpy asks for it. The numpy array keeps this, and this the owner."""
 
     __slots__ = ("owner", "__array_interface__")
 
-    def __init__(self, owner: _Owner, at: int, shape: tuple[int, ...], kind: str):
+    def __init__(self, owner: _Owner, at: int, count: int):
         self.owner = owner
-        self.__array_interface__ = {"version": 3, "typestr": kind, "shape": shape, "data": (at, True)}
+        self.__array_interface__ = {"version": 3, "typestr": "|u1", "shape": (count,), "data": (at, True)}
+
+
+class _Memory:
+    """The memory from the first array of a frame to the last. Arrays are cut out of it: to ask numpy for each takes five times as long.
+
+    What lies between them is not the frame's, and is not looked at.
+    """
+
+    __slots__ = ("owner", "_start", "_bytes")
+
+    def __init__(self, owner: _Owner, start: int, end: int):
+        self.owner, self._start = owner, start
+        self._bytes = memoryview(numpy.asarray(_Held(owner, start, end - start)))
+
+    def array(self, at: int, shape: tuple[int, ...], kind: numpy.dtype) -> numpy.ndarray:
+        """Returns the array of this shape at an address, which can't be written."""
+        if shape[0]:
+            return numpy.ndarray(shape, kind, self._bytes, at - self._start)
+        array = numpy.empty(shape, kind)
+        array.flags.writeable = False
+        return array
 
 
 class _View(NamedTuple):
@@ -85,23 +109,28 @@ class _View(NamedTuple):
         return self.precision_and_scale >> 32
 
 
-def _views(view: _library.FrameView) -> list[_View]:
-    """Returns the structures of a frame's columns."""
+# How many bytes an item has of the arrays `present` to `bytes`.
+_SIZES = numpy.array([1, 8, 8, 8, 1], _UINT64)
+
+
+def _laid_out(view: _library.FrameView) -> numpy.ndarray:
+    """Returns the structures of a frame's columns, a row of words each."""
     count = len(_View._fields)
     assert ctypes.sizeof(_library.Column) == 8 * count
     if not view.width:
-        return []
+        return numpy.empty((0, count), _UINT64)
     words = ctypes.cast(view.columns, ctypes.POINTER(ctypes.c_uint64))
-    return [_View._make(it) for it in numpy.ctypeslib.as_array(words, (view.width, count)).tolist()]
+    return numpy.ctypeslib.as_array(words, (view.width, count))
 
 
-def _shown(owner: _Owner, at: int, shape: tuple[int, ...], kind: str) -> numpy.ndarray:
-    """Returns an array over memory of the library, which can't be written."""
-    if not shape[0]:
-        array = numpy.empty(shape, kind)
-        array.flags.writeable = False
-        return array
-    return numpy.asarray(_Held(owner, at, shape, kind))
+def _memory_of(owner: _Owner, words: numpy.ndarray) -> _Memory:
+    """Returns the memory that the arrays of these columns lie in."""
+    first = _View._fields.index("present")
+    starts, counts = words[:, first : first + 2 * len(_SIZES) : 2], words[:, first + 1 : first + 2 * len(_SIZES) : 2]
+    used = counts > 0
+    if not used.any():
+        return _Memory(owner, 0, 0)
+    return _Memory(owner, int(starts[used].min()), int((starts + counts * _SIZES)[used].max()))
 
 
 def _texts_at(at: int, count: int) -> list[str]:
@@ -130,12 +159,14 @@ class Column:
     categories: the texts of a column of categories, else an empty list.
     """
 
-    def __init__(self, owner: _Owner, view: _View, all_there: list[numpy.ndarray]):
-        self._owner, self._view, self._kind = owner, view, _TYPES[view.type_and_unit & 0xFFFFFFFF]
+    __slots__ = ("_memory", "_view", "_kind", "_all_there", "null_count", "_name", "_dtype", "_categories", "_present")
+
+    def __init__(self, memory: _Memory, view: _View, all_there: list[numpy.ndarray]):
+        self._memory, self._view, self._kind = memory, view, _TYPES[view.type_and_unit & 0xFFFFFFFF]
         self.null_count = view.null_count
         # the flags of a column without nulls, once there are some; the frame's columns share the list
         self._all_there = all_there
-        # what is made when it is first asked for (functools.cached_property takes a lock each time)
+        # what is made when it is first asked for
         self._name: Union[str, None] = None
         self._dtype: Union[str, None] = None
         self._categories: Union[list[str], None] = None
@@ -169,7 +200,7 @@ class Column:
         """Returns which cells are there. Of columns without nulls all flags are set, so those of a frame share one array."""
         if not self.null_count and self._all_there:
             return self._all_there[0]
-        flags = _shown(self._owner, self._view.present, (self._view.present_len,), "|b1")
+        flags = self._memory.array(self._view.present, (self._view.present_len,), _FLAG)
         if not self.null_count:
             self._all_there.append(flags)
         return flags
@@ -197,24 +228,24 @@ class Column:
             return _nanoseconds(self.words)
         if kind in ("string", "null"):
             raise TypeError(f"pl_csv: column {self.name!r} of {self.dtype} has no array of values: see to_list, ends and data")
-        word = f"<M8[{_UNITS[view.unit]}]" if kind == "datetime" else _WORDS.get(kind, "<i8")
-        numbers = _shown(self._owner, view.numbers, (view.numbers_len,), word)
+        numpy_kind = _INSTANTS[view.unit] if kind == "datetime" else _NUMBERS.get(kind, _INT64)
+        numbers = self._memory.array(view.numbers, (view.numbers_len,), numpy_kind)
         return numbers.astype(bool) if kind == "boolean" else numbers
 
     @property
     def words(self) -> numpy.ndarray:
         """The values of a wide column as two `uint64` a row, the low one first."""
-        return _shown(self._owner, self._view.words, (self._view.words_len // 2, 2), "<u8")
+        return self._memory.array(self._view.words, (self._view.words_len // 2, 2), _UINT64)
 
     @property
     def ends(self) -> numpy.ndarray:
         """Where texts end: row k of a column of strings is `data[ends[k] : ends[k + 1]]`."""
-        return _shown(self._owner, self._view.ends, (self._view.ends_len,), "<i8")
+        return self._memory.array(self._view.ends, (self._view.ends_len,), _INT64)
 
     @property
     def data(self) -> numpy.ndarray:
         """The bytes of all texts of a column of strings, in UTF-8."""
-        return _shown(self._owner, self._view.bytes, (self._view.bytes_len,), "|u1")
+        return self._memory.array(self._view.bytes, (self._view.bytes_len,), _BYTE)
 
     def __array__(self, dtype: Any = None) -> numpy.ndarray:
         if self._kind in ("string", "category", "enum", "decimal", "int128", "null"):
@@ -379,8 +410,9 @@ class Frame:
 
     @functools.cached_property
     def _listed(self) -> list[Column]:
-        all_there: list[numpy.ndarray] = []
-        return [Column(self._owner, view, all_there) for view in _views(self._owner.view)]
+        words, all_there = _laid_out(self._owner.view), []
+        memory = _memory_of(self._owner, words)
+        return [Column(memory, view, all_there) for view in map(_View._make, words.tolist())]
 
     @functools.cached_property
     def _columns(self) -> dict[str, Column]:

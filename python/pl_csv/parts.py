@@ -26,7 +26,7 @@ from .words import ReadOptions, schema_of, schema_word
 START, OPEN = 0, 1
 
 # How much of a file is looked at first for its schema, and how much at a time for the next line end.
-_HEAD = 1 << 20
+_HEAD = 1 << 16
 _STEP = 1 << 16
 
 
@@ -108,9 +108,8 @@ def layout_of(path: Union[str, "os.PathLike[str]"], options: ReadOptions) -> Lay
 def _sample_is_whole(head: numpy.ndarray, layout: Layout) -> bool:
     """Returns whether more records than types are inferred from stand in the head of a file, so that the cut one is not among them."""
     options = layout.options
-    if options.schema is None and options.infer_schema and options.infer_schema_length is None:
-        return False
-    return count_in(head[layout.start :], layout) > (options.infer_schema_length or 0) + 1
+    sample: Union[int, None] = options.infer_schema_length if options.schema is None and options.infer_schema else 0
+    return sample is not None and count_in(head[layout.start :], layout) > sample + 1
 
 
 def moved(path: str, at: int, eol_char: str) -> int:

@@ -84,6 +84,23 @@ class Reading(unittest.TestCase):
         self.assertEqual(array.tolist(), [5, 0, -7])
         self.assertEqual(days.dtype, "datetime64[D]")
 
+    def test_every_array_lies_where_the_library_says(self):
+        frame = pl_csv.read_csv(TEXT, schema=TYPES, quote_char=None)
+        for column, it in zip(frame, frame._owner.view.columns[: frame.width]):
+            arrays = [(column.present, it.present, it.present_len, "bool")]
+            if column.dtype == "string":
+                arrays += [(column.ends, it.ends, it.ends_len, "int64"), (column.data, it.bytes, it.bytes_len, "uint8")]
+            elif it.words_len:
+                arrays.append((column.words.reshape(-1), it.words, it.words_len, "uint64"))
+            elif column.dtype != "boolean":
+                arrays.append((column.values.view("int64"), it.numbers, it.numbers_len, "int64"))
+            for array, at, count, kind in arrays:
+                self.assertEqual((array.dtype, len(array)), (kind, count), column)
+                self.assertEqual(array.tobytes(), ctypes.string_at(at, count * array.itemsize), column)
+                self.assertFalse(array.flags.writeable)
+                if count:
+                    self.assertEqual(array.ctypes.data, ctypes.cast(at, ctypes.c_void_p).value, column)
+
     def test_pandas_has_nulls_where_they_are(self):
         data = pl_csv.read_csv(TEXT, schema=TYPES, quote_char=None).to_pandas(decimals="float")
         self.assertTrue(data.iloc[1].isna().all())
@@ -207,6 +224,10 @@ class Parts(unittest.TestCase):
         self.path.write_bytes(b"a,b\n" + b"1," + b"x" * (3 << 20) + b"\n" + b"2,y\n" * 300 + b"z,y\n")
         scan = pl_csv.scan_csv(self.path, part_size=1 << 20, infer_schema_length=250)
         self.assertEqual(scan.schema, {"a": "int64", "b": "string"})
+        self.path.write_bytes(b'"' + b"x" * 100_000 + b"\n" + b'",b\n' + b"1,2\n" * 9)
+        for size in (1 << 10, 1 << 20):
+            frames = list(pl_csv.scan_csv(self.path, part_size=size, schema={"a": int, "b": str}).frames(2))
+            self.assertEqual(sum(it.height for it in frames), 9)
 
     def test_a_name_that_no_schema_tells(self):
         self.path.write_bytes(b"a:b,c\n1,2\n")

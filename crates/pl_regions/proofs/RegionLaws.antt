@@ -8,13 +8,14 @@ use Rattle.std.specs.Vec.Iter.{into_iter_items, into_iter_steps}
 use Rattle.std.specs.declared.borrow.CowSlice.{CowSlice}
 use Rattle.std.specs.declared.vec.IntoIter.{IntoIter}
 use Rattle.std.proofs.Math.Seq.{take-append_seam, take-append-add}
-use Rattle.std.proofs.lemmas.List.{map-append, drop_at, take-append-drop, take-append-le, take_all, take_more}
+use Rattle.std.proofs.lemmas.List.{length-take-le, map-append, drop_at, take-append-drop, take-append-le, take_all, take_more}
 use Rattle.std.proofs.lemmas.List.Folds.{concat-append}
 use Rattle.pl_frame.specs.Dialect.{IsDialect}
 use Rattle.pl_frame.specs.Frame.{HaveHeight, height_of}
 use Rattle.pl_frame.specs.Schema.{Entry}
 use Rattle.pl_text.specs.FrameText.{WriteOptions}
 use Rattle.pl_scan.specs.Dialect.{marks_of, comment_of}
+use Rattle.pl_board.proofs.LineStateLaws.{part-within}
 use Rattle.pl_rows.specs.declared.plan.RangePlan.{RangePlan}
 use Rattle.pl_rows.specs.declared.whole_pieces.PieceFrame.{PieceFrame}
 use Rattle.pl_rows.specs.WholePieces.{IsPieceFrame}
@@ -90,14 +91,17 @@ found plan schema o text end n k more lines apart printed front =
     let size : end + k - end ≡ k = omega arith in
     subst (λ (j : ℕ). IsFrontPrinted plan schema o text (end + k) (n + more) (lines ++ take j (drop end text))) (sym size) (front-behind plan schema o text end n k more lines (take k (drop end text)) apart printed front)
 
--- rows more that were copied
-pub copied : (plan : RangePlan) (schema : List Entry) (o : WriteOptions) (verbatim : Verbatim) (region : OpenRegion) (end rows : ℕ) (lines : List ℕ) → CanPrint plan schema → IsVerbatimOf plan schema o verbatim
-    → IsOpenPrinted plan schema o region → AreRowsCopied verbatim region.text.now region.end end rows region.lines.items lines
+-- rows more that were copied, of the bytes up to a place
+pub copied : (plan : RangePlan) (schema : List Entry) (o : WriteOptions) (verbatim : Verbatim) (region : OpenRegion) (to end rows : ℕ) (lines : List ℕ) → CanPrint plan schema → IsVerbatimOf plan schema o verbatim
+    → IsOpenPrinted plan schema o region → to ≤ length region.text.now → AreRowsCopied verbatim (take to region.text.now) region.end end rows region.lines.items lines
     → IsFrontPrinted plan schema o region.text.now end (region.rows + rows) (concat (map cow_slice_items region.done.items) ++ lines)
-copied plan schema o verbatim region end rows lines can is printed are =
+copied plan schema o verbatim region to end rows lines can is printed within are =
     let done = concat (map cow_slice_items region.done.items) in
+    let size = length-take-le to region.text.now within in
+    let read : slice_range (take to region.text.now) region.end end ≡ slice_range region.text.now region.end end = part-within region.text.now to region.end end are.after (omega (arith, size, are.within)) in
     subst (IsFrontPrinted plan schema o region.text.now end (region.rows + rows)) (append_assoc done region.lines.items are.copy ∙ ap (λ l. done ++ l) (sym are.now_is))
-    (IsFrontPrinted-more plan schema o region.text.now region.end end region.rows rows (lines_so_far region) are.copy can.dialect printed are.after are.within (are.printed plan schema o can is))
+    (IsFrontPrinted-more plan schema o region.text.now region.end end region.rows rows (lines_so_far region) are.copy can.dialect printed are.after (omega (arith, size, are.within, within))
+    (subst (λ t. IsTextPrinted plan schema o t rows are.copy) read (are.printed plan schema o can is)))
 
 -- ---- texts one behind the other
 

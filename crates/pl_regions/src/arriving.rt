@@ -22,6 +22,7 @@ use pl_frame::schema::Schema;
 use pl_frame::source::Source;
 use pl_intake::intake::Intake;
 use pl_intake::rooms::Rooms;
+use pl_intake::texts::FEW;
 use pl_rows::plan::RangePlan;
 use pl_verbatim::verbatim::Verbatim;
 use pl_write::options::SerializeOptions;
@@ -106,8 +107,8 @@ fn print_lent<'a, W: Threads + Wait + Sync, So: Source>(
     let rooms = Mutex::new(Rooms::new(alloc));
     let unlimited = without_limit(plan);
     let (tokens, all) = read_and_print(
-        rt, alloc, workers, cells, &rooms, plan.limit, intake, source, limit, schema, &unlimited,
-        options, verbatim, piece_size,
+        rt, alloc, workers, cells, &rooms, FEW, plan.limit, intake, source, limit, schema,
+        &unlimited, options, verbatim, piece_size,
     )?;
     intake.read_on(source, limit)?;
     let rest = intake.rest();

@@ -27,7 +27,7 @@ use pl_frame::schema::Schema;
 use pl_frame::source::Source;
 use pl_intake::intake::Intake;
 use pl_intake::rooms::Rooms;
-use pl_intake::texts::{FEW, close_cells, left_behind, read_texts, texts_of};
+use pl_intake::texts::{close_cells, left_behind, read_texts, texts_of};
 use pl_rows::plan::RangePlan;
 use pl_rows::push::push;
 use pl_verbatim::verbatim::Verbatim;
@@ -354,7 +354,7 @@ fn read_beside<'a, W: Threads + Wait + Sync, So: Source>(
     Ok(all)
 }
 
-/// Reads the first texts of a source, and then those of the other cells while workers take regions. Where the first texts are all, no more workers
+/// Reads a few texts of a source, and then those of the other cells while workers take regions. Where the first texts are all, no more workers
 /// take regions than there are texts. Answers what shows the texts, and the regions that each took.
 ///
 /// Refuses as `read_all` does, with those bytes that came before counted in.
@@ -364,6 +364,7 @@ pub(crate) fn read_and_print<'a, W: Threads + Wait + Sync, So: Source>(
     workers: usize,
     cells: &'a [OnceLock<Vec<u8>>],
     rooms: &Mutex<Rooms>,
+    few: usize,
     most: Option<usize>,
     intake: &mut Intake,
     source: &mut So,
@@ -394,7 +395,7 @@ pub(crate) fn read_and_print<'a, W: Threads + Wait + Sync, So: Source>(
         cells,
         rooms,
         &mut tokens,
-        FEW,
+        few,
         intake,
         source,
         limit,

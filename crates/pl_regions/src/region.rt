@@ -122,9 +122,34 @@ impl<'a> OpenRegion<'a> {
         }
     }
 
-    // Appends what is written of the rows behind those so far, as far as it stands in their fields.
+    // Appends what is written of the rows behind those so far that end up to a place, as far as it stands in their fields.
     fn copy(
         &mut self,
+        schema: &Schema,
+        plan: &RangePlan<'_>,
+        options: &SerializeOptions,
+        verbatim: &Verbatim,
+        to: usize,
+    )
+        requires can { CanPrint plan.now schema.now }
+        requires verbatim { IsVerbatimOf plan.now schema.now (cell_options options.now) verbatim.now }
+        requires after { self.old.end ≤ to }
+        requires within { to ≤ length self.old.text.now }
+        requires printed { IsOpenPrinted plan.now schema.now (cell_options options.now) self.old }
+        ensures text { self.new.text.now ≡ self.old.text.now }
+        ensures after { self.old.end ≤ self.new.end }
+        ensures printed { IsOpenPrinted plan.now schema.now (cell_options options.now) self.new }
+    {
+        let copied = verbatim.copy(&self.text[..to], self.end, &mut self.lines);
+        self.end = copied.end;
+        self.rows += copied.rows;
+    }
+
+    // Finds rows behind those so far and copies rows behind these, in turn, until neither goes on. Where none were found at first, all are copied
+    // before more are looked for; else few, and more each time where not many were found behind them.
+    fn find_and_copy(
+        &mut self,
+        alloc: Global,
         schema: &Schema,
         plan: &RangePlan<'_>,
         options: &SerializeOptions,
@@ -137,9 +162,27 @@ impl<'a> OpenRegion<'a> {
         ensures after { self.old.end ≤ self.new.end }
         ensures printed { IsOpenPrinted plan.now schema.now (cell_options options.now) self.new }
     {
-        let copied = verbatim.copy(self.text, self.end, &mut self.lines);
-        self.end = copied.end;
-        self.rows += copied.rows;
+        let start = self.end;
+        self.find(alloc, schema, plan, options, verbatim);
+        let mut size = if self.end == start { usize::MAX } else { MANY };
+        while self.end < self.text.len() {
+            let from = self.end;
+            let left = self.text.len() - from;
+            self.copy(schema, plan, options, verbatim, from + size.min(left));
+            if self.end == from {
+                self.copy(schema, plan, options, verbatim, self.text.len());
+                if self.end == from {
+                    return;
+                }
+            }
+            let to = self.end;
+            self.find(alloc, schema, plan, options, verbatim);
+            size = if self.end - to < MANY {
+                size.saturating_mul(4)
+            } else {
+                MANY
+            };
+        }
     }
 
     // Reads the piece up to a place, prints its rows, and answers whether it did: where the piece does not end where an item does, a
@@ -224,8 +267,7 @@ impl<'a> OpenRegion<'a> {
             if !self.print_piece(alloc, printer, schema, plan, options, to) {
                 return;
             }
-            self.find(alloc, schema, plan, options, verbatim);
-            self.copy(schema, plan, options, verbatim);
+            self.find_and_copy(alloc, schema, plan, options, verbatim);
             size = if self.end - to < size {
                 piece_size.min(size.saturating_mul(2))
             } else {
@@ -298,8 +340,7 @@ impl<'a> Region<'a> {
         ensures printed { IsRegionPrinted plan.now schema.now (cell_options options.now) result }
     {
         let mut region = OpenRegion::new(alloc, text);
-        region.find(alloc, schema, plan, options, verbatim);
-        region.copy(schema, plan, options, verbatim);
+        region.find_and_copy(alloc, schema, plan, options, verbatim);
         region.print(alloc, printer, schema, plan, options, verbatim, piece_size);
         region.close(alloc, place, schema, plan, options)
     }

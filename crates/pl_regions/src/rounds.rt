@@ -27,7 +27,7 @@ use std::sync::{Mutex, OnceLock, Wait};
 use std::thread::Threads;
 
 // A round has about so many bytes, whose memory is used again in the next one,
-const ROUND: usize = 8 << 20;
+const ROUND: usize = 17 << 19;
 
 // and no fewer texts than this,
 const FEWEST: usize = 32;
@@ -38,6 +38,9 @@ const MOST: usize = 80;
 // A text of a round has no more bytes than this, as long as that is no small part of what was read before: the last texts of a round keep each worker
 // busy for as long as one takes.
 const TEXT: usize = 1 << 17;
+
+// So many texts of a round are read before its workers start.
+const FIRST: usize = 1;
 
 // So many rounds there are at most; what comes behind them is read as a whole.
 const ROUNDS: usize = 1 << 20;
@@ -87,8 +90,8 @@ fn print_round<W: Threads + Wait + Sync, So: Source>(
     };
     let most = rows_left(most, kept.rows);
     let (tokens, all) = read_and_print(
-        rt, alloc, workers, &cells, rooms, most, intake, source, limit, schema, plan, options,
-        verbatim, piece_size,
+        rt, alloc, workers, &cells, rooms, FIRST, most, intake, source, limit, schema, plan,
+        options, verbatim, piece_size,
     )?;
     let Ok(arrived) = front_arrived(alloc, &cells, &tokens, all, schema, plan, options, most) else {
         return Err(ReadAllFault::OutOfMemory);

@@ -1,6 +1,5 @@
 use Rattle.pl_write.specs.Options.{cell_options}
 use Rattle.pl_regions.proofs.ArrivingLaws.{HasAllCome-longer}
-use Rattle.pl_regions.specs.declared.kept.Arrived.{Arrived}
 use Rattle.pl_regions.specs.Arriving.{HasAllCome}
 use Rattle.pl_regions.proofs.LimitLaws.{if_ok}
 use Rattle.pl_regions.proofs.arriving.print_texts.Goals as goal

@@ -1,4 +1,4 @@
-use Rattle.std.proofs.Common.{◌≡◌, ◌+◌, ◌++◌, ℕ, List, Bor, [], length, get_or, ap, ◌∙◌, arith, length-append}
+use Rattle.std.proofs.Common.{◌≡◌, ◌+◌, ℕ, List, Bor, [], length, get_or, ap, ◌∙◌, arith, length-append}
 use Rattle.pl_intake.proofs.TextLaws.{texts_from, texts_from-next, texts_from-end}
 use Rattle.pl_regions.proofs.beside.are_longer.Goals as goal
 

@@ -1,11 +1,11 @@
-use Rattle.std.proofs.Common.{◌≡◌, ◌++◌, ◌≤◌, false, ℕ, List, Bor, [], length, map, take, drop, refl, sym, ◌∙◌, ap, subst, arith}
+use Rattle.std.proofs.Common.{◌≡◌, ◌++◌, ◌≤◌, false, ℕ, List, Bor, [], length, map, drop, refl, sym, ◌∙◌, ap, subst}
 use Rattle.std.specs.Prelude.{IfSome}
 use Rattle.std.specs.List.{concat}
 use Rattle.std.proofs.lemmas.List.{take-map}
 use Rattle.pl_write.specs.Options.{cell_options}
 use Rattle.pl_intake.proofs.TextLaws.{values_of}
 use Rattle.pl_regions.specs.Arriving.{IsFrontArrived}
-use Rattle.pl_regions.specs.Limits.{without_limit, IsFull}
+use Rattle.pl_regions.specs.Limits.{IsFull}
 use Rattle.pl_regions.specs.Printing.{IsPrintedFront}
 use Rattle.pl_regions.specs.declared.kept.Arrived.{Arrived}
 use Rattle.pl_regions.proofs.ArrivingLaws.{arrived-whole, arrived-full, arrived-long}

@@ -55,9 +55,11 @@ class _Held:
 
 
 class _Memory:
-    """The memory from the first array of a frame to the last. Arrays are cut out of it: to ask numpy for each takes five times as long.
+    """The memory from the first array of a frame to the last. Arrays are cut out of it: to ask numpy for each takes several times as long.
 
     What lies between them is not the frame's, and is not looked at.
+
+    owner: of the memory, kept as long as this or an array.
     """
 
     __slots__ = ("owner", "_start", "_bytes")

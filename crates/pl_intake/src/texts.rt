@@ -27,11 +27,14 @@ pub const CELLS: usize = 1 << 10;
 // So many texts have one length, about; those behind them are twice as long.
 const ALIKE: usize = 80;
 
-/// So many texts are read before workers start; they are shorter. Where a source has no more, there are no more workers than texts.
-pub const FEW: usize = 8;
+/// So many texts are read before workers start. Where a source has no more, there are no other workers.
+pub const FIRST: usize = 1;
 
-// So long these are at most, and so many texts behind them twice as long, and so on: where pieces are long, little is read before workers start,
-// and a text is short beside what came before it.
+// So many texts at the front are shorter,
+const FEW: usize = 8;
+
+// no longer than this, and so many texts behind them no longer than twice this, and so on: where pieces are long, little is read before workers
+// start, and a text is short beside what came before it.
 const SHORT: usize = 1 << 17;
 
 // So often a worker looks for a text before it sleeps until it is there.

@@ -17,7 +17,7 @@ use pl_frame::schema::Schema;
 use pl_frame::source::Source;
 use pl_intake::intake::Intake;
 use pl_intake::rooms::Rooms;
-use pl_intake::texts::{FEW, TakenText, close_cells, read_texts, take_text};
+use pl_intake::texts::{FIRST, TakenText, close_cells, read_texts, take_text};
 use pl_rows::columns::empty_buffers;
 use pl_rows::plan::RangePlan;
 use pl_rows::push::push;
@@ -78,34 +78,13 @@ fn take_texts<'a, W: Wait>(
     all
 }
 
-// The texts that so many workers take and read, one after another each, until there are no more.
-fn take_each<'a, W: Threads + Wait + Sync>(
-    rt: &W,
-    alloc: Global,
-    workers: usize,
-    cells: &'a [OnceLock<Vec<u8>>],
-    rooms: &Mutex<Rooms>,
-    next: &AtomicUsize,
-    schema: &Schema,
-    plan: &RangePlan<'_>,
-    piece_size: usize,
-) -> Result<Vec<Vec<Taken<'a>>>, AllocError>
-    requires { CanTake plan.now schema.now }
-    ensures { IfOk result (λ all. All (λ taken. All (IsTaken plan.now schema.now cells.now) taken.items) all.items) }
-{
-    let take = |_worker: usize| -> Vec<Taken<'_>>
-        requires { CanTake plan.now schema.now }
-        ensures { All (IsTaken plan.entry.now schema.entry.now cells.entry.now) result.items }
-    { take_texts(rt, alloc, cells, rooms, next, schema, plan, piece_size) };
-    thread::map_indices(rt, alloc, workers, &take)
-}
-
-// Cells, what shows the texts of the first of them, and the texts that were taken by who reads.
+// Cells, what shows the texts of the first of them, the texts that were taken by who reads, and those that each of the others took.
 #[derive(Drop)]
 struct Reading<'a> {
     cells: &'a [OnceLock<Vec<u8>>],
     tokens: Vec<OnceToken<'a, Vec<u8>>>,
     taken: Vec<Taken<'a>>,
+    others: Vec<Vec<Taken<'a>>>,
 }
 
 // Reads the texts of a source, tells so many other workers that there are no more, and takes texts as they do.
@@ -163,59 +142,72 @@ fn read_and_take<'a, W: Wait, So: Source>(
     }
 }
 
-// Reads the texts of a source while so many other workers take them. Answers the texts that each took.
-fn read_beside<'a, W: Threads + Wait + Sync, So: Source>(
+// Starts `to_start` workers, one after another, that take texts, and then reads the texts of a source and takes texts as they do. Who reads starts
+// them all: where a worker starts others, they often share its processor.
+#[cycle(start)]
+fn start_and_read<'a, W: Threads + Wait + Sync, So: Source>(
     rt: &W,
     alloc: Global,
+    to_start: usize,
     others: usize,
-    cells: &'a [OnceLock<Vec<u8>>],
+    reading: &mut Reading<'a>,
     rooms: &Mutex<Rooms>,
-    tokens: &mut Vec<OnceToken<'a, Vec<u8>>>,
+    next: &AtomicUsize,
     intake: &mut Intake,
     source: &mut So,
     schema: &Schema,
     plan: &RangePlan<'_>,
     piece_size: usize,
-) -> Result<Vec<Vec<Taken<'a>>>, ReadAllFault>
+) -> Result<(), ReadAllFault>
     requires can { CanTake plan.now schema.now }
     requires within { intake.old.size ≤ 2 ^ 64 - 1 }
     requires ended { intake.old.is_ended ≡ true → IsAtEnd (So.left source.old) }
-    requires set { AreSetIn cells.now tokens.old.items }
-    ensures set { OnOk result (AreSetIn cells.now tokens.new.items) }
-    ensures given { (before : Option (List ℕ)) (first : Intake) → HasGiven before (So.left source.old) (2 ^ 64 - 1) first intake.old (concat (map (λ token. token.value.items) tokens.old.items))
-        → OnOk result (HasGiven before (So.left source.new) (2 ^ 64 - 1) first intake.new (concat (map (λ token. token.value.items) tokens.new.items))) }
-    ensures taken { IfOk result (λ all. All (λ taken. All (IsTaken plan.now schema.now cells.now) taken.items) all.items) }
+    requires set { AreSetIn reading.old.cells.now reading.old.tokens.items }
+    ensures set { OnOk result (AreSetIn reading.old.cells.now reading.new.tokens.items) }
+    ensures given { (before : Option (List ℕ)) (first : Intake) → HasGiven before (So.left source.old) (2 ^ 64 - 1) first intake.old (concat (map (λ token. token.value.items) reading.old.tokens.items))
+        → OnOk result (HasGiven before (So.left source.new) (2 ^ 64 - 1) first intake.new (concat (map (λ token. token.value.items) reading.new.tokens.items))) }
+    ensures own { OnOk result (All (IsTaken plan.now schema.now reading.old.cells.now) reading.new.taken.items) }
+    ensures others { OnOk result (All (λ taken. All (IsTaken plan.now schema.now reading.old.cells.now) taken.items) reading.new.others.items) }
     ensures cause { IsErrOf result ReadAllFault.Source → Rose (So.faults source.old) (So.faults source.new) }
     ensures read_on { IsReadOn (So.left source.old) (So.left source.new) }
     ensures later { So.faults source.old ≤ So.faults source.new }
 {
-    let next = AtomicUsize::new(0);
-    let mut reading = Reading {
-        cells,
-        tokens: std::mem::replace(tokens, Vec::new(alloc)),
-        taken: Vec::new(alloc),
-    };
-    let mut take = ||
-        requires sync { IsSync W.row }
+    if to_start == 0 {
+        read_and_take(
+            rt, alloc, others, reading, rooms, next, intake, source, schema, plan, piece_size,
+        )?;
+        reading.others = Vec::new(alloc);
+        return Ok(());
+    }
+    let cells = reading.cells;
+    let mut take = || -> Vec<Taken<'_>>
         requires can { CanTake plan.now schema.now }
-    {
-        take_each(
-            rt, alloc, others, cells, rooms, &next, schema, plan, piece_size,
-        )
-    };
-    let mut read = ||
+        ensures { All (IsTaken plan.entry.now schema.entry.now cells.entry.now) result.items }
+    { take_texts(rt, alloc, cells, rooms, next, schema, plan, piece_size) };
+    let mut read = || -> Result<(), ReadAllFault>
+        requires sync { IsSync W.row }
         requires can { CanTake plan.now schema.now }
         requires within { intake.now.size ≤ 2 ^ 64 - 1 }
         requires ended { intake.now.is_ended ≡ true → IsAtEnd (So.left source.now) }
-        requires set { AreSetIn reading.cells.now reading.tokens.items }
+        requires set { AreSetIn reading.now.cells.now reading.now.tokens.items }
+        requires more { 0 < to_start }
+        ensures set { OnOk result (AreSetIn reading.entry.now.cells.now reading.exit.now.tokens.items) }
+        ensures given { (before : Option (List ℕ)) (first : Intake) → HasGiven before (So.left source.entry.now) (2 ^ 64 - 1) first intake.entry.now (concat (map (λ token. token.value.items) reading.entry.now.tokens.items))
+            → OnOk result (HasGiven before (So.left source.exit.now) (2 ^ 64 - 1) first intake.exit.now (concat (map (λ token. token.value.items) reading.exit.now.tokens.items))) }
+        ensures own { OnOk result (All (IsTaken plan.entry.now schema.entry.now reading.entry.now.cells.now) reading.exit.now.taken.items) }
+        ensures others { OnOk result (All (λ taken. All (IsTaken plan.entry.now schema.entry.now reading.entry.now.cells.now) taken.items) reading.exit.now.others.items) }
+        ensures cause { IsErrOf result ReadAllFault.Source → Rose (So.faults source.entry.now) (So.faults source.exit.now) }
+        ensures read_on { IsReadOn (So.left source.entry.now) (So.left source.exit.now) }
+        ensures later { So.faults source.entry.now ≤ So.faults source.exit.now }
     {
-        read_and_take(
+        start_and_read(
             rt,
             alloc,
+            to_start - 1,
             others,
-            &mut reading,
+            reading,
             rooms,
-            &next,
+            next,
             intake,
             source,
             schema,
@@ -223,25 +215,16 @@ fn read_beside<'a, W: Threads + Wait + Sync, So: Source>(
             piece_size,
         )
     };
-    let (taken_beside, read) = thread::join_mut(rt, &mut take, &mut read);
-    let Reading {
-        cells: _,
-        tokens: shown,
-        taken,
-    } = reading;
-    *tokens = shown;
+    let (taken, read) = thread::join_mut(rt, &mut take, &mut read);
     read?;
-    let Ok(mut all) = taken_beside else {
-        return Err(ReadAllFault::OutOfMemory);
-    };
-    if push(&mut all, taken).is_err() {
+    if push(&mut reading.others, taken).is_err() {
         return Err(ReadAllFault::OutOfMemory);
     }
-    Ok(all)
+    Ok(())
 }
 
-/// Reads the first texts of a source, and then those of the other cells while workers take texts. Where the first texts are all, no more workers
-/// take them than there are texts. Answers what shows the texts, and the texts that each took.
+/// Reads the first text of a source, and then those of the other cells while workers take texts. Where the first text is all, there are no other
+/// workers. Answers what shows the texts, and the texts that each took.
 ///
 /// Refuses a source that fails, and want of memory.
 pub(crate) fn read_and_share<'a, W: Threads + Wait + Sync, So: Source>(
@@ -266,14 +249,19 @@ pub(crate) fn read_and_share<'a, W: Threads + Wait + Sync, So: Source>(
     ensures read_on { IsReadOn (So.left source.old) (So.left source.new) }
     ensures later { So.faults source.old ≤ So.faults source.new }
 {
-    let mut tokens = Vec::new(alloc);
+    let mut reading = Reading {
+        cells,
+        tokens: Vec::new(alloc),
+        taken: Vec::new(alloc),
+        others: Vec::new(alloc),
+    };
     read_texts(
         rt,
         alloc,
         cells,
         rooms,
-        &mut tokens,
-        FEW,
+        &mut reading.tokens,
+        FIRST,
         intake,
         source,
         usize::MAX,
@@ -281,31 +269,34 @@ pub(crate) fn read_and_share<'a, W: Threads + Wait + Sync, So: Source>(
         plan.projection.width,
         piece_size,
     )?;
-    if intake.is_ended() {
-        let workers = workers.min(tokens.len());
-        let next = AtomicUsize::new(0);
-        close_cells(rt, alloc, cells, tokens.len(), workers);
-        let Ok(all) = take_each(
-            rt, alloc, workers, cells, rooms, &next, schema, plan, piece_size,
-        ) else {
-            return Err(ReadAllFault::OutOfMemory);
-        };
-        return Ok((tokens, all));
-    }
-    let others = workers.saturating_sub(1);
-    let all = read_beside(
+    let others = if intake.is_ended() {
+        0
+    } else {
+        workers.saturating_sub(1)
+    };
+    start_and_read(
         rt,
         alloc,
         others,
-        cells,
+        others,
+        &mut reading,
         rooms,
-        &mut tokens,
+        &AtomicUsize::new(0),
         intake,
         source,
         schema,
         plan,
         piece_size,
     )?;
+    let Reading {
+        cells: _,
+        tokens,
+        taken,
+        others: mut all,
+    } = reading;
+    if push(&mut all, taken).is_err() {
+        return Err(ReadAllFault::OutOfMemory);
+    }
     Ok((tokens, all))
 }
 

@@ -22,7 +22,6 @@ use pl_frame::schema::Schema;
 use pl_frame::source::Source;
 use pl_intake::intake::Intake;
 use pl_intake::rooms::Rooms;
-use pl_intake::texts::FEW;
 use pl_rows::plan::RangePlan;
 use pl_verbatim::verbatim::Verbatim;
 use pl_write::options::SerializeOptions;
@@ -107,8 +106,8 @@ fn print_lent<'a, W: Threads + Wait + Sync, So: Source>(
     let rooms = Mutex::new(Rooms::new(alloc));
     let unlimited = without_limit(plan);
     let (tokens, all) = read_and_print(
-        rt, alloc, workers, cells, &rooms, FEW, plan.limit, intake, source, limit, schema,
-        &unlimited, options, verbatim, piece_size,
+        rt, alloc, workers, cells, &rooms, plan.limit, intake, source, limit, schema, &unlimited,
+        options, verbatim, piece_size,
     )?;
     intake.read_on(source, limit)?;
     let rest = intake.rest();
@@ -273,14 +272,14 @@ fn is_near(limit: Option<usize>, rows: usize) -> bool {
 
 /// Reads all that is left of a source, and prints the records meanwhile, or where the plan has a limit, the first so many of them: the caller reads
 /// text by text, each up to where rows seem to begin, and the other workers print each as soon as it is read, as the caller does once all are
-/// read. What was kept of the source before stands in front of them. What is not printed so without a gap is copied into one cell more, the last one, and printed as by `print_rest`. The answer is
-/// that of `print_rows` for the records.
+/// read. What was kept of the source before stands in front of them. What is not printed so without a gap is copied into one cell more, the last
+/// one, and printed as by `print_rest`. The answer is that of `print_rows` for the records.
 ///
 /// What was kept tells whether most lines are written as they were read: then all texts are kept, and such lines are lent from there; a worker that
 /// is alone reads all that is left first. Otherwise the memory of a text is used again for those behind it, and one worker reads and prints text by
 /// text. Where the limit is near, all that is left is read first, and behind rows that reach it no text is printed.
 ///
-/// The first eight texts are read before workers start. Where a source has no more, there are no more workers than texts.
+/// The first text is read before the other workers start. Where a source has no more, there are none.
 ///
 /// Where the records have more bytes than `longest`, which is below the limit, they are not printed but given back; so all texts are kept then.
 ///

@@ -21,13 +21,13 @@ use crate::limits::without_limit;
 use crate::region::Region;
 use crate::taken::Taken;
 use crate::taking::{empty_places, put_regions};
-use crate::texts::{take_each, take_texts};
+use crate::texts::take_texts;
 use pl_frame::read_all::ReadAllFault;
 use pl_frame::schema::Schema;
 use pl_frame::source::Source;
 use pl_intake::intake::Intake;
 use pl_intake::rooms::Rooms;
-use pl_intake::texts::{close_cells, left_behind, read_texts, texts_of};
+use pl_intake::texts::{FIRST, close_cells, left_behind, read_texts, texts_of};
 use pl_rows::plan::RangePlan;
 use pl_rows::push::push;
 use pl_verbatim::verbatim::Verbatim;
@@ -185,12 +185,13 @@ pub(crate) fn front_decided<'a>(
     })
 }
 
-// Cells, what shows the texts of the first of them, and the regions that were taken by who reads.
+// Cells, what shows the texts of the first of them, the regions that were taken by who reads, and those that each of the others took.
 #[derive(Drop)]
 struct Reading<'a> {
     cells: &'a [OnceLock<Vec<u8>>],
     tokens: Vec<OnceToken<'a, Vec<u8>>>,
     taken: Vec<Taken<'a>>,
+    others: Vec<Vec<Taken<'a>>>,
 }
 
 // Reads the texts of a source, tells so many other workers that there are no more, and takes regions as they do.
@@ -259,14 +260,18 @@ fn read_and_take<'a, W: Wait, So: Source>(
     }
 }
 
-// Reads the texts of a source while so many other workers take regions. Answers the regions that each took.
-fn read_beside<'a, W: Threads + Wait + Sync, So: Source>(
+// Starts `to_start` workers, one after another, that take regions, and then reads the texts of a source and takes regions as they do. Who reads starts
+// them all: where a worker starts others, they often share its processor.
+#[cycle(start)]
+fn start_and_read<'a, W: Threads + Wait + Sync, So: Source>(
     rt: &W,
     alloc: Global,
+    to_start: usize,
     others: usize,
-    cells: &'a [OnceLock<Vec<u8>>],
+    reading: &mut Reading<'a>,
     rooms: &Mutex<Rooms>,
-    tokens: &mut Vec<OnceToken<'a, Vec<u8>>>,
+    next: &AtomicUsize,
+    so_far: &AtomicUsize,
     most: Option<usize>,
     intake: &mut Intake,
     source: &mut So,
@@ -276,56 +281,71 @@ fn read_beside<'a, W: Threads + Wait + Sync, So: Source>(
     options: &SerializeOptions,
     verbatim: &Verbatim,
     piece_size: usize,
-) -> Result<Vec<Vec<Taken<'a>>>, ReadAllFault>
+) -> Result<(), ReadAllFault>
     requires can { CanPrint plan.now schema.now }
     requires verbatim { IsVerbatimOf plan.now schema.now (cell_options options.now) verbatim.now }
     requires size { 0 < piece_size }
     requires within { intake.old.size ≤ limit }
     requires ended { intake.old.is_ended ≡ true → IsAtEnd (So.left source.old) }
-    requires set { AreSetIn cells.now tokens.old.items }
-    ensures set { OnOk result (AreSetIn cells.now tokens.new.items) }
-    ensures given { (before : Option (List ℕ)) (first : Intake) → HasGiven before (So.left source.old) limit first intake.old (concat (map (λ token. token.value.items) tokens.old.items))
-        → OnOk result (HasGiven before (So.left source.new) limit first intake.new (concat (map (λ token. token.value.items) tokens.new.items))) }
-    ensures taken { IfOk result (λ all. All (λ taken. All (IsTaken plan.now schema.now (cell_options options.now) cells.now) taken.items) all.items) }
+    requires set { AreSetIn reading.old.cells.now reading.old.tokens.items }
+    ensures set { OnOk result (AreSetIn reading.old.cells.now reading.new.tokens.items) }
+    ensures given { (before : Option (List ℕ)) (first : Intake) → HasGiven before (So.left source.old) limit first intake.old (concat (map (λ token. token.value.items) reading.old.tokens.items))
+        → OnOk result (HasGiven before (So.left source.new) limit first intake.new (concat (map (λ token. token.value.items) reading.new.tokens.items))) }
+    ensures own { OnOk result (All (IsTaken plan.now schema.now (cell_options options.now) reading.old.cells.now) reading.new.taken.items) }
+    ensures others { OnOk result (All (λ taken. All (IsTaken plan.now schema.now (cell_options options.now) reading.old.cells.now) taken.items) reading.new.others.items) }
     ensures too_long { IsErrOf result ReadAllFault.TooLong → IsPastLimit (So.left source.old) (So.left source.new) limit intake.old.size }
     ensures failed { IsErrOf result ReadAllFault.Source → HasStopped (So.left source.old) (So.left source.new) limit intake.old.size }
     ensures cause { IsErrOf result ReadAllFault.Source → Rose (So.faults source.old) (So.faults source.new) }
     ensures later { So.faults source.old ≤ So.faults source.new }
 {
-    let next = AtomicUsize::new(0);
-    let so_far = AtomicUsize::new(0);
-    let mut reading = Reading {
-        cells,
-        tokens: std::mem::replace(tokens, Vec::new(alloc)),
-        taken: Vec::new(alloc),
-    };
-    let mut take = ||
-        requires sync { IsSync W.row }
+    if to_start == 0 {
+        read_and_take(
+            rt, alloc, others, reading, rooms, next, so_far, most, intake, source, limit, schema,
+            plan, options, verbatim, piece_size,
+        )?;
+        reading.others = Vec::new(alloc);
+        return Ok(());
+    }
+    let cells = reading.cells;
+    let mut take = || -> Vec<Taken<'_>>
         requires can { CanPrint plan.now schema.now }
         requires verbatim { IsVerbatimOf plan.now schema.now (cell_options options.now) verbatim.now }
         requires size { 0 < piece_size }
+        ensures { All (IsTaken plan.entry.now schema.entry.now (cell_options options.entry.now) cells.entry.now) result.items }
     {
-        take_each(
-            rt, alloc, others, cells, rooms, &next, &so_far, most, schema, plan, options, verbatim,
+        take_texts(
+            rt, alloc, cells, rooms, next, so_far, most, schema, plan, options, verbatim,
             piece_size,
         )
     };
-    let mut read = ||
+    let mut read = || -> Result<(), ReadAllFault>
+        requires sync { IsSync W.row }
         requires can { CanPrint plan.now schema.now }
         requires verbatim { IsVerbatimOf plan.now schema.now (cell_options options.now) verbatim.now }
         requires size { 0 < piece_size }
         requires within { intake.now.size ≤ limit }
         requires ended { intake.now.is_ended ≡ true → IsAtEnd (So.left source.now) }
-        requires set { AreSetIn reading.cells.now reading.tokens.items }
+        requires set { AreSetIn reading.now.cells.now reading.now.tokens.items }
+        requires more { 0 < to_start }
+        ensures set { OnOk result (AreSetIn reading.entry.now.cells.now reading.exit.now.tokens.items) }
+        ensures given { (before : Option (List ℕ)) (first : Intake) → HasGiven before (So.left source.entry.now) limit first intake.entry.now (concat (map (λ token. token.value.items) reading.entry.now.tokens.items))
+            → OnOk result (HasGiven before (So.left source.exit.now) limit first intake.exit.now (concat (map (λ token. token.value.items) reading.exit.now.tokens.items))) }
+        ensures own { OnOk result (All (IsTaken plan.entry.now schema.entry.now (cell_options options.entry.now) reading.entry.now.cells.now) reading.exit.now.taken.items) }
+        ensures others { OnOk result (All (λ taken. All (IsTaken plan.entry.now schema.entry.now (cell_options options.entry.now) reading.entry.now.cells.now) taken.items) reading.exit.now.others.items) }
+        ensures too_long { IsErrOf result ReadAllFault.TooLong → IsPastLimit (So.left source.entry.now) (So.left source.exit.now) limit intake.entry.now.size }
+        ensures failed { IsErrOf result ReadAllFault.Source → HasStopped (So.left source.entry.now) (So.left source.exit.now) limit intake.entry.now.size }
+        ensures cause { IsErrOf result ReadAllFault.Source → Rose (So.faults source.entry.now) (So.faults source.exit.now) }
+        ensures later { So.faults source.entry.now ≤ So.faults source.exit.now }
     {
-        read_and_take(
+        start_and_read(
             rt,
             alloc,
+            to_start - 1,
             others,
-            &mut reading,
+            reading,
             rooms,
-            &next,
-            &so_far,
+            next,
+            so_far,
             most,
             intake,
             source,
@@ -337,25 +357,16 @@ fn read_beside<'a, W: Threads + Wait + Sync, So: Source>(
             piece_size,
         )
     };
-    let (printed, read) = thread::join_mut(rt, &mut take, &mut read);
-    let Reading {
-        cells: _,
-        tokens: shown,
-        taken,
-    } = reading;
-    *tokens = shown;
+    let (taken, read) = thread::join_mut(rt, &mut take, &mut read);
     read?;
-    let Ok(mut all) = printed else {
-        return Err(ReadAllFault::OutOfMemory);
-    };
-    if push(&mut all, taken).is_err() {
+    if push(&mut reading.others, taken).is_err() {
         return Err(ReadAllFault::OutOfMemory);
     }
-    Ok(all)
+    Ok(())
 }
 
-/// Reads a few texts of a source, and then those of the other cells while workers take regions. Where the first texts are all, no more workers
-/// take regions than there are texts. Answers what shows the texts, and the regions that each took.
+/// Reads the first text of a source, and then those of the other cells while workers take regions. Where the first text is all, there are no other
+/// workers. Answers what shows the texts, and the regions that each took.
 ///
 /// Refuses as `read_all` does, with those bytes that came before counted in.
 pub(crate) fn read_and_print<'a, W: Threads + Wait + Sync, So: Source>(
@@ -364,7 +375,6 @@ pub(crate) fn read_and_print<'a, W: Threads + Wait + Sync, So: Source>(
     workers: usize,
     cells: &'a [OnceLock<Vec<u8>>],
     rooms: &Mutex<Rooms>,
-    few: usize,
     most: Option<usize>,
     intake: &mut Intake,
     source: &mut So,
@@ -388,14 +398,19 @@ pub(crate) fn read_and_print<'a, W: Threads + Wait + Sync, So: Source>(
     ensures cause { IsErrOf result ReadAllFault.Source → Rose (So.faults source.old) (So.faults source.new) }
     ensures later { So.faults source.old ≤ So.faults source.new }
 {
-    let mut tokens = Vec::new(alloc);
+    let mut reading = Reading {
+        cells,
+        tokens: Vec::new(alloc),
+        taken: Vec::new(alloc),
+        others: Vec::new(alloc),
+    };
     read_texts(
         rt,
         alloc,
         cells,
         rooms,
-        &mut tokens,
-        few,
+        &mut reading.tokens,
+        FIRST,
         intake,
         source,
         limit,
@@ -403,27 +418,20 @@ pub(crate) fn read_and_print<'a, W: Threads + Wait + Sync, So: Source>(
         plan.projection.width,
         piece_size,
     )?;
-    if intake.is_ended() {
-        let workers = workers.min(tokens.len());
-        let next = AtomicUsize::new(0);
-        let so_far = AtomicUsize::new(0);
-        close_cells(rt, alloc, cells, tokens.len(), workers);
-        let Ok(all) = take_each(
-            rt, alloc, workers, cells, rooms, &next, &so_far, most, schema, plan, options,
-            verbatim, piece_size,
-        ) else {
-            return Err(ReadAllFault::OutOfMemory);
-        };
-        return Ok((tokens, all));
-    }
-    let others = workers.saturating_sub(1);
-    let all = read_beside(
+    let others = if intake.is_ended() {
+        0
+    } else {
+        workers.saturating_sub(1)
+    };
+    start_and_read(
         rt,
         alloc,
         others,
-        cells,
+        others,
+        &mut reading,
         rooms,
-        &mut tokens,
+        &AtomicUsize::new(0),
+        &AtomicUsize::new(0),
         most,
         intake,
         source,
@@ -434,5 +442,14 @@ pub(crate) fn read_and_print<'a, W: Threads + Wait + Sync, So: Source>(
         verbatim,
         piece_size,
     )?;
+    let Reading {
+        cells: _,
+        tokens,
+        taken,
+        others: mut all,
+    } = reading;
+    if push(&mut all, taken).is_err() {
+        return Err(ReadAllFault::OutOfMemory);
+    }
     Ok((tokens, all))
 }

@@ -26,24 +26,27 @@ use std::alloc::Global;
 use std::sync::{Mutex, OnceLock, Wait};
 use std::thread::Threads;
 
-// A round has about so many bytes, whose memory is used again in the next one,
-const ROUND: usize = 17 << 19;
-
-// and no fewer texts than this,
+// A round has no fewer texts than this,
 const FEWEST: usize = 32;
 
 // nor more than this.
 const MOST: usize = 80;
 
-// A text of a round has no more bytes than this, as long as that is no small part of what was read before: the last texts of a round keep each worker
-// busy for as long as one takes.
-const TEXT: usize = 1 << 17;
-
-// So many texts of a round are read before its workers start.
-const FIRST: usize = 1;
-
 // So many rounds there are at most; what comes behind them is read as a whole.
 const ROUNDS: usize = 1 << 20;
+
+// About how many bytes a round has, whose memory is used again in the next one, and how many a text of it has at most, as long as that is no small
+// part of what was read before: the last texts of a round keep each worker busy for as long as one takes. Both are twice as long where not all columns
+// are read, since the lines then take less memory.
+fn round_sizes(plan: &RangePlan<'_>) -> (usize, usize)
+    ensures { 0 < result.1 }
+{
+    if plan.projection.places.len() < plan.projection.width {
+        (17 << 20, 1 << 18)
+    } else {
+        (17 << 19, 1 << 17)
+    }
+}
 
 // Keeps the memory of texts that are not needed any more, the first of them on top.
 fn keep_rooms<W: Wait>(rt: &W, rooms: &Mutex<Rooms>, cells: Vec<OnceLock<Vec<u8>>>) {
@@ -85,13 +88,14 @@ fn print_round<W: Threads + Wait + Sync, So: Source>(
     ensures cause { IsErrOf result ReadAllFault.Source → Rose (So.faults source.old) (So.faults source.new) }
     ensures later { So.faults source.old ≤ So.faults source.new }
 {
-    let Ok(cells) = make_cells(alloc, (ROUND / piece_size).max(FEWEST).min(MOST)) else {
+    let (round, _) = round_sizes(plan);
+    let Ok(cells) = make_cells(alloc, (round / piece_size).max(FEWEST).min(MOST)) else {
         return Err(ReadAllFault::OutOfMemory);
     };
     let most = rows_left(most, kept.rows);
     let (tokens, all) = read_and_print(
-        rt, alloc, workers, &cells, rooms, FIRST, most, intake, source, limit, schema, plan,
-        options, verbatim, piece_size,
+        rt, alloc, workers, &cells, rooms, most, intake, source, limit, schema, plan, options,
+        verbatim, piece_size,
     )?;
     let Ok(arrived) = front_arrived(alloc, &cells, &tokens, all, schema, plan, options, most) else {
         return Err(ReadAllFault::OutOfMemory);
@@ -135,12 +139,13 @@ fn print_rounds<W: Threads + Wait + Sync, So: Source>(
     ensures later { So.faults source.old ≤ So.faults source.new }
 {
     let rooms = Mutex::new(Rooms::new(alloc));
+    let (_, longest) = round_sizes(plan);
     let mut kept = Kept::none(alloc);
     for _ in 0..ROUNDS {
         if intake.is_ended() {
             return Ok(kept);
         }
-        let size = piece_size.min(TEXT).max(kept.end / PART);
+        let size = piece_size.min(longest).max(kept.end / PART);
         if !print_round(
             rt, alloc, workers, &mut kept, &rooms, intake, source, limit, schema, plan, options,
             verbatim, size, most,

@@ -1,5 +1,5 @@
 //! Texts of a source that workers take and print.
-ghost use Rattle.std.specs.Prelude.{◌<◌, All, IfOk};
+ghost use Rattle.std.specs.Prelude.{◌<◌, All};
 ghost use Rattle.pl_write.specs.Options.{cell_options};
 ghost use Rattle.pl_verbatim.specs.PrintedTexts.{CanPrint};
 ghost use Rattle.pl_verbatim.specs.Verbatim.{IsVerbatimOf};
@@ -16,11 +16,9 @@ use pl_rows::push::push;
 use pl_verbatim::verbatim::Verbatim;
 use pl_write::options::SerializeOptions;
 use pl_write::row_printer::RowPrinter;
-use std::alloc::{AllocError, Global};
+use std::alloc::Global;
 use std::sync::atomic::{AtomicUsize, Ordering};
 use std::sync::{Mutex, OnceLock, Wait};
-use std::thread;
-use std::thread::Threads;
 
 /// The regions that one worker takes, one after another, until one has no text or memory is wanting. It prints each, as far as it goes, and
 /// while a text is not there it makes room for one that comes later. After one that was not printed to its end nobody takes more, nor when all
@@ -78,39 +76,4 @@ pub(crate) fn take_texts<'a, W: Wait>(
         }
     }
     taken
-}
-
-/// The regions that so many workers take, one after another each, until there are no more.
-pub(crate) fn take_each<'a, W: Threads + Wait + Sync>(
-    rt: &W,
-    alloc: Global,
-    workers: usize,
-    cells: &'a [OnceLock<Vec<u8>>],
-    rooms: &Mutex<Rooms>,
-    next: &AtomicUsize,
-    so_far: &AtomicUsize,
-    most: Option<usize>,
-    schema: &Schema,
-    plan: &RangePlan<'_>,
-    options: &SerializeOptions,
-    verbatim: &Verbatim,
-    piece_size: usize,
-) -> Result<Vec<Vec<Taken<'a>>>, AllocError>
-    requires can { CanPrint plan.now schema.now }
-    requires verbatim { IsVerbatimOf plan.now schema.now (cell_options options.now) verbatim.now }
-    requires size { 0 < piece_size }
-    ensures { IfOk result (λ all. All (λ taken. All (IsTaken plan.now schema.now (cell_options options.now) cells.now) taken.items) all.items) }
-{
-    let take = |_worker: usize| -> Vec<Taken<'_>>
-        requires can { CanPrint plan.now schema.now }
-        requires verbatim { IsVerbatimOf plan.now schema.now (cell_options options.now) verbatim.now }
-        requires size { 0 < piece_size }
-        ensures { All (IsTaken plan.entry.now schema.entry.now (cell_options options.entry.now) cells.entry.now) result.items }
-    {
-        take_texts(
-            rt, alloc, cells, rooms, next, so_far, most, schema, plan, options, verbatim,
-            piece_size,
-        )
-    };
-    thread::map_indices(rt, alloc, workers, &take)
 }

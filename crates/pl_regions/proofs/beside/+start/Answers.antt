@@ -1,0 +1,16 @@
+use Rattle.std.proofs.Common.{rules, sym, ◌∙◌, ap, not, subst, Vec, Global}
+use Rattle.std.specs.Prelude.{All, OnOk, is_ok}
+use Rattle.std.proofs.lemmas.List.Elements.{All-push}
+use Rattle.pl_write.specs.Options.{cell_options}
+use Rattle.pl_regions.specs.Arriving.{IsTaken}
+use Rattle.pl_regions.specs.declared.taken.Taken.{Taken}
+use Rattle.pl_regions.proofs.RegionLaws.{ok-holds}
+use Rattle.pl_regions.proofs.beside.+start.Goals as goal
+
+pub returns-clause-others : goal.returns-clause-others
+returns-clause-others g t c =
+    let P = λ (taken : Vec Taken Global). All (IsTaken c.args.plan.now c.args.schema.now (cell_options c.args.options.now) c.args.reading.now.cells.now) taken.items in
+    let ended : OnOk c.join_mut-taken.result.1 (All P c.reading-1.given.0.others.items) = search rules in
+    let others = ok-holds c.join_mut-taken.result.1 _ (ap is_ok c.in_ok-read.was) ended in
+    let pushed = ok-holds c.push.result _ (c.is_err.ensures.negation ∙ ap not c.if-is_err.false) c.push.ensures.pushed in
+    subst (All P) (sym pushed) (All-push P _ _ others (search rules))

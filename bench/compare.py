@@ -154,7 +154,7 @@ def page(workloads, tasks, reads, sizes, best, rounds):
     lines += ["", "| Workload | |", "|---|---|", *[f"| {it} | {ABOUT[it]} |" for it in workloads]]
     lines += ["", "Not all do the same work:", "", "| Program | What it checks |", "|---|---|", *[f"| {task[0]} | {task[3]} |" for task in tasks]]
     if reads:
-        lines += ["", "## A read alone", "", "From a file in memory to typed columns, and no text of them: `pl_csv_read` makes the frame and lets it go, `fread` is that of data.table. MB of input a second:", "",
+        lines += ["", "## A read alone", "", "From a file in memory to typed columns, and no text of them: `pl_csv_read` makes the frame and ends, `fread` is that of data.table; neither frees what it read. MB of input a second:", "",
                   *table(workloads, reads, sizes, best), "", "The most memory that a process had, in bytes for each byte of input; R itself has some 60 MB:", "",
                   *memory(workloads, reads, sizes, best), "", "## What the numbers are"]
     lines += ["", "The time of R and of pandas is without the start of the language; that of the others is the whole process. Programs that are not in the table were not run. "

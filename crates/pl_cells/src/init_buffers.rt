@@ -73,7 +73,7 @@ fn buffer_at(
 {
     let (name, dtype) = schema.entry(place);
     let settings = ColumnSettings {
-        name: name.try_clone()?,
+        name: name.shared(alloc)?,
         quote_char,
         encoding,
     };

@@ -13,11 +13,12 @@ ghost use Rattle.pl_scan.specs.Dialect.{marks_of, comment_of};
 use memchr::memchr;
 use pl_cells::buffer::Buffer;
 use pl_frame::schema::Schema;
+use pl_frame::stack::Stack;
 use pl_rows::columns::{RangeColumns, empty_buffers, read_columns};
 use pl_rows::linking::{Front, link_left};
 use pl_rows::pieces::plan_behind;
 use pl_rows::plan::RangePlan;
-use pl_rows::stack::{Stack, empty_stacks, push_columns};
+use pl_rows::stack::{empty_stacks, push_columns};
 use pl_rows::whole_pieces::read_packed;
 use std::alloc::{AllocError, Global};
 

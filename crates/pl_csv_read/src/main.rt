@@ -11,11 +11,11 @@ use pl_read::csv_reader::{CsvReader, SerReader};
 use pl_words::job::Job;
 use pl_words::words::{WordsFault, parse_words};
 use std::alloc::Global;
-use std::io;
 use std::io::Write;
 use std::process::ExitCode;
 use std::sync::Wait;
 use std::thread::Threads;
+use std::{io, mem};
 
 // How the words say that the input is read; a making job has no meaning here. Refuses with a status.
 fn options_of(alloc: Global, words: &[String]) -> Result<CsvReadOptions, u8> {
@@ -35,7 +35,12 @@ fn read<W: Threads + Wait + Sync, R: io::Read + Drop>(
 ) -> Result<(usize, usize), u8> {
     let mut reader = CsvReader::with_options(alloc, ReadSource::new(input), options);
     match reader.finish(rt) {
-        Ok(frame) => Ok((frame.height(), frame.width())),
+        Ok(frame) => {
+            let size = (frame.height(), frame.width());
+            // The process ends, which gives its memory back at once.
+            mem::forget(frame);
+            Ok(size)
+        }
         // What a read says of its source.
         Err(PolarsError::IO) => Err(3),
         Err(fault) => Err(Refusal::Polars(fault).status()),

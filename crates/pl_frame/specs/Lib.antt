@@ -24,5 +24,7 @@ pub mod Packed
 pub mod Parts
 pub mod RowIndex
 pub mod Schema
+pub mod SmallText
+pub mod Stacks
 pub mod Translated
 pub mod Types

@@ -35,6 +35,6 @@ mod runs;
 pub mod schema;
 pub mod sink;
 pub mod source;
-pub mod stacked;
+pub mod stack;
 pub mod texts;
 mod whole;

@@ -11,19 +11,38 @@ use crate::error::{PolarsError, PolarsResult};
 use std::alloc::Global;
 use std::fmt;
 use std::marker::Model;
+use std::sync::ArcStr;
+
+// How a text is held: by one owner, or by several that share it.
+#[derive(Debug)]
+enum Held {
+    Alone(String),
+    Shared(ArcStr),
+}
+
+// By one call, so that no proof about a function that drops a name has two cases.
+impl Drop for Held {
+    fn drop(self) {
+        match self {
+            Held::Alone(text) => drop(text),
+            Held::Shared(text) => drop(text),
+        }
+    }
+}
 
 /// A short text, as the name of a column. Contracts see it as its bytes, which are UTF-8.
 #[derive(Debug, Drop)]
 pub struct PlSmallStr {
-    text: String,
+    held: Held,
 }
 
 impl Model for PlSmallStr {
-    ghost use Rattle.std.specs.Prelude.{ℕ, List, string_bytes};
+    ghost use Rattle.std.specs.Prelude.{ℕ, List};
+    ghost use Rattle.pl_frame.specs.SmallText.{held_bytes};
 
     ghost Value = { List ℕ };
 
-    ghost view = { λ name. string_bytes name.text };
+    ghost view = { λ name. held_bytes name.held };
 }
 
 impl PlSmallStr {
@@ -33,24 +52,50 @@ impl PlSmallStr {
         ensures refused { IsOkUnless result error.OutOfMemory }
     {
         match String::from_str(alloc, text) {
-            Ok(text) => Ok(PlSmallStr { text }),
+            Ok(text) => Ok(PlSmallStr {
+                held: Held::Alone(text),
+            }),
             Err(_) => Err(PolarsError::OutOfMemory),
         }
     }
 
-    /// An equal text. Refuses only want of memory.
+    /// An equal text, which is shared where this one is. Refuses only want of memory.
     pub fn try_clone(&self) -> PolarsResult<PlSmallStr>
         ensures equal { IfOk result (λ name. name ≡ self.now) }
         ensures refused { IsOkUnless result error.OutOfMemory }
     {
-        PlSmallStr::from_str(*self.text.allocator(), self.as_str())
+        match &self.held {
+            Held::Alone(text) => PlSmallStr::from_str(*text.allocator(), text.as_str()),
+            Held::Shared(text) => match text.clone() {
+                Ok(text) => Ok(PlSmallStr {
+                    held: Held::Shared(text),
+                }),
+                Err(_) => Err(PolarsError::OutOfMemory),
+            },
+        }
+    }
+
+    /// An equal text, whose copies share its bytes. Refuses only want of memory.
+    pub fn shared(&self, alloc: Global) -> PolarsResult<PlSmallStr>
+        ensures equal { IfOk result (λ name. name ≡ self.now) }
+        ensures refused { IsOkUnless result error.OutOfMemory }
+    {
+        match ArcStr::from_str(alloc, self.as_str()) {
+            Ok(text) => Ok(PlSmallStr {
+                held: Held::Shared(text),
+            }),
+            Err(_) => Err(PolarsError::OutOfMemory),
+        }
     }
 
     /// The text, without taking memory.
     pub fn as_str(&self) -> &str
         ensures { result.now ≡ self.now }
     {
-        self.text.as_str()
+        match &self.held {
+            Held::Alone(text) => text.as_str(),
+            Held::Shared(text) => text.as_str(),
+        }
     }
 }
 
@@ -113,7 +158,7 @@ impl fmt::Display for PlSmallStr {
     ghost output = { λ name. Some name };
 
     fn fmt<W: fmt::Write>(&self, f: &mut fmt::Formatter<W>) -> fmt::Result {
-        let text = self.text.as_str();
+        let text = self.as_str();
         write!(f, "{text}")
     }
 }

@@ -7,6 +7,7 @@ use crate::given::{name, numbers};
 use pl_frame::column::{Column, Value};
 use pl_frame::data_type::DataType;
 use pl_frame::frame::DataFrame;
+use pl_frame::stack::Stack;
 use pl_frame::texts::Texts;
 use std::alloc::Global;
 use std::process::Abort;
@@ -51,9 +52,12 @@ fn packed_texts(rt: &impl Abort, alloc: Global, values: &[&str]) -> Column
 fn stacked(rt: &impl Abort, alloc: Global, dtype: DataType, parts: [Column; 3]) -> Column
     requires { AllByRecursion (λ column. column.dtype ≡ dtype) parts }
 {
-    let columns = Vec::from_array(alloc, parts).expect(rt, "columns");
-    let stacked = Column::stacked(alloc, name(rt, alloc, "c"), dtype, columns);
-    stacked.expect(rt, "a column")
+    let [first, second, third] = parts;
+    let mut stack = Stack::new(alloc, name(rt, alloc, "c"), dtype);
+    stack.push(first).expect(rt, "room");
+    stack.push(second).expect(rt, "room");
+    stack.push(third).expect(rt, "room");
+    stack.into_column()
 }
 
 // Whether a column in parts is the same as one in a single piece, also when it is put into one.

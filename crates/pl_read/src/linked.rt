@@ -5,11 +5,12 @@ ghost use Rattle.pl_read.specs.Arriving.{CanTake, IsLinked, IsLinkedOn};
 ghost use Rattle.pl_rows.specs.Texts.{AreReadAt};
 
 use pl_frame::schema::Schema;
+use pl_frame::stack::Stack;
 use pl_intake::intake::Intake;
 use pl_intake::texts::left_behind;
 use pl_rows::linking::{Front, link_texts};
 use pl_rows::plan::RangePlan;
-use pl_rows::stack::{Stack, empty_stacks};
+use pl_rows::stack::empty_stacks;
 use pl_rows::whole_pieces::PieceFrame;
 use std::alloc::{AllocError, Global};
 

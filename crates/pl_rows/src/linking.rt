@@ -17,10 +17,11 @@ use crate::columns::{RangeColumns, read_columns};
 use crate::pieces::{end_behind, plan_behind};
 use crate::plan::RangePlan;
 use crate::range::is_below;
-use crate::stack::{Stack, empty_stacks, into_columns, push_columns};
+use crate::stack::{empty_stacks, into_columns, push_columns};
 use crate::whole_pieces::PieceFrame;
 use pl_board::piece::Posted;
 use pl_frame::schema::Schema;
+use pl_frame::stack::Stack;
 use std::alloc::{AllocError, Global};
 
 /// How many rows the pieces have that are linked, and where the last one ends.

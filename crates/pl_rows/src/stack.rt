@@ -1,4 +1,4 @@
-//! A column that others are put behind, one after another.
+//! Columns that others are put behind, one after another.
 ghost use Rattle.std.specs.Prelude.{◌≡◌, ◌++◌, ◌<◌, IfOk, OnOk, [], length, map};
 ghost use Rattle.pl_cells.specs.InitBuffers.{entry_at};
 ghost use Rattle.pl_frame.specs.FrameParts.{empty_columns, stacked, with_values, HaveSameColumns};
@@ -6,63 +6,9 @@ ghost use Rattle.std.specs.Prelude.{ℕ, slice_index};
 
 use crate::push::push;
 use pl_frame::column::Column;
-use pl_frame::data_type::DataType;
-use pl_frame::name::PlSmallStr;
 use pl_frame::schema::Schema;
+use pl_frame::stack::Stack;
 use std::alloc::{AllocError, Global};
-use std::marker::Model;
-
-/// A column of which the parts are not linked yet.
-#[derive(Drop)]
-pub struct Stack {
-    name: PlSmallStr,
-    dtype: DataType,
-    parts: Vec<Column>,
-}
-
-impl Model for Stack {
-    ghost use Rattle.std.specs.Prelude.{◌≡◌};
-    ghost use Rattle.std.specs.List.{flat_map, AllByRecursion};
-    ghost use Rattle.pl_frame.specs.Frame.{ColumnValue};
-
-    ghost Value = { ColumnValue };
-
-    ghost view = { λ s. record { name = s.name; dtype = s.dtype; values = flat_map (λ part. part.values) s.parts.items } };
-
-    ghost invariant = { λ s. AllByRecursion (λ part. part.dtype ≡ s.dtype) s.parts.items };
-}
-
-impl Stack {
-    /// One without cells, without taking memory.
-    pub fn new(alloc: Global, name: PlSmallStr, dtype: DataType) -> Stack
-        ensures { result ≡ record { name = name; dtype = dtype; values = [] } }
-    {
-        Stack {
-            name,
-            dtype,
-            parts: Vec::new(alloc),
-        }
-    }
-
-    // Puts a column of its type behind it. Refuses only want of memory.
-    fn push(&mut self, part: Column) -> Result<(), AllocError>
-        requires { part.dtype ≡ self.old.dtype }
-        ensures { OnOk result (self.new ≡ with_values self.old (self.old.values ++ part.values)) }
-    {
-        if part.len() == 0 {
-            drop(part);
-            return Ok(());
-        }
-        push(&mut self.parts, part)
-    }
-
-    // The column, in which the parts are linked. Refuses only want of memory.
-    fn into_column(self, alloc: Global) -> Result<Column, AllocError>
-        ensures { IfOk result (λ column. column ≡ self) }
-    {
-        Column::stacked(alloc, self.name, self.dtype, self.parts)
-    }
-}
 
 // A stack without cells for a column of a schema. Refuses only want of memory.
 fn empty_stack(alloc: Global, schema: &Schema, place: usize) -> Result<Stack, AllocError>
@@ -123,6 +69,18 @@ pub fn empty_stacks(
     }
 }
 
+// Puts a column behind a stack of its type. Refuses only want of memory.
+fn push_part(stack: &mut Stack, part: Column) -> Result<(), AllocError>
+    requires { part.dtype ≡ stack.old.dtype }
+    ensures { OnOk result (stack.new ≡ with_values stack.old (stack.old.values ++ part.values)) }
+{
+    if part.len() == 0 {
+        drop(part);
+        return Ok(());
+    }
+    stack.push(part)
+}
+
 /// Puts a column behind each stack. Refuses only want of memory.
 pub fn push_columns(stacks: &mut [Stack], columns: Vec<Column>) -> Result<(), AllocError>
     requires { HaveSameColumns stacks.old columns.items }
@@ -130,19 +88,19 @@ pub fn push_columns(stacks: &mut [Stack], columns: Vec<Column>) -> Result<(), Al
 {
     let mut place = 0;
     for column in columns {
-        stacks[place].push(column)?;
+        push_part(&mut stacks[place], column)?;
         place += 1;
     }
     Ok(())
 }
 
 // Puts the columns, in which the parts of each stack are linked, into a list that is empty. Refuses only want of memory.
-fn link_all(alloc: Global, columns: &mut Vec<Column>, stacks: Vec<Stack>) -> Result<(), AllocError>
+fn link_all(columns: &mut Vec<Column>, stacks: Vec<Stack>) -> Result<(), AllocError>
     requires none { columns.old.items ≡ [] }
     ensures { OnOk result (columns.new.items ≡ stacks.items) }
 {
     for stack in stacks {
-        push(columns, stack.into_column(alloc)?)?;
+        push(columns, stack.into_column())?;
     }
     Ok(())
 }
@@ -152,7 +110,7 @@ pub fn into_columns(alloc: Global, stacks: Vec<Stack>) -> Result<Vec<Column>, Al
     ensures { IfOk result (λ columns. columns.items ≡ stacks.items) }
 {
     let mut columns = Vec::new(alloc);
-    match link_all(alloc, &mut columns, stacks) {
+    match link_all(&mut columns, stacks) {
         Ok(()) => Ok(columns),
         Err(fault) => {
             drop(columns);

@@ -82,15 +82,20 @@ pub inside-parts : (text : List ℕ) (at end q : ℕ) → at + 2 ≤ end → end
 inside-parts text at end q long inside is =
     is.text_is ∙ ap (λ l. q ∷ (l ++ q ∷ [])) (sym (inside-slice text at end q (doubled q is.inner) long inside is.text_is))
 
+-- a text that needs no quotes, between quotes
+pub bare-between : (s q : ℕ) (text : List ℕ) (at to : ℕ) → at + 1 ≤ to → to < length text → get_or text at 0 ≡ q → get_or text to 0 ≡ q → IsBareText s q (slice_range text (at + 1) to)
+    → IsQuotedText q (slice_range text at (to + 1))
+bare-between s q text at to ordered inside opens closes bare =
+    let inner = slice_range text (at + 1) to in
+    let none = (neither (length inner == 0) (list_any (is_special s q) inner) bare.bare).1 in
+    record {
+      inner = inner;
+      utf8 = bare.utf8;
+      text_is = quotes-at text at to q ordered inside opens closes ∙ ap (λ l. q ∷ (l ++ q ∷ [])) (sym (doubled-lacks q inner (bare-lacks s q inner none).0));
+    }
+
 -- a text without quotes in it, between quotes
 pub bare-quoted : (q : ℕ) (text : List ℕ) (at count : ℕ) → at + 1 + 32 ≤ length text → count ≡ prefix_len (λ x. not (is_stop q q x)) (slice_range text (at + 1) (at + 1 + 32)) → 0 < count → count < 32
     → get_or text at 0 ≡ q → get_or text (at + 1 + count) 0 ≡ q → IsQuotedText q (slice_range text at (at + 1 + count + 1))
 bare-quoted q text at count room is some few opens closes =
-    let inner = slice_range text (at + 1) (at + 1 + count) in
-    let bare : IsBareText q q inner = front-bare q q text (at + 1) 32 count room is some few in
-    let none = (neither (length inner == 0) (list_any (is_special q q) inner) bare.bare).1 in
-    record {
-      inner = inner;
-      utf8 = bare.utf8;
-      text_is = quotes-at text at (at + 1 + count) q (omega arith) (omega (arith, room, few)) opens closes ∙ ap (λ l. q ∷ (l ++ q ∷ [])) (sym (doubled-lacks q inner (bare-lacks q q inner none).0));
-    }
+    bare-between q q text at (at + 1 + count) (omega arith) (omega (arith, room, few)) opens closes (front-bare q q text (at + 1) 32 count room is some few)

@@ -121,6 +121,38 @@ fn find_moment(
     })
 }
 
+// What is written of the cell of a text that stands between quotes which it does not need, with a mark behind it.
+#[inline(always)]
+fn find_bare_inside(
+    text: &[u8],
+    at: usize,
+    kind: Kind,
+    mark: u8,
+    separator: u8,
+    quote: u8,
+    form: &Form,
+) -> Option<Found>
+    requires inside { at < length text.now }
+    requires opens { slice_index text.now at ≡ quote }
+    requires text { kind ≡ variant.Text }
+    ensures { IfSome result (IsFound text.now at kind mark separator quote form.now) }
+{
+    if form.quotes_values || at + 1 >= text.len() {
+        return None;
+    }
+    let to = bare_text_end(text, at + 1, form.separator, quote)?;
+    if to + 1 >= text.len() || text[to] != quote || text[to + 1] != mark {
+        return None;
+    }
+    Some(Found {
+        end: to + 1,
+        start: at + 1,
+        stop: to,
+        zeros: 0,
+        is_quoted: false,
+    })
+}
+
 // What is written of the cell of a text that stands between quotes, with a mark behind it.
 #[inline(always)]
 fn find_quoted_text(
@@ -138,6 +170,9 @@ fn find_quoted_text(
     requires text { kind ≡ variant.Text }
     ensures { IfSome result (IsFound text.now at kind mark separator quote form.now) }
 {
+    if let Some(found) = find_bare_inside(text, at, kind, mark, separator, quote, form) {
+        return Some(found);
+    }
     let end = quoted_text_end(text, at, quote)?;
     if end >= text.len() || text[end] != mark {
         return None;
@@ -195,7 +230,7 @@ fn find_quoted_value<const CALLER: usize>(
 }
 
 // What is written of the cell between quotes at a place, with a mark behind them.
-#[inline(never)]
+#[inline(always)]
 fn find_quoted(
     text: &[u8],
     at: usize,

@@ -10,8 +10,8 @@ use Rattle.pl_rows.proofs.stack.push_columns.Goals as goal
 pub loop-column-init : goal.loop-column-init
 loop-column-init c = record { stacks_are = front_stacked-none c.args.stacks.now; place_is = refl }
 
-pub push-requires : goal.push-requires
-push-requires c =
+pub push_part-requires : goal.push_part-requires
+push_part-requires c =
     let given = c.args.stacks.now in
     let done = c.loop-column.yielded in
     let rest = into_iter_items c.next.new.self in
@@ -37,7 +37,7 @@ loop-column-preserved c =
     let put : ColumnValue → ColumnValue = λ old. with_values old (old.values ++ column.values) in
     record {
       stacks_are =
-          ap (set c.loop-column.stacks c.loop-column.place) c.in_ok-push.ensures
+          ap (set c.loop-column.stacks c.loop-column.place) c.in_ok-push_part.ensures
           ∙ ap (λ s. set s c.loop-column.place (put (get_or s c.loop-column.place d))) stacks_are
           ∙ ap (λ k. set (front_stacked given done) k (put (get_or (front_stacked given done) k d))) place_is
           ∙ sym (front_stacked-more given done column d inside);

@@ -1,5 +1,5 @@
 use Rattle.pl_frame.proofs.HeldLaws.{codes-append}
-use Rattle.pl_frame.proofs.stacked.push_all.Goals as goal
+use Rattle.pl_frame.proofs.stack.push_all.Goals as goal
 
 pub returns-in-Some-clause-suits : goal.returns-in-Some-clause-suits
 returns-in-Some-clause-suits c =

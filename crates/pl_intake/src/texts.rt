@@ -49,15 +49,23 @@ pub fn make_cells(alloc: Global, count: usize) -> Result<Vec<OnceLock<Vec<u8>>>,
     Ok(cells)
 }
 
-// How long the text of a place is, about, in bytes. Those of all places have more bytes than the largest input, where a piece is as long as it
-// is by default.
-fn text_size(piece_size: usize, place: usize) -> usize {
+/// How long the text of a place is, about, in bytes: a piece, but for the first ones.
+pub fn text_size(piece_size: usize, place: usize) -> usize {
     let size = if place < FEW {
         piece_size / 2 + 1
     } else {
-        piece_size.saturating_mul(1 << (place / ALIKE).min(30))
+        piece_size
     };
     size.min(SHORT << (place / FEW).min(30))
+}
+
+// How long the text of a place is, where all are kept. Those of all places have more bytes than the largest input, where a piece is as long as it
+// is by default.
+fn kept_size(piece_size: usize, place: usize) -> usize {
+    text_size(
+        piece_size.saturating_mul(1 << (place / ALIKE).min(30)),
+        place,
+    )
 }
 
 /// Reads texts of a source into cells behind those that hold one, one after another, until so many do or there are no more. Keeps what shows
@@ -94,7 +102,7 @@ pub fn read_texts<'a, W: Wait, So: Source>(
             return Ok(());
         }
         let room = rooms.lock(rt).take(alloc);
-        let size = text_size(piece_size, place);
+        let size = kept_size(piece_size, place);
         let text = intake.next_text(source, room, size, limit, dialect, width)?;
         rooms.lock(rt).keep_len(text.len());
         match cells[place].set(rt, text) {
@@ -165,7 +173,7 @@ pub fn take_text<'a, W: Wait>(
         return None;
     }
     if cells[place].witness().is_none() {
-        make_ahead(rt, alloc, rooms, text_size(piece_size, place));
+        make_ahead(rt, alloc, rooms, kept_size(piece_size, place));
     }
     let token = wait_text(rt, &cells[place])?;
     Some(TakenText { place, token })

@@ -43,7 +43,7 @@ pub struct CsvReadOptions {
     pub parse_options: CsvParseOptions,
     /// Whether the first record is a header. Default: it is (docs/grammar.md, "The starting point").
     pub has_header: bool,
-    /// About how many bytes of the data are taken at a time, and more where 128 columns or more are read. Default 262144
+    /// About how many bytes of the data are taken at a time, and more where 256 columns or more are read. Default 262144
     /// (docs/options.md).
     pub chunk_size: usize,
     /// How many items are skipped before the header. Default 0 (docs/grammar.md, "The starting point").

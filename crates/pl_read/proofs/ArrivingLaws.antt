@@ -1,20 +1,17 @@
 -- Texts of a source that workers read apart, at their places.
-use Rattle.std.proofs.Common.{◌≡◌, ℕ, ◌+◌, ◌-◌, ◌<◌, ◌≤◌, ◌^◌, true, List, [], ◌∷◌, ◌++◌, length, map, take, drop, get_or, set, Option, None, Some, refl, sym, ◌∙◌, ap, subst, inl, inr, arith, length-append, length-take, append-nil, append_assoc}
-use Rattle.std.specs.Prelude.{All, IfSome}
+use Rattle.std.proofs.Common.{◌≡◌, ℕ, ◌+◌, ◌-◌, ◌≤◌, ◌^◌, true, List, [], ◌∷◌, ◌++◌, length, map, take, drop, get_or, Option, None, Some, refl, sym, ◌∙◌, ap, subst, arith, length-take, append-nil, append_assoc}
+use Rattle.std.specs.Prelude.{IfSome}
 use Rattle.std.specs.Io.KnownBytes.{IsAtEnd}
-use Rattle.std.specs.Iterator.{Yields}
-use Rattle.std.specs.Vec.Iter.{into_iter_items, into_iter_steps}
-use Rattle.std.specs.declared.vec.IntoIter.{IntoIter}
-use Rattle.std.proofs.lemmas.Bool.{cases_eq}
+use Rattle.std.specs.List.{concat}
 use Rattle.std.proofs.Math.Seq.{drop-append-add}
-use Rattle.std.proofs.lemmas.List.{get_or-set_same, get_or-set_other, get_or_at, length-set, take-append-drop, take_all}
+use Rattle.std.proofs.lemmas.List.{take-append-drop, take_all}
+use Rattle.std.proofs.lemmas.List.Folds.{concat-append}
 use Rattle.pl_frame.proofs.Known.{Consumes-append}
 use Rattle.pl_frame.specs.FrameParts.{empty_columns}
 use Rattle.pl_cells.specs.InitBuffers.{entry_at}
 use Rattle.pl_frame.specs.Schema.{Entry}
 use Rattle.pl_scan.specs.Dialect.{marks_of, comment_of}
 use Rattle.pl_table.specs.Rows.{rows}
-use Rattle.pl_cells.proofs.CastWorkerLaws.{taken_front}
 use Rattle.pl_intake.specs.Intake.{HasGiven, HasGainedAll}
 use Rattle.pl_intake.specs.declared.intake.Intake.{Intake}
 use Rattle.pl_intake.proofs.IntakeLaws.{HasGiven-nothing}
@@ -26,20 +23,8 @@ use Rattle.pl_rows.specs.Ranges.{IsRangeRead}
 use Rattle.pl_rows.specs.Texts.{AreReadAt}
 use Rattle.pl_rows.specs.WholePieces.{IsPieceFrame, IsPieceFound, IsSoundText, text_frame, IsFrontLinked}
 use Rattle.pl_rows.proofs.LinkLaws.{IsFrontLinked-none}
-use Rattle.pl_read.specs.Arriving.{HasArrived, IsLinked, IsLinkedOn, HasLinked}
+use Rattle.pl_read.specs.Arriving.{HasArrived, IsLinked, IsLinkedUpTo, IsLinkedOn, HasHanded, HasInLine, HasLinked}
 use Rattle.pl_read.specs.declared.linked.Linked.{Linked}
-
--- what holds of all holds of the next one
-pub next-of : {X A : Type 0} (P : X → Type 0) (all : List X) (start : IntoIter X A) (done : List X) (now : IntoIter X A) (next : X) (left : IntoIter X A) → All P all → into_iter_items start ≡ all
-    → Yields into_iter_steps start done now → into_iter_items now ≡ next ∷ into_iter_items left → P next
-next-of P all start done now next left holds gives taken step =
-    let rest = into_iter_items left in
-    let whole : all ≡ done ++ next ∷ rest = sym gives ∙ taken_front start done now taken ∙ ap (λ l. done ++ l) step in
-    subst P (ap (λ l. get_or l (length done) next) whole ∙ get_or_at done next rest next (length done) refl) (holds (length done) next (omega (arith, ap length whole, length-append done (next ∷ rest))))
-
--- nothing was read yet
-pub AreReadAt-none : (plan : RangePlan) (schema : List Entry) (texts : List (List ℕ)) (reads : List (Option PieceFrame)) → All (λ read. read ≡ None) reads → AreReadAt plan schema texts reads
-AreReadAt-none plan schema texts reads none k d inside = subst (λ found. IfSome found (IsPieceFrame plan schema (get_or texts k []))) (sym (none k d inside)) tt
 
 -- what was found of a text is what was read of it
 pub found-frame : (plan : RangePlan) (schema : List Entry) (text : List ℕ) (read : Option PieceFrame) → IsPieceFound plan schema text read → IfSome read (IsPieceFrame plan schema text)
@@ -47,28 +32,21 @@ found-frame plan schema text None found = tt
 found-frame plan schema text (Some read) found = found.0
 
 -- of one text
-pub AreReadAt-one : (plan : RangePlan) (schema : List Entry) (text : List ℕ) (read : Option PieceFrame) (reads : List (Option PieceFrame)) → reads ≡ read ∷ [] → IsPieceFound plan schema text read
+pub AreReadAt-only : (plan : RangePlan) (schema : List Entry) (text : List ℕ) (read : Option PieceFrame) (reads : List (Option PieceFrame)) → reads ≡ read ∷ [] → IfSome read (IsPieceFrame plan schema text)
     → AreReadAt plan schema (text ∷ []) reads
-AreReadAt-one plan schema text read reads is found =
-    let own : IfSome read (IsPieceFrame plan schema text) = found-frame plan schema text read found in
+AreReadAt-only plan schema text read reads is own =
     subst (AreReadAt plan schema (text ∷ [])) (sym is) (λ k d inside.
     let first : k ≡ 0 = omega (arith, inside) in
     subst (λ n. IfSome (get_or (read ∷ []) n d) (IsPieceFrame plan schema (get_or (text ∷ []) n []))) (sym first) own)
 
--- a text more was read
-pub AreReadAt-more : (plan : RangePlan) (schema : List Entry) (texts : List (List ℕ)) (reads : List (Option PieceFrame)) (place : ℕ) (read : PieceFrame) → AreReadAt plan schema texts reads
-    → place < length reads → IsPieceFrame plan schema (get_or texts place []) read → AreReadAt plan schema texts (set reads place (Some read))
-AreReadAt-more plan schema texts reads place read are within own k d inside =
-    elim (cases_eq k place) [
-      | inl here ↦
-          subst (λ found. IfSome found (IsPieceFrame plan schema (get_or texts k [])))
-          (sym (ap (λ n. get_or (set reads place (Some read)) n d) here ∙ get_or-set_same reads place (Some read) d within))
-          (subst (λ n. IsPieceFrame plan schema (get_or texts n []) read) (sym here) own)
-      | inr other ↦
-          subst (λ found. IfSome found (IsPieceFrame plan schema (get_or texts k [])))
-          (sym (get_or-set_other reads place k (Some read) d other))
-          (are k d (omega (arith, inside, length-set reads place (Some read))))
-    ]
+pub AreReadAt-one : (plan : RangePlan) (schema : List Entry) (text : List ℕ) (read : Option PieceFrame) (reads : List (Option PieceFrame)) → reads ≡ read ∷ [] → IsPieceFound plan schema text read
+    → AreReadAt plan schema (text ∷ []) reads
+AreReadAt-one plan schema text read reads is found = AreReadAt-only plan schema text read reads is (found-frame plan schema text read found)
+
+-- what holds of a value where there is one
+pub some-meant : (P Q : PieceFrame → Type 0) (read : Option PieceFrame) → ((one : PieceFrame) → P one → Q one) → IfSome read P → IfSome read Q
+some-meant P Q None meant holds = tt
+some-meant P Q (Some one) meant holds = meant one holds
 
 -- all bytes came, and their rows were read
 pub HasArrived-read : (plan : RangePlan) (schema : List Entry) (before now after : Option (List ℕ)) (limit : ℕ) (intake next last : Intake) (front rest : List ℕ) (read : RangeColumns)
@@ -109,11 +87,11 @@ IsLinked-front plan schema range linked front =
       end_is = sym size;
     }
 
--- texts behind a front, and what is left of them taken back
-pub IsLinkedOn-front : (plan : RangePlan) (schema : List Entry) (before texts left : List ℕ) (start : ℕ) (intake next : Intake) (linked : Linked)
+-- texts behind a front, and what is left of them
+pub IsLinkedUpTo-front : (plan : RangePlan) (schema : List Entry) (before texts left : List ℕ) (start : ℕ) (linked : Linked)
     → IsFrontLinked plan schema (before ++ texts) linked.stacks.items linked.front.rows linked.front.end → start ≡ length before → start ≤ linked.front.end → left ≡ drop (linked.front.end - start) (texts ++ [])
-    → next.rest.items ≡ left ++ intake.rest.items → next.size ≡ intake.size → next.is_ended ≡ intake.is_ended → IsLinkedOn plan schema (before ++ texts) intake next linked
-IsLinkedOn-front plan schema before texts left start intake next linked front start_is after left_is rest_is size ended =
+    → IsLinkedUpTo plan schema (before ++ texts) left linked
+IsLinkedUpTo-front plan schema before texts left start linked front start_is after left_is =
     let end = linked.front.end in
     let all = before ++ texts in
     let more = end - start in
@@ -123,11 +101,49 @@ IsLinkedOn-front plan schema before texts left start intake next linked front st
     record {
       front = take end all;
       is = IsLinked-front plan schema all linked front;
-      are = ap (λ l. l ++ intake.rest.items) (sym (take-append-drop end all)) ∙ append_assoc (take end all) (drop end all) intake.rest.items
-          ∙ ap (λ l. take end all ++ (l ++ intake.rest.items)) behind ∙ ap (λ l. take end all ++ l) (sym rest_is);
-      size_is = size;
-      ended_is = ended;
+      are = sym (take-append-drop end all) ∙ ap (λ l. take end all ++ l) behind;
     }
+
+-- what is left was taken back
+pub IsLinkedOn-back : (plan : RangePlan) (schema : List Entry) (text left : List ℕ) (intake next : Intake) (linked : Linked) → IsLinkedUpTo plan schema text left linked → next.rest.items ≡ left ++ intake.rest.items
+    → next.size ≡ intake.size → next.is_ended ≡ intake.is_ended → IsLinkedOn plan schema text intake next linked
+IsLinkedOn-back plan schema text left intake next linked up rest_is size ended = record {
+  front = up.front;
+  is = up.is;
+  are = ap (λ l. l ++ intake.rest.items) up.are ∙ append_assoc up.front left intake.rest.items ∙ ap (λ l. up.front ++ l) (sym rest_is);
+  size_is = size;
+  ended_is = ended;
+}
+
+-- all of a text is linked, and behind it stands what is left
+pub IsLinkedUpTo-all : (plan : RangePlan) (schema : List Entry) (text : List ℕ) (linked : Linked) → IsLinked plan schema text linked → IsLinkedUpTo plan schema text ([] ++ concat []) linked
+IsLinkedUpTo-all plan schema text linked is = record { front = text; is = is; are = sym (append-nil text) }
+
+-- the first of the texts behind is linked up to a place, and the others stay behind that
+pub IsLinkedUpTo-next : (plan : RangePlan) (schema : List Entry) (text one left : List ℕ) (others : List (List ℕ)) (old linked : Linked) (up : IsLinkedUpTo plan schema text (one ++ concat others) old)
+    → IsLinkedUpTo plan schema (up.front ++ one) left linked → IsLinkedUpTo plan schema text (left ++ concat others) linked
+IsLinkedUpTo-next plan schema text one left others old linked up next = record {
+  front = next.front;
+  is = next.is;
+  are = up.are ∙ sym (append_assoc up.front one (concat others)) ∙ ap (λ l. l ++ concat others) next.are ∙ append_assoc next.front left (concat others);
+}
+
+-- the same, of what is equal
+pub IsLinkedUpTo-same : (plan : RangePlan) (schema : List Entry) (text left now : List ℕ) (pending others : List (List ℕ)) (old linked : Linked) → now ≡ left → others ≡ pending → linked ≡ old
+    → IsLinkedUpTo plan schema text (left ++ concat pending) old → IsLinkedUpTo plan schema text (now ++ concat others) linked
+IsLinkedUpTo-same plan schema text left now pending others old linked same_left same_pending same up =
+    subst (λ (l : Linked). IsLinkedUpTo plan schema text (now ++ concat others) l) (sym same)
+    (subst (λ (l : List ℕ). IsLinkedUpTo plan schema text l old) (sym (ap (λ l. l ++ concat others) same_left ∙ ap (λ p. left ++ concat p) same_pending)) up)
+
+-- texts were handed out behind it
+pub IsLinkedUpTo-handed : (plan : RangePlan) (schema : List Entry) (text left : List ℕ) (old more new : List (List ℕ)) (linked : Linked) → IsLinkedUpTo plan schema text (left ++ concat old) linked → new ≡ old ++ more
+    → IsLinkedUpTo plan schema (text ++ concat more) (left ++ concat new) linked
+IsLinkedUpTo-handed plan schema text left old more new linked up are = record {
+  front = up.front;
+  is = up.is;
+  are = ap (λ l. l ++ concat more) up.are ∙ append_assoc up.front (left ++ concat old) (concat more)
+      ∙ ap (λ l. up.front ++ l) (append_assoc left (concat old) (concat more) ∙ ap (λ l. left ++ l) (sym (concat-append old more) ∙ ap concat (sym are)));
+}
 
 -- nothing came, and nothing is linked
 pub HasLinked-none : (plan : RangePlan) (schema : List Entry) (before : Option (List ℕ)) (intake : Intake) (linked : Linked) → intake.size ≤ 2 ^ 64 - 1 → (intake.is_ended ≡ true → IsAtEnd before)
@@ -157,4 +173,70 @@ HasLinked-more plan schema before now after first intake next last old linked te
         are = both.are ∙ on.are;
       };
       is = on.is;
+    }
+
+-- ---- texts that are linked, and others behind them
+
+-- a text came, and was taken back
+pub HasHanded-back : (before now : Option (List ℕ)) (intake next kept : Intake) (text : List ℕ) (pending : List (List ℕ)) → HasGiven before now (2 ^ 64 - 1) intake next text → kept.rest.items ≡ text ++ next.rest.items
+    → kept.size ≡ next.size → kept.is_ended ≡ next.is_ended → HasHanded before now intake kept pending pending
+HasHanded-back before now intake next kept text pending given rest size ended = record {
+  more = [];
+  given = record {
+    bytes = given.bytes;
+    gained = record {
+      came = given.gained.came;
+      size_is = size ∙ given.gained.size_is;
+      within = omega (arith, size, given.gained.within);
+      ended = λ is. given.gained.ended (sym ended ∙ is);
+    };
+    are = given.are ∙ sym rest;
+  };
+  are = sym (append-nil pending);
+}
+
+-- none stand behind them
+pub HasInLine-first : (plan : RangePlan) (schema : List Entry) (before now : Option (List ℕ)) (first intake : Intake) (linked : Linked) (left : List ℕ) (pending : List (List ℕ))
+    → HasLinked plan schema before now first intake linked → left ≡ [] → pending ≡ [] → HasInLine plan schema before now first intake linked left pending
+HasInLine-first plan schema before now first intake linked left pending has none empty = record {
+  text = has.text;
+  given = has.given;
+  is = subst (λ (l : List ℕ). IsLinkedUpTo plan schema has.text l linked) (sym (ap (λ l. l ++ concat pending) none ∙ ap concat empty)) (IsLinkedUpTo-all plan schema has.text linked has.is);
+}
+
+-- more of them are linked
+pub HasInLine-linked : (plan : RangePlan) (schema : List Entry) (before now : Option (List ℕ)) (first intake : Intake) (old linked : Linked) (left after : List ℕ) (pending others : List (List ℕ))
+    → HasInLine plan schema before now first intake old left pending
+    → ((text : List ℕ) → IsLinkedUpTo plan schema text (left ++ concat pending) old → IsLinkedUpTo plan schema text (after ++ concat others) linked)
+    → HasInLine plan schema before now first intake linked after others
+HasInLine-linked plan schema before now first intake old linked left after pending others has more = record { text = has.text; given = has.given; is = more has.text has.is }
+
+-- texts came, and were handed out
+pub HasInLine-handed : (plan : RangePlan) (schema : List Entry) (before now after : Option (List ℕ)) (first intake next : Intake) (linked : Linked) (left : List ℕ) (old new : List (List ℕ))
+    → HasInLine plan schema before now first intake linked left old → HasHanded now after intake next old new → HasInLine plan schema before after first next linked left new
+HasInLine-handed plan schema before now after first intake next linked left old new has handed = record {
+  text = has.text ++ concat handed.more;
+  given = HasGiven-more before now after (2 ^ 64 - 1) first intake next has.text (concat handed.more) has.given handed.given;
+  is = IsLinkedUpTo-handed plan schema has.text left old handed.more new linked has.is handed.are;
+}
+
+-- what stands behind them was taken back
+pub HasInLine-back : (plan : RangePlan) (schema : List Entry) (before now : Option (List ℕ)) (first intake next : Intake) (linked : Linked) (left : List ℕ) (pending : List (List ℕ))
+    → HasInLine plan schema before now first intake linked left pending → next.rest.items ≡ (left ++ concat pending) ++ intake.rest.items → next.size ≡ intake.size → next.is_ended ≡ intake.is_ended
+    → HasLinked plan schema before now first next linked
+HasInLine-back plan schema before now first intake next linked left pending has rest size ended =
+    let up = has.is in
+    record {
+      text = up.front;
+      given = record {
+        bytes = has.given.bytes;
+        gained = record {
+          came = has.given.gained.came;
+          size_is = size ∙ has.given.gained.size_is;
+          within = omega (arith, size, has.given.gained.within);
+          ended = λ is. has.given.gained.ended (sym ended ∙ is);
+        };
+        are = has.given.are ∙ ap (λ l. l ++ intake.rest.items) up.are ∙ append_assoc up.front (left ++ concat pending) intake.rest.items ∙ ap (λ l. up.front ++ l) (sym rest);
+      };
+      is = up.is;
     }

@@ -1,100 +1,126 @@
-//! Texts of a source, read into columns by workers: each text is read while those behind it come.
-ghost use Rattle.std.specs.Prelude.{◌≡◌, ◌++◌, ◌-◌, ◌<◌, ◌≤◌, ◌^◌, ℕ, List, Option, None, true, All, IfOk, OnOk, IsErrOf, length, map};
-ghost use Rattle.std.specs.Io.KnownBytes.{IsAtEnd};
+//! Texts of a source, read into columns by workers while those behind them come, and linked as soon as all before them are.
+ghost use Rattle.std.specs.Prelude.{◌≡◌, ◌++◌, ◌-◌, ◌<◌, ◌≤◌, ◌^◌, ℕ, List, Option, OnOk, IfOk, IsErrOf, length, map};
 ghost use Rattle.std.specs.List.{concat};
 ghost use Rattle.std.specs.Thread.{IsSync};
 ghost use Rattle.pl_frame.specs.Came.{IsReadOn};
 ghost use Rattle.pl_frame.specs.Causes.{Rose};
-ghost use Rattle.pl_intake.specs.Intake.{HasGiven};
-ghost use Rattle.pl_intake.specs.Texts.{AreSetIn};
+ghost use Rattle.pl_frame.specs.Dialect.{IsDialect};
 ghost use Rattle.pl_intake.specs.declared.intake.Intake.{Intake};
-ghost use Rattle.pl_read.specs.Arriving.{CanTake, IsTaken, HasArrived};
-ghost use Rattle.pl_rows.specs.Ranges.{IsRangeRead};
-ghost use Rattle.pl_rows.specs.Texts.{AreReadAt};
+ghost use Rattle.pl_read.specs.Arriving.{CanTake, IsLinked, IsLinkedUpTo, HasHanded, HasInLine, HasLinked};
+ghost use Rattle.pl_rows.specs.declared.whole_pieces.PieceFrame.{PieceFrame};
+ghost use Rattle.pl_rows.specs.WholePieces.{IsPieceFrame};
+ghost use Rattle.pl_scan.specs.Dialect.{marks_of, comment_of};
 
+use crate::handed::{Cell, HandedText, Handing, PendingText};
+use crate::line::{Line, add, keep_all};
+use crate::linked::Linked;
+use crate::queue::Queue;
 use pl_frame::read_all::ReadAllFault;
 use pl_frame::schema::Schema;
 use pl_frame::source::Source;
 use pl_intake::intake::Intake;
-use pl_intake::rooms::Rooms;
-use pl_intake::texts::{FIRST, TakenText, close_cells, read_texts, take_text};
+use pl_intake::texts::text_size;
 use pl_rows::columns::empty_buffers;
 use pl_rows::plan::RangePlan;
-use pl_rows::push::push;
-use pl_rows::whole_pieces::{PieceFrame, read_packed};
-use std::alloc::{AllocError, Global};
-use std::sync::atomic::{AtomicUsize, Ordering};
-use std::sync::{Mutex, OnceLock, OnceToken, Wait};
+use std::alloc::Global;
+use std::collections::VecDeque;
+use std::sync::Wait;
 use std::thread;
 use std::thread::Threads;
 
-/// What was read of a text: the place of its cell, what shows that the cell holds it, and its columns.
-#[derive(Drop)]
-pub(crate) struct Taken<'a> {
-    place: usize,
-    token: OnceToken<'a, Vec<u8>>,
-    read: PieceFrame,
-}
-
-// The texts that one worker takes, one after another, and reads into columns, until one has no bytes, one can't be read apart or memory is
-// wanting. After one that can't be read apart nobody takes more.
-fn take_texts<'a, W: Wait>(
+// Reads texts that wait, one after another, until no more come, one can't be read apart or memory is wanting. After one that can't be read apart
+// nobody takes more.
+fn read_waiting<'a, K: Handing, W: Wait>(
     rt: &W,
     alloc: Global,
-    cells: &'a [OnceLock<Vec<u8>>],
-    rooms: &Mutex<Rooms>,
-    next: &AtomicUsize,
+    queue: &Queue<'a, K>,
     schema: &Schema,
     plan: &RangePlan<'_>,
-    piece_size: usize,
-) -> Vec<Taken<'a>>
-    requires { CanTake plan.now schema.now }
-    ensures { All (IsTaken plan.now schema.now cells.now) result.items }
+)
+    requires can { CanTake plan.now schema.now }
+    requires meant { (text : List ℕ) (read : PieceFrame) → IsPieceFrame plan.now schema.now text read → K.reads text read }
 {
-    let mut all = Vec::new(alloc);
     let places = plan.projection.places;
     let quote_char = plan.dialect.quote_char;
     let Ok(mut buffers) = empty_buffers(alloc, schema, places, quote_char, plan.options.encoding)
     else {
-        return all;
+        return;
     };
-    for _ in 0..cells.len() {
-        let Some(TakenText { place, token }) = take_text(rt, alloc, cells, rooms, next, piece_size)
-        else {
-            return all;
+    for _ in rt.forever() {
+        let Some(text) = queue.take(rt) else {
+            return;
         };
-        let text = cells[place].value(&token).as_slice();
-        if text.is_empty() {
-            return all;
-        }
-        let Ok(Some(read)) = read_packed(alloc, &mut buffers, schema, text, plan) else {
-            next.store(cells.len(), Ordering::SeqCst);
-            return all;
+        let Some(read) = text.read(alloc, &mut buffers, schema, plan) else {
+            queue.stop(rt);
+            return;
         };
-        if push(&mut all, Taken { place, token, read }).is_err() {
-            return all;
+        if !queue.give_back(rt, read) {
+            queue.stop(rt);
+            return;
         }
     }
-    all
 }
 
-// Cells, what shows the texts of the first of them, the texts that were taken by who reads, and those that each of the others took.
-#[derive(Drop)]
-struct Reading<'a> {
-    cells: &'a [OnceLock<Vec<u8>>],
-    tokens: Vec<OnceToken<'a, Vec<u8>>>,
-    taken: Vec<Taken<'a>>,
-    others: Vec<Vec<Taken<'a>>>,
-}
-
-// Reads the texts of a source, tells so many other workers that there are no more, and takes texts as they do.
-fn read_and_take<'a, W: Wait, So: Source>(
+// Reads the next text of a source into memory, and hands it out.
+fn hand_next<'a, K: Handing, W: Wait, So: Source>(
     rt: &W,
     alloc: Global,
-    others: usize,
-    reading: &mut Reading<'a>,
-    rooms: &Mutex<Rooms>,
-    next: &AtomicUsize,
+    cells: &'a [Cell],
+    place: usize,
+    queue: &Queue<'a, K>,
+    pending: &mut VecDeque<PendingText<'a, K>>,
+    room: Vec<u8>,
+    intake: &mut Intake,
+    source: &mut So,
+    plan: &RangePlan<'_>,
+    piece_size: usize,
+) -> Result<(), ReadAllFault>
+    requires dialect { IsDialect (marks_of plan.now.dialect) (comment_of plan.now.dialect) }
+    requires names { map (λ cell. cell.id) cells.now ≡ K.names }
+    requires inside { place < length cells.now }
+    requires within { intake.old.size ≤ 2 ^ 64 - 1 }
+    ensures handed { OnOk result (HasHanded (So.left source.old) (So.left source.new) intake.old intake.new pending.old.items pending.new.items) }
+    ensures cause { IsErrOf result ReadAllFault.Source → Rose (So.faults source.old) (So.faults source.new) }
+    ensures read_on { IsReadOn (So.left source.old) (So.left source.new) }
+    ensures later { So.faults source.old ≤ So.faults source.new }
+{
+    let text = intake.next_text(
+        source,
+        room,
+        text_size(piece_size, place),
+        usize::MAX,
+        &plan.dialect,
+        plan.projection.width,
+    )?;
+    match HandedText::<K>::show(rt, alloc, cells, place, text) {
+        Ok(handed) => {
+            let Ok(one) = PendingText::of(&handed) else {
+                return Err(ReadAllFault::OutOfMemory);
+            };
+            if add(pending, one).is_err() || !queue.put(rt, handed) {
+                return Err(ReadAllFault::OutOfMemory);
+            }
+            Ok(())
+        }
+        Err(text) => {
+            queue.stop(rt);
+            match intake.put_back(text) {
+                Ok(()) => Ok(()),
+                Err(_) => Err(ReadAllFault::OutOfMemory),
+            }
+        }
+    }
+}
+
+// Reads the texts of a source behind the first one and hands them out, reads texts as others do where one waits for each worker or no more come,
+// and links what was read.
+fn hand_and_read<'a, K: Handing, W: Wait, So: Source>(
+    rt: &W,
+    alloc: Global,
+    workers: usize,
+    cells: &'a [Cell],
+    queue: &Queue<'a, K>,
+    line: &mut Line<'a, K>,
     intake: &mut Intake,
     source: &mut So,
     schema: &Schema,
@@ -102,100 +128,179 @@ fn read_and_take<'a, W: Wait, So: Source>(
     piece_size: usize,
 ) -> Result<(), ReadAllFault>
     requires can { CanTake plan.now schema.now }
+    requires names { map (λ cell. cell.id) cells.now ≡ K.names }
+    requires meant { (text : List ℕ) (read : PieceFrame) → IsPieceFrame plan.now schema.now text read → K.reads text read }
+    requires means { (text : List ℕ) (read : PieceFrame) → K.reads text read → IsPieceFrame plan.now schema.now text read }
     requires within { intake.old.size ≤ 2 ^ 64 - 1 }
-    requires ended { intake.old.is_ended ≡ true → IsAtEnd (So.left source.old) }
-    requires set { AreSetIn reading.old.cells.now reading.old.tokens.items }
-    ensures set { OnOk result (AreSetIn reading.old.cells.now reading.new.tokens.items) }
-    ensures given { (before : Option (List ℕ)) (first : Intake) → HasGiven before (So.left source.old) (2 ^ 64 - 1) first intake.old (concat (map (λ token. token.value.items) reading.old.tokens.items))
-        → OnOk result (HasGiven before (So.left source.new) (2 ^ 64 - 1) first intake.new (concat (map (λ token. token.value.items) reading.new.tokens.items))) }
-    ensures taken { OnOk result (All (IsTaken plan.now schema.now reading.old.cells.now) reading.new.taken.items) }
+    requires line { (text : List ℕ) × IsLinkedUpTo plan.now schema.now text (line.old.left.items ++ concat line.old.pending.items) line.old.linked }
+    ensures line { (before : Option (List ℕ)) (first : Intake) → HasInLine plan.now schema.now before (So.left source.old) first intake.old line.old.linked line.old.left.items line.old.pending.items
+        → OnOk result (HasInLine plan.now schema.now before (So.left source.new) first intake.new line.new.linked line.new.left.items line.new.pending.items) }
+    ensures some { OnOk result ((text : List ℕ) × IsLinkedUpTo plan.now schema.now text (line.new.left.items ++ concat line.new.pending.items) line.new.linked) }
     ensures cause { IsErrOf result ReadAllFault.Source → Rose (So.faults source.old) (So.faults source.new) }
     ensures read_on { IsReadOn (So.left source.old) (So.left source.new) }
     ensures later { So.faults source.old ≤ So.faults source.new }
 {
-    let cells = reading.cells;
-    let tokens = &mut reading.tokens;
-    let count = cells.len();
-    match read_texts(
+    let places = plan.projection.places;
+    let quote_char = plan.dialect.quote_char;
+    let Ok(mut buffers) = empty_buffers(alloc, schema, places, quote_char, plan.options.encoding)
+    else {
+        return Err(ReadAllFault::OutOfMemory);
+    };
+    let mut place = 1;
+    let mut is_open = true;
+    for _ in rt.forever() {
+        keep_all(&mut line.pending, queue.collect(rt, alloc));
+        if line.link(alloc, schema, plan).is_err() {
+            return Err(ReadAllFault::OutOfMemory);
+        }
+        if is_open && (intake.is_ended() || place >= cells.len() || queue.is_closed(rt)) {
+            queue.close(rt);
+            is_open = false;
+        }
+        if is_open && place < cells.len() && queue.len(rt) < workers {
+            let room = line.room(alloc);
+            hand_next(
+                rt,
+                alloc,
+                cells,
+                place,
+                queue,
+                &mut line.pending,
+                room,
+                intake,
+                source,
+                plan,
+                piece_size,
+            )?;
+            place += 1;
+        } else if let Some(text) = queue.take_now(rt) {
+            let Some(read) = text.read(alloc, &mut buffers, schema, plan) else {
+                queue.stop(rt);
+                return Ok(());
+            };
+            if !queue.give_back(rt, read) {
+                return Err(ReadAllFault::OutOfMemory);
+            }
+        } else if !is_open {
+            return Ok(());
+        }
+    }
+    unreachable!()
+}
+
+// Cells, texts that wait, and texts in their order.
+#[derive(Drop)]
+struct Reading<'q, 'a, K: Handing> {
+    cells: &'a [Cell],
+    queue: &'q Queue<'a, K>,
+    line: Line<'a, K>,
+}
+
+// The same as `hand_and_read`. Where it refuses, nobody takes more texts.
+fn hand_all<'q, 'a, K: Handing, W: Wait, So: Source>(
+    rt: &W,
+    alloc: Global,
+    workers: usize,
+    reading: &mut Reading<'q, 'a, K>,
+    intake: &mut Intake,
+    source: &mut So,
+    schema: &Schema,
+    plan: &RangePlan<'_>,
+    piece_size: usize,
+) -> Result<(), ReadAllFault>
+    requires can { CanTake plan.now schema.now }
+    requires names { map (λ cell. cell.id) reading.old.cells.now ≡ K.names }
+    requires meant { (text : List ℕ) (read : PieceFrame) → IsPieceFrame plan.now schema.now text read → K.reads text read }
+    requires means { (text : List ℕ) (read : PieceFrame) → K.reads text read → IsPieceFrame plan.now schema.now text read }
+    requires within { intake.old.size ≤ 2 ^ 64 - 1 }
+    requires line { (text : List ℕ) × IsLinkedUpTo plan.now schema.now text (reading.old.line.left.items ++ concat reading.old.line.pending.items) reading.old.line.linked }
+    ensures line { (before : Option (List ℕ)) (first : Intake) → HasInLine plan.now schema.now before (So.left source.old) first intake.old reading.old.line.linked reading.old.line.left.items reading.old.line.pending.items
+        → OnOk result (HasInLine plan.now schema.now before (So.left source.new) first intake.new reading.new.line.linked reading.new.line.left.items reading.new.line.pending.items) }
+    ensures some { OnOk result ((text : List ℕ) × IsLinkedUpTo plan.now schema.now text (reading.new.line.left.items ++ concat reading.new.line.pending.items) reading.new.line.linked) }
+    ensures cause { IsErrOf result ReadAllFault.Source → Rose (So.faults source.old) (So.faults source.new) }
+    ensures read_on { IsReadOn (So.left source.old) (So.left source.new) }
+    ensures later { So.faults source.old ≤ So.faults source.new }
+{
+    let queue = reading.queue;
+    match hand_and_read(
         rt,
         alloc,
-        cells,
-        rooms,
-        tokens,
-        count,
+        workers,
+        reading.cells,
+        queue,
+        &mut reading.line,
         intake,
         source,
-        usize::MAX,
-        &plan.dialect,
-        plan.projection.width,
+        schema,
+        plan,
         piece_size,
     ) {
-        Ok(()) => {
-            close_cells(rt, alloc, cells, tokens.len(), others.saturating_add(1));
-            reading.taken = take_texts(rt, alloc, cells, rooms, next, schema, plan, piece_size);
-            Ok(())
-        }
+        Ok(()) => Ok(()),
         Err(fault) => {
-            close_cells(rt, alloc, cells, 0, count);
+            queue.stop(rt);
             Err(fault)
         }
     }
 }
 
-// Starts `to_start` workers, one after another, that take texts, and then reads the texts of a source and takes texts as they do. Who reads starts
-// them all: where a worker starts others, they often share its processor.
+// Starts `to_start` workers, one after another, that do some work, and then hands texts out and reads texts as they do. Who hands them out starts
+// all: where a worker starts others, they often share its processor.
 #[cycle(start)]
-fn start_and_read<'a, W: Threads + Wait + Sync, So: Source>(
+fn start_and_read<
+    'q,
+    'a,
+    K: Handing + Send + Sync,
+    W: Threads + Wait + Sync,
+    So: Source,
+    F: Fn() + Sync,
+>(
     rt: &W,
     alloc: Global,
     to_start: usize,
-    others: usize,
-    reading: &mut Reading<'a>,
-    rooms: &Mutex<Rooms>,
-    next: &AtomicUsize,
+    workers: usize,
+    work: &F,
+    reading: &mut Reading<'q, 'a, K>,
     intake: &mut Intake,
     source: &mut So,
     schema: &Schema,
     plan: &RangePlan<'_>,
     piece_size: usize,
 ) -> Result<(), ReadAllFault>
+    requires work { F.IsAlwaysCallable work.now }
     requires can { CanTake plan.now schema.now }
+    requires names { map (λ cell. cell.id) reading.old.cells.now ≡ K.names }
+    requires meant { (text : List ℕ) (read : PieceFrame) → IsPieceFrame plan.now schema.now text read → K.reads text read }
+    requires means { (text : List ℕ) (read : PieceFrame) → K.reads text read → IsPieceFrame plan.now schema.now text read }
     requires within { intake.old.size ≤ 2 ^ 64 - 1 }
-    requires ended { intake.old.is_ended ≡ true → IsAtEnd (So.left source.old) }
-    requires set { AreSetIn reading.old.cells.now reading.old.tokens.items }
-    ensures set { OnOk result (AreSetIn reading.old.cells.now reading.new.tokens.items) }
-    ensures given { (before : Option (List ℕ)) (first : Intake) → HasGiven before (So.left source.old) (2 ^ 64 - 1) first intake.old (concat (map (λ token. token.value.items) reading.old.tokens.items))
-        → OnOk result (HasGiven before (So.left source.new) (2 ^ 64 - 1) first intake.new (concat (map (λ token. token.value.items) reading.new.tokens.items))) }
-    ensures own { OnOk result (All (IsTaken plan.now schema.now reading.old.cells.now) reading.new.taken.items) }
-    ensures others { OnOk result (All (λ taken. All (IsTaken plan.now schema.now reading.old.cells.now) taken.items) reading.new.others.items) }
+    requires line { (text : List ℕ) × IsLinkedUpTo plan.now schema.now text (reading.old.line.left.items ++ concat reading.old.line.pending.items) reading.old.line.linked }
+    ensures line { (before : Option (List ℕ)) (first : Intake) → HasInLine plan.now schema.now before (So.left source.old) first intake.old reading.old.line.linked reading.old.line.left.items reading.old.line.pending.items
+        → OnOk result (HasInLine plan.now schema.now before (So.left source.new) first intake.new reading.new.line.linked reading.new.line.left.items reading.new.line.pending.items) }
+    ensures some { OnOk result ((text : List ℕ) × IsLinkedUpTo plan.now schema.now text (reading.new.line.left.items ++ concat reading.new.line.pending.items) reading.new.line.linked) }
     ensures cause { IsErrOf result ReadAllFault.Source → Rose (So.faults source.old) (So.faults source.new) }
     ensures read_on { IsReadOn (So.left source.old) (So.left source.new) }
     ensures later { So.faults source.old ≤ So.faults source.new }
 {
     if to_start == 0 {
-        read_and_take(
-            rt, alloc, others, reading, rooms, next, intake, source, schema, plan, piece_size,
-        )?;
-        reading.others = Vec::new(alloc);
-        return Ok(());
+        return hand_all(
+            rt, alloc, workers, reading, intake, source, schema, plan, piece_size,
+        );
     }
-    let cells = reading.cells;
-    let mut take = || -> Vec<Taken<'_>>
-        requires can { CanTake plan.now schema.now }
-        ensures { All (IsTaken plan.entry.now schema.entry.now cells.entry.now) result.items }
-    { take_texts(rt, alloc, cells, rooms, next, schema, plan, piece_size) };
+    let mut take = || -> ()
+        requires work { F.IsAlwaysCallable work.now }
+    { work() };
     let mut read = || -> Result<(), ReadAllFault>
         requires sync { IsSync W.row }
+        requires work { F.IsAlwaysCallable work.now }
         requires can { CanTake plan.now schema.now }
+        requires names { map (λ cell. cell.id) reading.now.cells.now ≡ K.names }
+        requires meant { (text : List ℕ) (read : PieceFrame) → IsPieceFrame plan.now schema.now text read → K.reads text read }
+        requires means { (text : List ℕ) (read : PieceFrame) → K.reads text read → IsPieceFrame plan.now schema.now text read }
         requires within { intake.now.size ≤ 2 ^ 64 - 1 }
-        requires ended { intake.now.is_ended ≡ true → IsAtEnd (So.left source.now) }
-        requires set { AreSetIn reading.now.cells.now reading.now.tokens.items }
+        requires line { (text : List ℕ) × IsLinkedUpTo plan.now schema.now text (reading.now.line.left.items ++ concat reading.now.line.pending.items) reading.now.line.linked }
         requires more { 0 < to_start }
-        ensures set { OnOk result (AreSetIn reading.entry.now.cells.now reading.exit.now.tokens.items) }
-        ensures given { (before : Option (List ℕ)) (first : Intake) → HasGiven before (So.left source.entry.now) (2 ^ 64 - 1) first intake.entry.now (concat (map (λ token. token.value.items) reading.entry.now.tokens.items))
-            → OnOk result (HasGiven before (So.left source.exit.now) (2 ^ 64 - 1) first intake.exit.now (concat (map (λ token. token.value.items) reading.exit.now.tokens.items))) }
-        ensures own { OnOk result (All (IsTaken plan.entry.now schema.entry.now reading.entry.now.cells.now) reading.exit.now.taken.items) }
-        ensures others { OnOk result (All (λ taken. All (IsTaken plan.entry.now schema.entry.now reading.entry.now.cells.now) taken.items) reading.exit.now.others.items) }
+        ensures line { (before : Option (List ℕ)) (first : Intake) → HasInLine plan.entry.now schema.entry.now before (So.left source.entry.now) first intake.entry.now reading.entry.now.line.linked reading.entry.now.line.left.items reading.entry.now.line.pending.items
+            → OnOk result (HasInLine plan.entry.now schema.entry.now before (So.left source.exit.now) first intake.exit.now reading.exit.now.line.linked reading.exit.now.line.left.items reading.exit.now.line.pending.items) }
+        ensures some { OnOk result ((text : List ℕ) × IsLinkedUpTo plan.entry.now schema.entry.now text (reading.exit.now.line.left.items ++ concat reading.exit.now.line.pending.items) reading.exit.now.line.linked) }
         ensures cause { IsErrOf result ReadAllFault.Source → Rose (So.faults source.entry.now) (So.faults source.exit.now) }
         ensures read_on { IsReadOn (So.left source.entry.now) (So.left source.exit.now) }
         ensures later { So.faults source.entry.now ≤ So.faults source.exit.now }
@@ -204,10 +309,9 @@ fn start_and_read<'a, W: Threads + Wait + Sync, So: Source>(
             rt,
             alloc,
             to_start - 1,
-            others,
+            workers,
+            work,
             reading,
-            rooms,
-            next,
             intake,
             source,
             schema,
@@ -215,58 +319,49 @@ fn start_and_read<'a, W: Threads + Wait + Sync, So: Source>(
             piece_size,
         )
     };
-    let (taken, read) = thread::join_mut(rt, &mut take, &mut read);
-    read?;
-    if push(&mut reading.others, taken).is_err() {
-        return Err(ReadAllFault::OutOfMemory);
-    }
-    Ok(())
+    let (_, read) = thread::join_mut(rt, &mut take, &mut read);
+    read
 }
 
-/// Reads the first text of a source, and then those of the other cells while workers take texts. Where the first text is all, there are no other
-/// workers. Answers what shows the texts, and the texts that each took.
-///
-/// Refuses a source that fails, and want of memory.
-pub(crate) fn read_and_share<'a, W: Threads + Wait + Sync, So: Source>(
+// Reads texts of a source by workers and links them. The other workers start after the first text, where that is not all.
+fn read_in_line<'q, 'a, K: Handing + Send + Sync, W: Threads + Wait + Sync, So: Source>(
     rt: &W,
     alloc: Global,
     workers: usize,
-    cells: &'a [OnceLock<Vec<u8>>],
-    rooms: &Mutex<Rooms>,
+    cells: &'a [Cell],
+    queue: &'q Queue<'a, K>,
+    line: Line<'a, K>,
     intake: &mut Intake,
     source: &mut So,
     schema: &Schema,
     plan: &RangePlan<'_>,
     piece_size: usize,
-) -> Result<(Vec<OnceToken<'a, Vec<u8>>>, Vec<Vec<Taken<'a>>>), ReadAllFault>
+) -> Result<Line<'a, K>, ReadAllFault>
     requires can { CanTake plan.now schema.now }
+    requires names { map (λ cell. cell.id) cells.now ≡ K.names }
+    requires some { 0 < length cells.now }
+    requires meant { (text : List ℕ) (read : PieceFrame) → IsPieceFrame plan.now schema.now text read → K.reads text read }
+    requires means { (text : List ℕ) (read : PieceFrame) → K.reads text read → IsPieceFrame plan.now schema.now text read }
     requires within { intake.old.size ≤ 2 ^ 64 - 1 }
-    requires ended { intake.old.is_ended ≡ true → IsAtEnd (So.left source.old) }
-    ensures set { IfOk result (λ read. AreSetIn cells.now read.0.items) }
-    ensures given { IfOk result (λ read. HasGiven (So.left source.old) (So.left source.new) (2 ^ 64 - 1) intake.old intake.new (concat (map (λ token. token.value.items) read.0.items))) }
-    ensures taken { IfOk result (λ read. All (λ taken. All (IsTaken plan.now schema.now cells.now) taken.items) read.1.items) }
+    requires line { (text : List ℕ) × IsLinkedUpTo plan.now schema.now text (line.left.items ++ concat line.pending.items) line.linked }
+    ensures line { (before : Option (List ℕ)) (first : Intake) → HasInLine plan.now schema.now before (So.left source.old) first intake.old line.entry.linked line.entry.left.items line.entry.pending.items
+        → IfOk result (λ line. HasInLine plan.now schema.now before (So.left source.new) first intake.new line.linked line.left.items line.pending.items) }
     ensures cause { IsErrOf result ReadAllFault.Source → Rose (So.faults source.old) (So.faults source.new) }
     ensures read_on { IsReadOn (So.left source.old) (So.left source.new) }
     ensures later { So.faults source.old ≤ So.faults source.new }
 {
-    let mut reading = Reading {
-        cells,
-        tokens: Vec::new(alloc),
-        taken: Vec::new(alloc),
-        others: Vec::new(alloc),
-    };
-    read_texts(
+    let mut line = line;
+    hand_next(
         rt,
         alloc,
         cells,
-        rooms,
-        &mut reading.tokens,
-        FIRST,
+        0,
+        queue,
+        &mut line.pending,
+        Vec::new(alloc),
         intake,
         source,
-        usize::MAX,
-        &plan.dialect,
-        plan.projection.width,
+        plan,
         piece_size,
     )?;
     let others = if intake.is_ended() {
@@ -274,14 +369,18 @@ pub(crate) fn read_and_share<'a, W: Threads + Wait + Sync, So: Source>(
     } else {
         workers.saturating_sub(1)
     };
+    let work = || -> ()
+        requires can { CanTake plan.now schema.now }
+        requires meant { (text : List ℕ) (read : PieceFrame) → IsPieceFrame plan.now schema.now text read → K.reads text read }
+    { read_waiting(rt, alloc, queue, schema, plan) };
+    let mut reading = Reading { cells, queue, line };
     start_and_read(
         rt,
         alloc,
         others,
-        others,
+        workers,
+        &work,
         &mut reading,
-        rooms,
-        &AtomicUsize::new(0),
         intake,
         source,
         schema,
@@ -290,70 +389,53 @@ pub(crate) fn read_and_share<'a, W: Threads + Wait + Sync, So: Source>(
     )?;
     let Reading {
         cells: _,
-        tokens,
-        taken,
-        others: mut all,
+        queue: _,
+        mut line,
     } = reading;
-    if push(&mut all, taken).is_err() {
-        return Err(ReadAllFault::OutOfMemory);
-    }
-    Ok((tokens, all))
-}
-
-// Puts what was read of texts at their places, as far as these tokens show them.
-fn settle<'a>(
-    reads: &mut [Option<PieceFrame>],
-    cells: &'a [OnceLock<Vec<u8>>],
-    tokens: &Vec<OnceToken<'a, Vec<u8>>>,
-    all: Vec<Taken<'a>>,
-    schema: &Schema,
-    plan: &RangePlan<'_>,
-)
-    requires set { AreSetIn cells.now tokens.now.items }
-    requires len { length reads.old ≡ length tokens.now.items }
-    requires taken { All (IsTaken plan.now schema.now cells.now) all.items }
-    requires read { AreReadAt plan.now schema.now (map (λ token. token.value.items) tokens.now.items) reads.old }
-    ensures len { length reads.new ≡ length reads.old }
-    ensures read { AreReadAt plan.now schema.now (map (λ token. token.value.items) tokens.now.items) reads.new }
-{
-    for taken in all {
-        let Taken { place, token, read } = taken;
-        if place < tokens.len() {
-            tokens[place].agrees(&token);
-            let before = std::mem::replace(&mut reads[place], Some(read));
-            drop(before);
-        }
+    keep_all(&mut line.pending, queue.collect(rt, alloc));
+    match line.link(alloc, schema, plan) {
+        Ok(()) => Ok(line),
+        Err(_) => Err(ReadAllFault::OutOfMemory),
     }
 }
 
-// Places for so many texts, of none of which anything was read.
-fn no_reads(alloc: Global, count: usize) -> Result<Vec<Option<PieceFrame>>, AllocError>
-    ensures len { IfOk result (λ reads. length reads.items ≡ count) }
-    ensures empty { IfOk result (λ reads. All (λ read. read ≡ None) reads.items) }
-{
-    let mut reads = Vec::new(alloc);
-    for _ in 0..count {
-        reads.push(None)?;
-    }
-    Ok(reads)
-}
-
-/// What was read of the texts that these tokens show, by place. Refuses only want of memory.
-pub(crate) fn settle_all<'a>(
+/// Reads texts of a source by workers and links them, behind what is linked. Who calls it reads the source; the other workers start after the first
+/// text, where that is not all. What can't be linked is taken back. Tells whether there is none.
+///
+/// Refuses a source that fails, and want of memory.
+pub(crate) fn read_and_link<K: Handing + Send + Sync, W: Threads + Wait + Sync, So: Source>(
+    rt: &W,
     alloc: Global,
-    cells: &'a [OnceLock<Vec<u8>>],
-    tokens: &Vec<OnceToken<'a, Vec<u8>>>,
-    all: Vec<Vec<Taken<'a>>>,
+    workers: usize,
+    cells: &[Cell],
+    linked: Linked,
+    intake: &mut Intake,
+    source: &mut So,
     schema: &Schema,
     plan: &RangePlan<'_>,
-) -> Result<Vec<Option<PieceFrame>>, AllocError>
-    requires set { AreSetIn cells.now tokens.now.items }
-    requires taken { All (λ taken. All (IsTaken plan.now schema.now cells.now) taken.items) all.items }
-    ensures { IfOk result (λ reads. AreReadAt plan.now schema.now (map (λ token. token.value.items) tokens.now.items) reads.items) }
+    piece_size: usize,
+) -> Result<(Linked, bool), ReadAllFault>
+    requires can { CanTake plan.now schema.now }
+    requires names { map (λ cell. cell.id) cells.now ≡ K.names }
+    requires some { 0 < length cells.now }
+    requires meant { (text : List ℕ) (read : PieceFrame) → IsPieceFrame plan.now schema.now text read → K.reads text read }
+    requires means { (text : List ℕ) (read : PieceFrame) → K.reads text read → IsPieceFrame plan.now schema.now text read }
+    requires within { intake.old.size ≤ 2 ^ 64 - 1 }
+    requires linked { (before : List ℕ) × IsLinked plan.now schema.now before linked }
+    ensures linked { (before : Option (List ℕ)) (first : Intake) → HasLinked plan.now schema.now before (So.left source.old) first intake.old linked
+        → IfOk result (λ r. HasLinked plan.now schema.now before (So.left source.new) first intake.new r.0) }
+    ensures cause { IsErrOf result ReadAllFault.Source → Rose (So.faults source.old) (So.faults source.new) }
+    ensures read_on { IsReadOn (So.left source.old) (So.left source.new) }
+    ensures later { So.faults source.old ≤ So.faults source.new }
 {
-    let mut reads = no_reads(alloc, tokens.len())?;
-    for taken in all {
-        settle(&mut reads, cells, tokens, taken, schema, plan);
+    let queue = Queue::new(alloc);
+    let line = Line::<K>::new(alloc, linked);
+    let line = read_in_line(
+        rt, alloc, workers, cells, &queue, line, intake, source, schema, plan, piece_size,
+    )?;
+    drop(queue);
+    match line.put_back(alloc, intake) {
+        Ok(answer) => Ok(answer),
+        Err(_) => Err(ReadAllFault::OutOfMemory),
     }
-    Ok(reads)
 }

@@ -170,15 +170,15 @@ fn read_on_board<
 }
 
 // From this number of columns on pieces are longer.
-const COLUMNS: usize = 128;
+const COLUMNS: usize = 256;
 
-/// How long pieces are, in bytes, where this number of columns is read: once `piece_size` for each 128 columns begun, since each piece
+/// How long pieces are, in bytes, where this number of columns is read: once `piece_size` for each 256 columns begun, since each piece
 /// has a buffer of its own for each column; no longer than a number of 64 bits.
 pub fn piece_size_for(piece_size: usize, columns: usize) -> usize
     requires { 0 < piece_size }
     ensures size { result ≡ min (piece_size * (columns / COLUMNS + 1)) (2 ^ 64 - 1) }
     ensures some { 0 < result }
-    ensures few { columns < 128 → result ≡ piece_size }
+    ensures few { columns < 256 → result ≡ piece_size }
 {
     piece_size.saturating_mul(columns / COLUMNS + 1)
 }

@@ -1,0 +1,8 @@
+use Rattle.std.proofs.Common.{◌++◌, List, ℕ}
+use Rattle.std.specs.List.{concat}
+use Rattle.pl_read.specs.Arriving.{IsLinkedUpTo}
+use Rattle.pl_read.proofs.line.Line.link.Given as goal
+
+abbrev pub invariant-loop : goal.invariant-loop
+invariant-loop g l = (text : List ℕ) → IsLinkedUpTo l.fn.plan l.fn.schema text (l.initial.self.left.items ++ concat l.initial.self.pending.items) l.initial.self.linked
+    → IsLinkedUpTo l.fn.plan l.fn.schema text (l.self.left.items ++ concat l.self.pending.items) l.self.linked

@@ -1,2 +1,3 @@
 pub mod IntakeLaws
 pub mod TextLaws
+pub mod HandedLaws

@@ -2,6 +2,9 @@
 #![tactic(auto)]
 
 pub mod cuts;
+pub mod handed;
 pub mod intake;
+pub mod pending;
+pub mod queue;
 pub mod rooms;
 pub mod texts;

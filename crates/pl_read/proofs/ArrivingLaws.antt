@@ -12,6 +12,7 @@ use Rattle.pl_cells.specs.InitBuffers.{entry_at}
 use Rattle.pl_frame.specs.Schema.{Entry}
 use Rattle.pl_scan.specs.Dialect.{marks_of, comment_of}
 use Rattle.pl_table.specs.Rows.{rows}
+use Rattle.pl_intake.specs.Handed.{HasHanded}
 use Rattle.pl_intake.specs.Intake.{HasGiven, HasGainedAll}
 use Rattle.pl_intake.specs.declared.intake.Intake.{Intake}
 use Rattle.pl_intake.proofs.IntakeLaws.{HasGiven-nothing}
@@ -23,7 +24,7 @@ use Rattle.pl_rows.specs.Ranges.{IsRangeRead}
 use Rattle.pl_rows.specs.Texts.{AreReadAt}
 use Rattle.pl_rows.specs.WholePieces.{IsPieceFrame, IsPieceFound, IsSoundText, text_frame, IsFrontLinked}
 use Rattle.pl_rows.proofs.LinkLaws.{IsFrontLinked-none}
-use Rattle.pl_read.specs.Arriving.{HasArrived, IsLinked, IsLinkedUpTo, IsLinkedOn, HasHanded, HasInLine, HasLinked}
+use Rattle.pl_read.specs.Arriving.{HasArrived, IsLinked, IsLinkedUpTo, IsLinkedOn, HasInLine, HasLinked}
 use Rattle.pl_read.specs.declared.linked.Linked.{Linked}
 
 -- what was found of a text is what was read of it
@@ -177,24 +178,6 @@ HasLinked-more plan schema before now after first intake next last old linked te
 
 -- ---- texts that are linked, and others behind them
 
--- a text came, and was taken back
-pub HasHanded-back : (before now : Option (List ℕ)) (intake next kept : Intake) (text : List ℕ) (pending : List (List ℕ)) → HasGiven before now (2 ^ 64 - 1) intake next text → kept.rest.items ≡ text ++ next.rest.items
-    → kept.size ≡ next.size → kept.is_ended ≡ next.is_ended → HasHanded before now intake kept pending pending
-HasHanded-back before now intake next kept text pending given rest size ended = record {
-  more = [];
-  given = record {
-    bytes = given.bytes;
-    gained = record {
-      came = given.gained.came;
-      size_is = size ∙ given.gained.size_is;
-      within = omega (arith, size, given.gained.within);
-      ended = λ is. given.gained.ended (sym ended ∙ is);
-    };
-    are = given.are ∙ sym rest;
-  };
-  are = sym (append-nil pending);
-}
-
 -- none stand behind them
 pub HasInLine-first : (plan : RangePlan) (schema : List Entry) (before now : Option (List ℕ)) (first intake : Intake) (linked : Linked) (left : List ℕ) (pending : List (List ℕ))
     → HasLinked plan schema before now first intake linked → left ≡ [] → pending ≡ [] → HasInLine plan schema before now first intake linked left pending
@@ -213,7 +196,7 @@ HasInLine-linked plan schema before now first intake old linked left after pendi
 
 -- texts came, and were handed out
 pub HasInLine-handed : (plan : RangePlan) (schema : List Entry) (before now after : Option (List ℕ)) (first intake next : Intake) (linked : Linked) (left : List ℕ) (old new : List (List ℕ))
-    → HasInLine plan schema before now first intake linked left old → HasHanded now after intake next old new → HasInLine plan schema before after first next linked left new
+    → HasInLine plan schema before now first intake linked left old → HasHanded now after (2 ^ 64 - 1) intake next old new → HasInLine plan schema before after first next linked left new
 HasInLine-handed plan schema before now after first intake next linked left old new has handed = record {
   text = has.text ++ concat handed.more;
   given = HasGiven-more before now after (2 ^ 64 - 1) first intake next has.text (concat handed.more) has.given handed.given;

@@ -48,12 +48,6 @@ pub record HasLinked (plan : RangePlan) (schema : List Entry) (before now : Opti
   pub given : HasGiven before now (2 ^ 64 - 1) intake next text
   pub is : IsLinked plan schema text linked
 
--- texts came of a source, and stand behind those that were handed out before
-pub record HasHanded (before now : Option (List ℕ)) (intake next : Intake) (old new : List (List ℕ)) : Type 0 where
-  pub more : List (List ℕ)
-  pub given : HasGiven before now (2 ^ 64 - 1) intake next (concat more)
-  pub are : new ≡ old ++ more
-
 -- what came of a source, behind what was kept of it before, and is not kept: these are the columns of its front, and behind that stand what is left
 -- of a text and the texts that were handed out
 pub record HasInLine (plan : RangePlan) (schema : List Entry) (before now : Option (List ℕ)) (intake next : Intake) (linked : Linked) (left : List ℕ) (pending : List (List ℕ)) : Type 0 where

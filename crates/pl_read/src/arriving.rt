@@ -1,39 +1,59 @@
 //! Texts of a source, read into columns by workers while those behind them come, and linked as soon as all before them are.
-ghost use Rattle.std.specs.Prelude.{◌≡◌, ◌++◌, ◌-◌, ◌<◌, ◌≤◌, ◌^◌, ℕ, List, Option, OnOk, IfOk, IsErrOf, length, map};
+ghost use Rattle.std.specs.Prelude.{◌≡◌, ◌++◌, ◌-◌, ◌<◌, ◌≤◌, ◌^◌, ℕ, List, Option, OnOk, IfOk, IfSome, IsErrOf, length, map};
 ghost use Rattle.std.specs.List.{concat};
 ghost use Rattle.std.specs.Thread.{IsSync};
 ghost use Rattle.pl_frame.specs.Came.{IsReadOn};
 ghost use Rattle.pl_frame.specs.Causes.{Rose};
-ghost use Rattle.pl_frame.specs.Dialect.{IsDialect};
+ghost use Rattle.pl_cells.specs.InitBuffers.{empty_buffers};
 ghost use Rattle.pl_intake.specs.declared.intake.Intake.{Intake};
-ghost use Rattle.pl_read.specs.Arriving.{CanTake, IsLinked, IsLinkedUpTo, HasHanded, HasInLine, HasLinked};
+ghost use Rattle.pl_read.specs.Arriving.{CanTake, IsLinked, IsLinkedUpTo, HasInLine, HasLinked};
 ghost use Rattle.pl_rows.specs.declared.whole_pieces.PieceFrame.{PieceFrame};
+ghost use Rattle.pl_rows.specs.Plan.{states};
 ghost use Rattle.pl_rows.specs.WholePieces.{IsPieceFrame};
-ghost use Rattle.pl_scan.specs.Dialect.{marks_of, comment_of};
 
-use crate::handed::{Cell, HandedText, Handing, PendingText};
-use crate::line::{Line, add, keep_all};
+use crate::line::Line;
 use crate::linked::Linked;
-use crate::queue::Queue;
+use pl_cells::buffer::Buffer;
 use pl_frame::read_all::ReadAllFault;
 use pl_frame::schema::Schema;
 use pl_frame::source::Source;
+use pl_intake::handed::{Cell, HandedText, Handing, ReadText};
 use pl_intake::intake::Intake;
-use pl_intake::texts::text_size;
+use pl_intake::pending::hand_next;
+use pl_intake::queue::Queue;
 use pl_rows::columns::empty_buffers;
 use pl_rows::plan::RangePlan;
+use pl_rows::whole_pieces::{PieceFrame, read_packed};
 use std::alloc::Global;
-use std::collections::VecDeque;
 use std::sync::Wait;
 use std::thread;
 use std::thread::Threads;
 
+// Reads a text by buffers that have no cells, and are left so. None where it can't be read apart, or memory is wanting.
+fn read_text<'a, K: Handing<PieceFrame>>(
+    alloc: Global,
+    text: HandedText<'a, PieceFrame, K>,
+    buffers: &mut [Buffer],
+    schema: &Schema,
+    plan: &RangePlan<'_>,
+) -> Option<ReadText<'a, PieceFrame, K>>
+    requires can { CanTake plan.now schema.now }
+    requires empty { states buffers.old ≡ empty_buffers plan.now.dialect.quote_char plan.now.options.encoding schema.now plan.now.projection.places.now }
+    requires meant { (text : List ℕ) (read : PieceFrame) → IsPieceFrame plan.now schema.now text read → K.reads text read }
+    ensures { IfSome result (λ _. states buffers.new ≡ states buffers.old) }
+{
+    match read_packed(alloc, buffers, schema, text.as_slice(), plan) {
+        Ok(Some(read)) => Some(text.read_as(read)),
+        _ => None,
+    }
+}
+
 // Reads texts that wait, one after another, until no more come, one can't be read apart or memory is wanting. After one that can't be read apart
 // nobody takes more.
-fn read_waiting<'a, K: Handing, W: Wait>(
+fn read_waiting<'a, K: Handing<PieceFrame>, W: Wait>(
     rt: &W,
     alloc: Global,
-    queue: &Queue<'a, K>,
+    queue: &Queue<'a, PieceFrame, K>,
     schema: &Schema,
     plan: &RangePlan<'_>,
 )
@@ -50,7 +70,7 @@ fn read_waiting<'a, K: Handing, W: Wait>(
         let Some(text) = queue.take(rt) else {
             return;
         };
-        let Some(read) = text.read(alloc, &mut buffers, schema, plan) else {
+        let Some(read) = read_text(alloc, text, &mut buffers, schema, plan) else {
             queue.stop(rt);
             return;
         };
@@ -61,65 +81,14 @@ fn read_waiting<'a, K: Handing, W: Wait>(
     }
 }
 
-// Reads the next text of a source into memory, and hands it out.
-fn hand_next<'a, K: Handing, W: Wait, So: Source>(
-    rt: &W,
-    alloc: Global,
-    cells: &'a [Cell],
-    place: usize,
-    queue: &Queue<'a, K>,
-    pending: &mut VecDeque<PendingText<'a, K>>,
-    room: Vec<u8>,
-    intake: &mut Intake,
-    source: &mut So,
-    plan: &RangePlan<'_>,
-    piece_size: usize,
-) -> Result<(), ReadAllFault>
-    requires dialect { IsDialect (marks_of plan.now.dialect) (comment_of plan.now.dialect) }
-    requires names { map (λ cell. cell.id) cells.now ≡ K.names }
-    requires inside { place < length cells.now }
-    requires within { intake.old.size ≤ 2 ^ 64 - 1 }
-    ensures handed { OnOk result (HasHanded (So.left source.old) (So.left source.new) intake.old intake.new pending.old.items pending.new.items) }
-    ensures cause { IsErrOf result ReadAllFault.Source → Rose (So.faults source.old) (So.faults source.new) }
-    ensures read_on { IsReadOn (So.left source.old) (So.left source.new) }
-    ensures later { So.faults source.old ≤ So.faults source.new }
-{
-    let text = intake.next_text(
-        source,
-        room,
-        text_size(piece_size, place),
-        usize::MAX,
-        &plan.dialect,
-        plan.projection.width,
-    )?;
-    match HandedText::<K>::show(rt, alloc, cells, place, text) {
-        Ok(handed) => {
-            let Ok(one) = PendingText::of(&handed) else {
-                return Err(ReadAllFault::OutOfMemory);
-            };
-            if add(pending, one).is_err() || !queue.put(rt, handed) {
-                return Err(ReadAllFault::OutOfMemory);
-            }
-            Ok(())
-        }
-        Err(text) => {
-            queue.stop(rt);
-            match intake.put_back(text) {
-                Ok(()) => Ok(()),
-                Err(_) => Err(ReadAllFault::OutOfMemory),
-            }
-        }
-    }
-}
-
 // Reads the texts of a source behind the first one and hands them out, reads texts as others do where one waits for each worker or no more come,
 // and links what was read.
-fn hand_and_read<'a, K: Handing, W: Wait, So: Source>(
+fn hand_and_read<'a, K: Handing<PieceFrame>, W: Wait, So: Source>(
     rt: &W,
     alloc: Global,
     workers: usize,
     cells: &'a [Cell],
-    queue: &Queue<'a, K>,
+    queue: &Queue<'a, PieceFrame, K>,
     line: &mut Line<'a, K>,
     intake: &mut Intake,
     source: &mut So,
@@ -132,10 +101,10 @@ fn hand_and_read<'a, K: Handing, W: Wait, So: Source>(
     requires meant { (text : List ℕ) (read : PieceFrame) → IsPieceFrame plan.now schema.now text read → K.reads text read }
     requires means { (text : List ℕ) (read : PieceFrame) → K.reads text read → IsPieceFrame plan.now schema.now text read }
     requires within { intake.old.size ≤ 2 ^ 64 - 1 }
-    requires line { (text : List ℕ) × IsLinkedUpTo plan.now schema.now text (line.old.left.items ++ concat line.old.pending.items) line.old.linked }
-    ensures line { (before : Option (List ℕ)) (first : Intake) → HasInLine plan.now schema.now before (So.left source.old) first intake.old line.old.linked line.old.left.items line.old.pending.items
-        → OnOk result (HasInLine plan.now schema.now before (So.left source.new) first intake.new line.new.linked line.new.left.items line.new.pending.items) }
-    ensures some { OnOk result ((text : List ℕ) × IsLinkedUpTo plan.now schema.now text (line.new.left.items ++ concat line.new.pending.items) line.new.linked) }
+    requires line { (text : List ℕ) × IsLinkedUpTo plan.now schema.now text (line.old.left.items ++ concat line.old.pending) line.old.linked }
+    ensures line { (before : Option (List ℕ)) (first : Intake) → HasInLine plan.now schema.now before (So.left source.old) first intake.old line.old.linked line.old.left.items line.old.pending
+        → OnOk result (HasInLine plan.now schema.now before (So.left source.new) first intake.new line.new.linked line.new.left.items line.new.pending) }
+    ensures some { OnOk result ((text : List ℕ) × IsLinkedUpTo plan.now schema.now text (line.new.left.items ++ concat line.new.pending) line.new.linked) }
     ensures cause { IsErrOf result ReadAllFault.Source → Rose (So.faults source.old) (So.faults source.new) }
     ensures read_on { IsReadOn (So.left source.old) (So.left source.new) }
     ensures later { So.faults source.old ≤ So.faults source.new }
@@ -149,7 +118,7 @@ fn hand_and_read<'a, K: Handing, W: Wait, So: Source>(
     let mut place = 1;
     let mut is_open = true;
     for _ in rt.forever() {
-        keep_all(&mut line.pending, queue.collect(rt, alloc));
+        line.pending.keep(queue.collect(rt, alloc));
         if line.link(alloc, schema, plan).is_err() {
             return Err(ReadAllFault::OutOfMemory);
         }
@@ -158,7 +127,6 @@ fn hand_and_read<'a, K: Handing, W: Wait, So: Source>(
             is_open = false;
         }
         if is_open && place < cells.len() && queue.len(rt) < workers {
-            let room = line.room(alloc);
             hand_next(
                 rt,
                 alloc,
@@ -166,15 +134,16 @@ fn hand_and_read<'a, K: Handing, W: Wait, So: Source>(
                 place,
                 queue,
                 &mut line.pending,
-                room,
                 intake,
                 source,
-                plan,
+                usize::MAX,
+                &plan.dialect,
+                plan.projection.width,
                 piece_size,
             )?;
             place += 1;
         } else if let Some(text) = queue.take_now(rt) {
-            let Some(read) = text.read(alloc, &mut buffers, schema, plan) else {
+            let Some(read) = read_text(alloc, text, &mut buffers, schema, plan) else {
                 queue.stop(rt);
                 return Ok(());
             };
@@ -190,66 +159,19 @@ fn hand_and_read<'a, K: Handing, W: Wait, So: Source>(
 
 // Cells, texts that wait, and texts in their order.
 #[derive(Drop)]
-struct Reading<'q, 'a, K: Handing> {
+struct Reading<'q, 'a, K: Handing<PieceFrame>> {
     cells: &'a [Cell],
-    queue: &'q Queue<'a, K>,
+    queue: &'q Queue<'a, PieceFrame, K>,
     line: Line<'a, K>,
 }
 
-// The same as `hand_and_read`. Where it refuses, nobody takes more texts.
-fn hand_all<'q, 'a, K: Handing, W: Wait, So: Source>(
-    rt: &W,
-    alloc: Global,
-    workers: usize,
-    reading: &mut Reading<'q, 'a, K>,
-    intake: &mut Intake,
-    source: &mut So,
-    schema: &Schema,
-    plan: &RangePlan<'_>,
-    piece_size: usize,
-) -> Result<(), ReadAllFault>
-    requires can { CanTake plan.now schema.now }
-    requires names { map (λ cell. cell.id) reading.old.cells.now ≡ K.names }
-    requires meant { (text : List ℕ) (read : PieceFrame) → IsPieceFrame plan.now schema.now text read → K.reads text read }
-    requires means { (text : List ℕ) (read : PieceFrame) → K.reads text read → IsPieceFrame plan.now schema.now text read }
-    requires within { intake.old.size ≤ 2 ^ 64 - 1 }
-    requires line { (text : List ℕ) × IsLinkedUpTo plan.now schema.now text (reading.old.line.left.items ++ concat reading.old.line.pending.items) reading.old.line.linked }
-    ensures line { (before : Option (List ℕ)) (first : Intake) → HasInLine plan.now schema.now before (So.left source.old) first intake.old reading.old.line.linked reading.old.line.left.items reading.old.line.pending.items
-        → OnOk result (HasInLine plan.now schema.now before (So.left source.new) first intake.new reading.new.line.linked reading.new.line.left.items reading.new.line.pending.items) }
-    ensures some { OnOk result ((text : List ℕ) × IsLinkedUpTo plan.now schema.now text (reading.new.line.left.items ++ concat reading.new.line.pending.items) reading.new.line.linked) }
-    ensures cause { IsErrOf result ReadAllFault.Source → Rose (So.faults source.old) (So.faults source.new) }
-    ensures read_on { IsReadOn (So.left source.old) (So.left source.new) }
-    ensures later { So.faults source.old ≤ So.faults source.new }
-{
-    let queue = reading.queue;
-    match hand_and_read(
-        rt,
-        alloc,
-        workers,
-        reading.cells,
-        queue,
-        &mut reading.line,
-        intake,
-        source,
-        schema,
-        plan,
-        piece_size,
-    ) {
-        Ok(()) => Ok(()),
-        Err(fault) => {
-            queue.stop(rt);
-            Err(fault)
-        }
-    }
-}
-
 // Starts `to_start` workers, one after another, that do some work, and then hands texts out and reads texts as they do. Who hands them out starts
-// all: where a worker starts others, they often share its processor.
+// all: where a worker starts others, they often share its processor. Where it refuses, nobody takes more texts.
 #[cycle(start)]
 fn start_and_read<
     'q,
     'a,
-    K: Handing + Send + Sync,
+    K: Handing<PieceFrame> + Send + Sync,
     W: Threads + Wait + Sync,
     So: Source,
     F: Fn() + Sync,
@@ -272,18 +194,33 @@ fn start_and_read<
     requires meant { (text : List ℕ) (read : PieceFrame) → IsPieceFrame plan.now schema.now text read → K.reads text read }
     requires means { (text : List ℕ) (read : PieceFrame) → K.reads text read → IsPieceFrame plan.now schema.now text read }
     requires within { intake.old.size ≤ 2 ^ 64 - 1 }
-    requires line { (text : List ℕ) × IsLinkedUpTo plan.now schema.now text (reading.old.line.left.items ++ concat reading.old.line.pending.items) reading.old.line.linked }
-    ensures line { (before : Option (List ℕ)) (first : Intake) → HasInLine plan.now schema.now before (So.left source.old) first intake.old reading.old.line.linked reading.old.line.left.items reading.old.line.pending.items
-        → OnOk result (HasInLine plan.now schema.now before (So.left source.new) first intake.new reading.new.line.linked reading.new.line.left.items reading.new.line.pending.items) }
-    ensures some { OnOk result ((text : List ℕ) × IsLinkedUpTo plan.now schema.now text (reading.new.line.left.items ++ concat reading.new.line.pending.items) reading.new.line.linked) }
+    requires line { (text : List ℕ) × IsLinkedUpTo plan.now schema.now text (reading.old.line.left.items ++ concat reading.old.line.pending) reading.old.line.linked }
+    ensures line { (before : Option (List ℕ)) (first : Intake) → HasInLine plan.now schema.now before (So.left source.old) first intake.old reading.old.line.linked reading.old.line.left.items reading.old.line.pending
+        → OnOk result (HasInLine plan.now schema.now before (So.left source.new) first intake.new reading.new.line.linked reading.new.line.left.items reading.new.line.pending) }
+    ensures some { OnOk result ((text : List ℕ) × IsLinkedUpTo plan.now schema.now text (reading.new.line.left.items ++ concat reading.new.line.pending) reading.new.line.linked) }
     ensures cause { IsErrOf result ReadAllFault.Source → Rose (So.faults source.old) (So.faults source.new) }
     ensures read_on { IsReadOn (So.left source.old) (So.left source.new) }
     ensures later { So.faults source.old ≤ So.faults source.new }
 {
     if to_start == 0 {
-        return hand_all(
-            rt, alloc, workers, reading, intake, source, schema, plan, piece_size,
+        let queue = reading.queue;
+        let handed = hand_and_read(
+            rt,
+            alloc,
+            workers,
+            reading.cells,
+            queue,
+            &mut reading.line,
+            intake,
+            source,
+            schema,
+            plan,
+            piece_size,
         );
+        if handed.is_err() {
+            queue.stop(rt);
+        }
+        return handed;
     }
     let mut take = || -> ()
         requires work { F.IsAlwaysCallable work.now }
@@ -296,11 +233,11 @@ fn start_and_read<
         requires meant { (text : List ℕ) (read : PieceFrame) → IsPieceFrame plan.now schema.now text read → K.reads text read }
         requires means { (text : List ℕ) (read : PieceFrame) → K.reads text read → IsPieceFrame plan.now schema.now text read }
         requires within { intake.now.size ≤ 2 ^ 64 - 1 }
-        requires line { (text : List ℕ) × IsLinkedUpTo plan.now schema.now text (reading.now.line.left.items ++ concat reading.now.line.pending.items) reading.now.line.linked }
+        requires line { (text : List ℕ) × IsLinkedUpTo plan.now schema.now text (reading.now.line.left.items ++ concat reading.now.line.pending) reading.now.line.linked }
         requires more { 0 < to_start }
-        ensures line { (before : Option (List ℕ)) (first : Intake) → HasInLine plan.entry.now schema.entry.now before (So.left source.entry.now) first intake.entry.now reading.entry.now.line.linked reading.entry.now.line.left.items reading.entry.now.line.pending.items
-            → OnOk result (HasInLine plan.entry.now schema.entry.now before (So.left source.exit.now) first intake.exit.now reading.exit.now.line.linked reading.exit.now.line.left.items reading.exit.now.line.pending.items) }
-        ensures some { OnOk result ((text : List ℕ) × IsLinkedUpTo plan.entry.now schema.entry.now text (reading.exit.now.line.left.items ++ concat reading.exit.now.line.pending.items) reading.exit.now.line.linked) }
+        ensures line { (before : Option (List ℕ)) (first : Intake) → HasInLine plan.entry.now schema.entry.now before (So.left source.entry.now) first intake.entry.now reading.entry.now.line.linked reading.entry.now.line.left.items reading.entry.now.line.pending
+            → OnOk result (HasInLine plan.entry.now schema.entry.now before (So.left source.exit.now) first intake.exit.now reading.exit.now.line.linked reading.exit.now.line.left.items reading.exit.now.line.pending) }
+        ensures some { OnOk result ((text : List ℕ) × IsLinkedUpTo plan.entry.now schema.entry.now text (reading.exit.now.line.left.items ++ concat reading.exit.now.line.pending) reading.exit.now.line.linked) }
         ensures cause { IsErrOf result ReadAllFault.Source → Rose (So.faults source.entry.now) (So.faults source.exit.now) }
         ensures read_on { IsReadOn (So.left source.entry.now) (So.left source.exit.now) }
         ensures later { So.faults source.entry.now ≤ So.faults source.exit.now }
@@ -324,12 +261,12 @@ fn start_and_read<
 }
 
 // Reads texts of a source by workers and links them. The other workers start after the first text, where that is not all.
-fn read_in_line<'q, 'a, K: Handing + Send + Sync, W: Threads + Wait + Sync, So: Source>(
+fn read_in_line<'q, 'a, K: Handing<PieceFrame> + Send + Sync, W: Threads + Wait + Sync, So: Source>(
     rt: &W,
     alloc: Global,
     workers: usize,
     cells: &'a [Cell],
-    queue: &'q Queue<'a, K>,
+    queue: &'q Queue<'a, PieceFrame, K>,
     line: Line<'a, K>,
     intake: &mut Intake,
     source: &mut So,
@@ -343,9 +280,9 @@ fn read_in_line<'q, 'a, K: Handing + Send + Sync, W: Threads + Wait + Sync, So: 
     requires meant { (text : List ℕ) (read : PieceFrame) → IsPieceFrame plan.now schema.now text read → K.reads text read }
     requires means { (text : List ℕ) (read : PieceFrame) → K.reads text read → IsPieceFrame plan.now schema.now text read }
     requires within { intake.old.size ≤ 2 ^ 64 - 1 }
-    requires line { (text : List ℕ) × IsLinkedUpTo plan.now schema.now text (line.left.items ++ concat line.pending.items) line.linked }
-    ensures line { (before : Option (List ℕ)) (first : Intake) → HasInLine plan.now schema.now before (So.left source.old) first intake.old line.entry.linked line.entry.left.items line.entry.pending.items
-        → IfOk result (λ line. HasInLine plan.now schema.now before (So.left source.new) first intake.new line.linked line.left.items line.pending.items) }
+    requires line { (text : List ℕ) × IsLinkedUpTo plan.now schema.now text (line.left.items ++ concat line.pending) line.linked }
+    ensures line { (before : Option (List ℕ)) (first : Intake) → HasInLine plan.now schema.now before (So.left source.old) first intake.old line.entry.linked line.entry.left.items line.entry.pending
+        → IfOk result (λ line. HasInLine plan.now schema.now before (So.left source.new) first intake.new line.linked line.left.items line.pending) }
     ensures cause { IsErrOf result ReadAllFault.Source → Rose (So.faults source.old) (So.faults source.new) }
     ensures read_on { IsReadOn (So.left source.old) (So.left source.new) }
     ensures later { So.faults source.old ≤ So.faults source.new }
@@ -358,10 +295,11 @@ fn read_in_line<'q, 'a, K: Handing + Send + Sync, W: Threads + Wait + Sync, So: 
         0,
         queue,
         &mut line.pending,
-        Vec::new(alloc),
         intake,
         source,
-        plan,
+        usize::MAX,
+        &plan.dialect,
+        plan.projection.width,
         piece_size,
     )?;
     let others = if intake.is_ended() {
@@ -392,7 +330,7 @@ fn read_in_line<'q, 'a, K: Handing + Send + Sync, W: Threads + Wait + Sync, So: 
         queue: _,
         mut line,
     } = reading;
-    keep_all(&mut line.pending, queue.collect(rt, alloc));
+    line.pending.keep(queue.collect(rt, alloc));
     match line.link(alloc, schema, plan) {
         Ok(()) => Ok(line),
         Err(_) => Err(ReadAllFault::OutOfMemory),
@@ -403,7 +341,7 @@ fn read_in_line<'q, 'a, K: Handing + Send + Sync, W: Threads + Wait + Sync, So: 
 /// text, where that is not all. What can't be linked is taken back. Tells whether there is none.
 ///
 /// Refuses a source that fails, and want of memory.
-pub(crate) fn read_and_link<K: Handing + Send + Sync, W: Threads + Wait + Sync, So: Source>(
+pub(crate) fn read_and_link<K: Handing<PieceFrame> + Send + Sync, W: Threads + Wait + Sync, So: Source>(
     rt: &W,
     alloc: Global,
     workers: usize,

@@ -7,7 +7,6 @@ ghost use Rattle.pl_intake.specs.declared.intake.Intake.{Intake};
 ghost use Rattle.pl_read.specs.Arriving.{CanTake, IsLinked, HasLinked, HasArrived};
 
 use crate::arriving::read_and_link;
-use crate::handed::make_cells;
 use crate::in_turn::read_in_turn;
 use crate::linked::{Linked, none_linked};
 use crate::workers::{piece_size_for, read_by_workers};
@@ -15,6 +14,7 @@ use pl_board::gate::OpenGate;
 use pl_frame::read_all::ReadAllFault;
 use pl_frame::schema::Schema;
 use pl_frame::source::Source;
+use pl_intake::handed::make_shown;
 use pl_intake::intake::Intake;
 use pl_rows::columns::RangeColumns;
 use pl_rows::linking::link_left;
@@ -57,7 +57,7 @@ fn read_round<W: Threads + Wait + Sync, So: Source>(
     ensures read_on { IsReadOn (So.left source.old) (So.left source.new) }
     ensures later { So.faults source.old ≤ So.faults source.new }
 {
-    let Ok(cells) = make_cells(alloc, TEXTS) else {
+    let Ok(cells) = make_shown(alloc, TEXTS) else {
         return Err(ReadAllFault::OutOfMemory);
     };
     read_and_link::<Brand, W, So>(

@@ -6,7 +6,7 @@ use Rattle.std.specs.Io.KnownBytes.{Consumes, IsAtEnd}
 use Rattle.pl_frame.specs.Schema.{Entry}
 use Rattle.pl_text.specs.FrameText.{WriteOptions}
 use Rattle.pl_rows.specs.declared.plan.RangePlan.{RangePlan}
-use Rattle.pl_verbatim.specs.PrintedTexts.{IsTextPrinted}
+use Rattle.pl_verbatim.specs.PrintedTexts.{IsTextPrinted, IsFrontPrinted}
 use Rattle.pl_regions.specs.Limits.{without_limit, IsDecidedBy}
 use Rattle.pl_regions.specs.Printing.{IsPrinted, IsPrintedFront}
 use Rattle.pl_regions.specs.Regions.{IsRegionPrinted}
@@ -34,6 +34,16 @@ pub record AreAllPrinted (plan : RangePlan) (schema : List Entry) (o : WriteOpti
   pub end_is : kept.end ≡ length text
   pub is : IsTextPrinted plan schema o text kept.rows (concat (map (λ text. text.items) kept.lines.items))
 
+-- what was printed of a text: the front of it
+abbrev pub IsFrontKept : RangePlan → List Entry → WriteOptions → List ℕ → Kept → Type 0
+IsFrontKept plan schema o text kept = IsFrontPrinted plan schema o text kept.end kept.rows (concat (map (λ text. text.items) kept.lines.items))
+
+-- the lines of the front of a text, behind which these bytes are left
+pub record IsPrintedUpTo (plan : RangePlan) (schema : List Entry) (o : WriteOptions) (text left : List ℕ) (kept : Kept) : Type 0 where
+  pub front : List ℕ
+  pub is : AreAllPrinted plan schema o front kept
+  pub are : text ≡ front ++ left
+
 -- the lines of the front of a text, and what stands behind that was taken back
 pub record IsPrintedOn (plan : RangePlan) (schema : List Entry) (o : WriteOptions) (text : List ℕ) (intake next : Intake) (kept : Kept) : Type 0 where
   pub printed : List ℕ
@@ -47,6 +57,13 @@ pub record HasPrinted (plan : RangePlan) (schema : List Entry) (o : WriteOptions
   pub text : List ℕ
   pub given : HasGiven before now limit intake next text
   pub is : AreAllPrinted plan schema o text kept
+
+-- what came of a source, behind what was kept of it before, and is not kept: these are the lines of its front, and behind that stand what is left of
+-- a text and the texts that were handed out
+pub record HasInLine (plan : RangePlan) (schema : List Entry) (o : WriteOptions) (before now : Option (List ℕ)) (limit : ℕ) (intake next : Intake) (kept : Kept) (left : List ℕ) (pending : List (List ℕ)) : Type 0 where
+  pub text : List ℕ
+  pub given : HasGiven before now limit intake next text
+  pub is : IsPrintedUpTo plan schema o text (left ++ concat pending) kept
 
 -- ---- what came of a source
 

@@ -85,37 +85,6 @@ fn places_of<'a>(
     Ok(places)
 }
 
-/// The front of the texts that these tokens show, whose regions were taken, with no more rows than a number, where there is one, and what is left
-/// of the texts. Refuses only want of memory.
-pub(crate) fn front_arrived<'a>(
-    alloc: Global,
-    cells: &'a [OnceLock<Vec<u8>>],
-    tokens: &Vec<OnceToken<'a, Vec<u8>>>,
-    all: Vec<Vec<Taken<'a>>>,
-    schema: &Schema,
-    plan: &RangePlan<'_>,
-    options: &SerializeOptions,
-    most: Option<usize>,
-) -> Result<Arrived<'a>, AllocError>
-    requires can { CanPrint plan.now schema.now }
-    requires set { AreSetIn cells.now tokens.now.items }
-    requires taken { All (λ taken. All (IsTaken plan.now schema.now (cell_options options.now) cells.now) taken.items) all.items }
-    ensures front { IfOk result (λ arrived. IsPrintedFront plan.now schema.now (cell_options options.now) (concat (map (λ token. token.value.items) tokens.now.items)) arrived.front) }
-    ensures few { IfOk result (λ arrived. IfSome most (λ most. arrived.front.rows ≤ most)) }
-    ensures left { IfOk result (λ arrived. arrived.left.items ≡ drop arrived.front.end (concat (map (λ token. token.value.items) tokens.now.items))) }
-{
-    let texts = texts_of(alloc, cells, tokens)?;
-    let places = places_of(alloc, cells, tokens, all, schema, plan, options)?;
-    let CutFront { front, full: _ } = front_of(alloc, &texts, places, schema, plan, options, most)?;
-    let Front { end, rows, lines } = front;
-    let left = left_behind(alloc, &texts, &[], end)?;
-    Ok(Arrived {
-        front: Front { end, rows, lines },
-        left,
-        is_long: false,
-    })
-}
-
 // Whether texts and what stands behind them are longer than a number of bytes.
 fn are_longer(texts: &[&[u8]], rest: &[u8], longest: usize) -> bool
     ensures { result ≡ false → length (concat (map (λ text. text.now) texts.now) ++ rest.now) ≤ longest }

@@ -1,5 +1,5 @@
 //! The texts of a source, printed one after another, each in the memory of the one before it.
-ghost use Rattle.std.specs.Prelude.{◌≡◌, ◌<◌, ◌≤◌, ℕ, List, Option, true, IfOk, IfSome, OnOk, IsErrOf, drop};
+ghost use Rattle.std.specs.Prelude.{◌≡◌, ◌<◌, ◌≤◌, ℕ, List, Option, true, IfOk, IfSome, OnOk, IsErrOf};
 ghost use Rattle.std.specs.Io.KnownBytes.{IsAtEnd};
 ghost use Rattle.pl_frame.specs.Causes.{Rose};
 ghost use Rattle.pl_intake.specs.declared.intake.Intake.{Intake};
@@ -8,11 +8,8 @@ ghost use Rattle.pl_write.specs.Options.{cell_options};
 ghost use Rattle.pl_verbatim.specs.PrintedTexts.{CanPrint};
 ghost use Rattle.pl_verbatim.specs.Verbatim.{IsVerbatimOf};
 ghost use Rattle.pl_regions.specs.Arriving.{HasPrinted};
-ghost use Rattle.pl_regions.specs.Printing.{IsPrintedFront};
 
-use crate::front::{Front, print_text};
-use crate::kept::{Arrived, Kept, keep_front};
-use crate::limits::{is_past, rows_left};
+use crate::kept::{Kept, keep_front, print_apart};
 use pl_frame::read_all::ReadAllFault;
 use pl_frame::schema::Schema;
 use pl_frame::source::Source;
@@ -21,53 +18,13 @@ use pl_rows::plan::RangePlan;
 use pl_verbatim::verbatim::Verbatim;
 use pl_write::options::SerializeOptions;
 use pl_write::row_printer::RowPrinter;
-use std::alloc::{AllocError, Global};
+use std::alloc::Global;
 
 // So many texts there are at most; what comes behind them is read as a whole.
 const TEXTS: usize = 1 << 20;
 
 /// A text is as long as this part of what was read before it, at least: where pieces are short there are not many texts.
 pub(crate) const PART: usize = 1 << 14;
-
-// The front of a text, which is none of it where that has more rows than a number, where there is one; and what is left of the text. Refuses only
-// want of memory.
-fn print_one<'a>(
-    alloc: Global,
-    text: &'a [u8],
-    printer: &mut RowPrinter,
-    schema: &Schema,
-    plan: &RangePlan<'_>,
-    options: &SerializeOptions,
-    verbatim: &Verbatim,
-    piece_size: usize,
-    most: Option<usize>,
-) -> Result<Arrived<'a>, AllocError>
-    requires can { CanPrint plan.now schema.now }
-    requires verbatim { IsVerbatimOf plan.now schema.now (cell_options options.now) verbatim.now }
-    requires size { 0 < piece_size }
-    ensures front { IfOk result (λ arrived. IsPrintedFront plan.now schema.now (cell_options options.now) text.now arrived.front) }
-    ensures few { IfOk result (λ arrived. IfSome most (λ most. arrived.front.rows ≤ most)) }
-    ensures left { IfOk result (λ arrived. arrived.left.items ≡ drop arrived.front.end text.now) }
-{
-    let Front { end, rows, lines } = print_text(
-        alloc, text, printer, schema, plan, options, verbatim, piece_size,
-    );
-    let mut left = Vec::new(alloc);
-    if is_past(most, rows) {
-        left.extend_from_slice(text)?;
-        return Ok(Arrived {
-            front: Front::new(alloc),
-            left,
-            is_long: false,
-        });
-    }
-    left.extend_from_slice(&text[end..])?;
-    Ok(Arrived {
-        front: Front { end, rows, lines },
-        left,
-        is_long: false,
-    })
-}
 
 // Reads the next text of a source into memory, which it gives back, and prints it. Gives none where something was taken back: then there is
 // nothing to be printed so any more.
@@ -101,17 +58,19 @@ fn print_next<So: Source>(
 {
     let width = plan.projection.width;
     let text = intake.next_text(source, room, piece_size, limit, &plan.dialect, width)?;
-    let most = rows_left(most, kept.rows);
-    let Ok(arrived) = print_one(
-        alloc, &text, printer, schema, plan, options, verbatim, piece_size, most,
+    let Ok(front) = print_apart(
+        alloc, &text, printer, schema, plan, options, verbatim, piece_size,
     ) else {
         return Err(ReadAllFault::OutOfMemory);
     };
-    match keep_front(alloc, kept, arrived, intake) {
-        Ok(true) => Ok(Some(text)),
-        Ok(false) => Ok(None),
-        Err(_) => Err(ReadAllFault::OutOfMemory),
+    let Ok(left) = keep_front(alloc, kept, &text, front, most) else {
+        return Err(ReadAllFault::OutOfMemory);
+    };
+    let is_all = left.is_empty();
+    if intake.put_back(left).is_err() {
+        return Err(ReadAllFault::OutOfMemory);
     }
+    if is_all { Ok(Some(text)) } else { Ok(None) }
 }
 
 /// Reads texts of a source and prints them, one after another, until it has no more, or one is not printed to its end or has too many rows: what is

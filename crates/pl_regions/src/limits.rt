@@ -28,14 +28,3 @@ pub(crate) fn is_past(most: Option<usize>, rows: usize) -> bool
         None => false,
     }
 }
-
-/// How many rows may stand behind others, where there is a number of all.
-pub(crate) fn rows_left(most: Option<usize>, rows: usize) -> Option<usize>
-    requires { IfSome most (λ most. rows ≤ most) }
-    ensures { (more : ℕ) → IfSome result (λ left. more ≤ left) → IfSome most (λ most. rows + more ≤ most) }
-{
-    match most {
-        Some(most) => Some(most - rows),
-        None => None,
-    }
-}

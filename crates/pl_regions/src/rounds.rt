@@ -1,5 +1,5 @@
-//! The texts of a source, printed by workers round by round, each round in the memory of the one before it.
-ghost use Rattle.std.specs.Prelude.{◌≡◌, ◌<◌, ◌≤◌, ℕ, List, Option, true, IfOk, IfSome, OnOk, IsErrOf};
+//! The texts of a source, printed as they come: by one worker text by text, by several side by side.
+ghost use Rattle.std.specs.Prelude.{◌≡◌, ◌<◌, ◌≤◌, ℕ, List, Option, true, IfOk, IfSome, IsErrOf};
 ghost use Rattle.std.specs.Io.KnownBytes.{IsAtEnd};
 ghost use Rattle.pl_frame.specs.Causes.{Rose};
 ghost use Rattle.pl_intake.specs.declared.intake.Intake.{Intake};
@@ -9,61 +9,46 @@ ghost use Rattle.pl_verbatim.specs.PrintedTexts.{CanPrint};
 ghost use Rattle.pl_verbatim.specs.Verbatim.{IsVerbatimOf};
 ghost use Rattle.pl_regions.specs.Arriving.{HasPrinted};
 
-use crate::beside::{front_arrived, read_and_print};
+use crate::in_line::print_and_keep;
 use crate::in_turn::{PART, print_in_turn};
-use crate::kept::{Kept, keep_front};
-use crate::limits::rows_left;
+use crate::kept::Kept;
 use pl_frame::read_all::ReadAllFault;
 use pl_frame::schema::Schema;
 use pl_frame::source::Source;
+use pl_intake::handed::make_shown;
 use pl_intake::intake::Intake;
-use pl_intake::rooms::Rooms;
-use pl_intake::texts::make_cells;
 use pl_rows::plan::RangePlan;
 use pl_verbatim::verbatim::Verbatim;
 use pl_write::options::SerializeOptions;
 use std::alloc::Global;
-use std::sync::{Mutex, OnceLock, Wait};
+use std::marker::Brand;
+use std::sync::Wait;
 use std::thread::Threads;
 
-// A round has no fewer texts than this,
-const FEWEST: usize = 32;
-
-// nor more than this.
-const MOST: usize = 80;
+// So many texts a round has at most: their cells are made at a time.
+const TEXTS: usize = 1 << 10;
 
 // So many rounds there are at most; what comes behind them is read as a whole.
 const ROUNDS: usize = 1 << 20;
 
-// About how many bytes a round has, whose memory is used again in the next one, and how many a text of it has at most, as long as that is no small
-// part of what was read before: the last texts of a round keep each worker busy for as long as one takes. Both are twice as long where not all columns
-// are read, since the lines then take less memory.
-fn round_sizes(plan: &RangePlan<'_>) -> (usize, usize)
-    ensures { 0 < result.1 }
+// How many bytes a text has at most, as long as that is no small part of what was read before: the last texts keep each worker busy for as long as one
+// takes. It is twice as long where not all columns are read, since the lines then take less memory.
+fn longest_text(plan: &RangePlan<'_>) -> usize
+    ensures { 0 < result }
 {
     if plan.projection.places.len() < plan.projection.width {
-        (17 << 20, 1 << 18)
+        1 << 18
     } else {
-        (17 << 19, 1 << 17)
+        1 << 17
     }
 }
 
-// Keeps the memory of texts that are not needed any more, the first of them on top.
-fn keep_rooms<W: Wait>(rt: &W, rooms: &Mutex<Rooms>, cells: Vec<OnceLock<Vec<u8>>>) {
-    for cell in cells.into_iter().rev() {
-        if let Some(text) = cell.into_inner() {
-            rooms.lock(rt).give(text);
-        }
-    }
-}
-
-// Reads texts of a source and prints them by workers. What is left behind the front of them is taken back. Tells whether nothing is.
+// Prints texts of a source by workers and keeps their lines behind those that are kept. What is not kept is taken back. Tells whether there is none.
 fn print_round<W: Threads + Wait + Sync, So: Source>(
     rt: &W,
     alloc: Global,
     workers: usize,
-    kept: &mut Kept,
-    rooms: &Mutex<Rooms>,
+    kept: Kept,
     intake: &mut Intake,
     source: &mut So,
     limit: usize,
@@ -73,42 +58,30 @@ fn print_round<W: Threads + Wait + Sync, So: Source>(
     verbatim: &Verbatim,
     piece_size: usize,
     most: Option<usize>,
-) -> Result<bool, ReadAllFault>
+) -> Result<(Kept, bool), ReadAllFault>
     requires can { CanPrint plan.now schema.now }
     requires verbatim { IsVerbatimOf plan.now schema.now (cell_options options.now) verbatim.now }
     requires size { 0 < piece_size }
     requires within { intake.old.size ≤ limit }
-    requires ended { intake.old.is_ended ≡ true → IsAtEnd (So.left source.old) }
-    requires few { IfSome most (λ most. kept.old.rows ≤ most) }
-    ensures few { OnOk result (IfSome most (λ most. kept.new.rows ≤ most)) }
-    ensures printed { (before : Option (List ℕ)) (first : Intake) → HasPrinted plan.now schema.now (cell_options options.now) before (So.left source.old) limit first intake.old kept.old
-        → OnOk result (HasPrinted plan.now schema.now (cell_options options.now) before (So.left source.new) limit first intake.new kept.new) }
+    requires few { IfSome most (λ most. kept.rows ≤ most) }
+    ensures printed { (before : Option (List ℕ)) (first : Intake) → HasPrinted plan.now schema.now (cell_options options.now) before (So.left source.old) limit first intake.old kept.entry
+        → IfOk result (λ r. HasPrinted plan.now schema.now (cell_options options.now) before (So.left source.new) limit first intake.new r.0) }
+    ensures few { IfOk result (λ r. IfSome most (λ most. r.0.rows ≤ most)) }
     ensures too_long { IsErrOf result ReadAllFault.TooLong → IsPastLimit (So.left source.old) (So.left source.new) limit intake.old.size }
     ensures failed { IsErrOf result ReadAllFault.Source → HasStopped (So.left source.old) (So.left source.new) limit intake.old.size }
     ensures cause { IsErrOf result ReadAllFault.Source → Rose (So.faults source.old) (So.faults source.new) }
     ensures later { So.faults source.old ≤ So.faults source.new }
 {
-    let (round, _) = round_sizes(plan);
-    let Ok(cells) = make_cells(alloc, (round / piece_size).max(FEWEST).min(MOST)) else {
+    let Ok(cells) = make_shown(alloc, TEXTS) else {
         return Err(ReadAllFault::OutOfMemory);
     };
-    let most = rows_left(most, kept.rows);
-    let (tokens, all) = read_and_print(
-        rt, alloc, workers, &cells, rooms, most, intake, source, limit, schema, plan, options,
-        verbatim, piece_size,
-    )?;
-    let Ok(arrived) = front_arrived(alloc, &cells, &tokens, all, schema, plan, options, most) else {
-        return Err(ReadAllFault::OutOfMemory);
-    };
-    let Ok(is_all) = keep_front(alloc, kept, arrived, intake) else {
-        return Err(ReadAllFault::OutOfMemory);
-    };
-    drop(tokens);
-    keep_rooms(rt, rooms, cells);
-    Ok(is_all)
+    print_and_keep::<Brand, W, So>(
+        rt, alloc, workers, &cells, kept, intake, source, limit, schema, plan, options, verbatim,
+        piece_size, most,
+    )
 }
 
-// Reads texts of a source and prints them by workers, round by round, until it has no more, or one is not printed to its end or has too many rows:
+// Prints texts of a source by workers, round by round, until it has no more, or one is not printed to its end or has too many rows:
 // what is left of that is kept, and what is left of the source is not read.
 //
 // Refuses as `read_all` does, with those bytes that came before counted in.
@@ -138,25 +111,26 @@ fn print_rounds<W: Threads + Wait + Sync, So: Source>(
     ensures cause { IsErrOf result ReadAllFault.Source → Rose (So.faults source.old) (So.faults source.new) }
     ensures later { So.faults source.old ≤ So.faults source.new }
 {
-    let rooms = Mutex::new(Rooms::new(alloc));
-    let (_, longest) = round_sizes(plan);
+    let longest = longest_text(plan);
     let mut kept = Kept::none(alloc);
     for _ in 0..ROUNDS {
         if intake.is_ended() {
             return Ok(kept);
         }
         let size = piece_size.min(longest).max(kept.end / PART);
-        if !print_round(
-            rt, alloc, workers, &mut kept, &rooms, intake, source, limit, schema, plan, options,
-            verbatim, size, most,
-        )? {
+        let (after, is_all) = print_round(
+            rt, alloc, workers, kept, intake, source, limit, schema, plan, options, verbatim, size,
+            most,
+        )?;
+        kept = after;
+        if !is_all {
             return Ok(kept);
         }
     }
     Ok(kept)
 }
 
-/// Reads texts of a source and prints them, by one worker text by text, by several round by round, until it has no more, or one is not printed to
+/// Reads texts of a source and prints them, by one worker text by text, by several side by side, until it has no more, or one is not printed to
 /// its end or has too many rows: what is left of that is kept, and what is left of the source is not read.
 ///
 /// Refuses as `read_all` does, with those bytes that came before counted in.

@@ -4,5 +4,5 @@ use Rattle.pl_read.specs.Arriving.{IsLinkedUpTo}
 use Rattle.pl_read.proofs.line.Line.link.Given as goal
 
 abbrev pub invariant-loop : goal.invariant-loop
-invariant-loop g l = (text : List ℕ) → IsLinkedUpTo l.fn.plan l.fn.schema text (l.initial.self.left.items ++ concat l.initial.self.pending.items) l.initial.self.linked
-    → IsLinkedUpTo l.fn.plan l.fn.schema text (l.self.left.items ++ concat l.self.pending.items) l.self.linked
+invariant-loop g l = (text : List ℕ) → IsLinkedUpTo l.fn.plan l.fn.schema text (l.initial.self.left.items ++ concat l.initial.self.pending) l.initial.self.linked
+    → IsLinkedUpTo l.fn.plan l.fn.schema text (l.self.left.items ++ concat l.self.pending) l.self.linked

@@ -1,4 +1,5 @@
 use Rattle.std.proofs.Common.{◌≡◌, ◌++◌, ◌∷◌, [], List, ℕ, sym, ◌∙◌, ap, subst, append-nil}
+use Rattle.std.specs.Arc.{arc_value}
 use Rattle.std.specs.List.{concat}
 use Rattle.pl_rows.specs.WholePieces.{IsPieceFrame}
 use Rattle.pl_read.specs.Arriving.{IsLinkedUpTo}
@@ -9,35 +10,23 @@ pub link_behind-requires-clause-read : goal.link_behind-requires-clause-read
 link_behind-requires-clause-read g c =
     let plan = c.args.plan.now in
     let schema = c.args.schema.now in
-    let one : List ℕ = c.in-Some.one in
-    let text : c.as_slice.result.now ≡ one = c.as_slice.ensures.value ∙ ap (λ text. text.items) c.deref.ensures ∙ c.into_parts-text.ensures.text in
-    let read = c.into_parts-text.result.1 in
+    let one : List ℕ = (arc_value c.in-Some.text).items in
+    let text : c.as_slice.result.now ≡ one = c.as_slice.ensures.value ∙ ap (λ text. text.items) c.deref.ensures in
+    let read = c.in-Some.read in
     AreReadAt-only plan schema c.as_slice.result.now read _ (c.in_ok-push.ensures.items ∙ ap (λ l. l ++ read ∷ []) c.new-reads.ensures.items)
     (some-meant (g.K.Handing.reads one) (IsPieceFrame plan schema c.as_slice.result.now) read (λ frame reads. subst (λ (t : List ℕ). IsPieceFrame plan schema t frame) (sym text) (c.requires.meant one frame reads))
-    c.into_parts-text.ensures.read)
+    c.in-Some.ensures.read)
 
-pub returns-in-Ok : goal.returns-in-Ok
-returns-in-Ok g c = λ text up.
+pub returns-clause-0 : goal.returns-clause-0
+returns-clause-0 g c = λ text up.
     let plan = c.args.plan.now in
     let schema = c.args.schema.now in
-    let one : List ℕ = c.in-Some.one in
-    let others = c.pop_front.new.self.items in
+    let one : List ℕ = (arc_value c.in-Some.text).items in
+    let others = c.take_first.new.self in
     let linked = c.args.self.now.linked in
-    let is : c.as_slice.result.now ++ [] ≡ one = append-nil c.as_slice.result.now ∙ c.as_slice.ensures.value ∙ ap (λ text. text.items) c.deref.ensures ∙ c.into_parts-text.ensures.text in
+    let is : c.as_slice.result.now ++ [] ≡ one = append-nil c.as_slice.result.now ∙ c.as_slice.ensures.value ∙ ap (λ text. text.items) c.deref.ensures in
     let before : IsLinkedUpTo plan schema text (one ++ concat others) linked = subst (λ (left : List ℕ). IsLinkedUpTo plan schema text left linked)
-    (ap (λ l. l ++ concat c.args.self.now.pending.items) c.requires.none ∙ ap concat c.in-Some.ensures.items) up in
+    (ap (λ l. l ++ concat c.args.self.now.pending) c.requires.none ∙ ap concat c.in-Some.ensures.first) up in
     let next = subst (λ (t : List ℕ). IsLinkedUpTo plan schema (before.front ++ t) c.in_ok-self.field-0.items c.link_behind.new.linked) is (c.in_ok-self.ensures before.front before.is) in
-    IsLinkedUpTo-next plan schema text one c.in_ok-self.field-0.items others linked c.link_behind.new.linked before next
-
-pub returns-in_default-try_unwrap : goal.returns-in_default-try_unwrap
-returns-in_default-try_unwrap g c = λ text up.
-    let plan = c.args.plan.now in
-    let schema = c.args.schema.now in
-    let one : List ℕ = c.in-Some.one in
-    let others = c.pop_front.new.self.items in
-    let linked = c.args.self.now.linked in
-    let is : c.as_slice.result.now ++ [] ≡ one = append-nil c.as_slice.result.now ∙ c.as_slice.ensures.value ∙ ap (λ text. text.items) c.deref.ensures ∙ c.into_parts-text.ensures.text in
-    let before : IsLinkedUpTo plan schema text (one ++ concat others) linked = subst (λ (left : List ℕ). IsLinkedUpTo plan schema text left linked)
-    (ap (λ l. l ++ concat c.args.self.now.pending.items) c.requires.none ∙ ap concat c.in-Some.ensures.items) up in
-    let next = subst (λ (t : List ℕ). IsLinkedUpTo plan schema (before.front ++ t) c.in_ok-self.field-0.items c.link_behind.new.linked) is (c.in_ok-self.ensures before.front before.is) in
-    IsLinkedUpTo-next plan schema text one c.in_ok-self.field-0.items others linked c.link_behind.new.linked before next
+    subst (λ (pending : List (List ℕ)). IsLinkedUpTo plan schema text (c.in_ok-self.field-0.items ++ concat pending) c.link_behind.new.linked) (sym c.keep_room.ensures)
+    (IsLinkedUpTo-next plan schema text one c.in_ok-self.field-0.items others linked c.link_behind.new.linked before next)

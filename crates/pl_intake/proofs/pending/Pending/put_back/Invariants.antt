@@ -1,13 +1,13 @@
 use Rattle.std.proofs.Common.{◌≡◌, ◌++◌, length}
 use Rattle.std.specs.List.{concat}
-use Rattle.pl_read.proofs.line.Line.put_back.Given as goal
+use Rattle.pl_intake.proofs.pending.Pending.put_back.Given as goal
 
 abbrev pub invariant-loop-last : goal.invariant-loop-last
 invariant-loop-last g l = record {
-  rest : concat l.pending.items ++ l.intake.rest.items ≡ concat l.initial.pending.items ++ l.initial.intake.rest.items;
+  rest : concat l.texts.items ++ l.intake.rest.items ≡ concat l.initial.texts.items ++ l.initial.intake.rest.items;
   size : l.intake.size ≡ l.initial.intake.size;
   ended : l.intake.is_ended ≡ l.initial.intake.is_ended;
 }
 
 abbrev pub decreases-loop-last : goal.decreases-loop-last
-decreases-loop-last g l = length l.pending.items
+decreases-loop-last g l = length l.texts.items

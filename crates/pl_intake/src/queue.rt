@@ -7,16 +7,16 @@ use std::thread;
 
 // Texts that nobody took, what was read of others and was not collected, and whether no more texts come.
 #[derive(Drop)]
-struct Texts<'a, K: Handing> {
-    waiting: VecDeque<HandedText<'a, K>>,
-    read: Vec<ReadText<'a, K>>,
+struct Texts<'a, R: Drop, K: Handing<R>> {
+    waiting: VecDeque<HandedText<'a, R, K>>,
+    read: Vec<ReadText<'a, R, K>>,
     is_closed: bool,
 }
 
 /// Texts that wait to be read, and what was read of texts.
 #[derive(Drop)]
-pub(crate) struct Queue<'a, K: Handing> {
-    texts: Mutex<Texts<'a, K>>,
+pub struct Queue<'a, R: Drop, K: Handing<R>> {
+    texts: Mutex<Texts<'a, R, K>>,
     came: Condvar,
 }
 
@@ -25,15 +25,15 @@ const LOOKS: usize = 64;
 
 // What a look for a text finds.
 #[derive(Drop)]
-enum Look<'a, K: Handing> {
-    Text(HandedText<'a, K>),
+enum Look<'a, R: Drop, K: Handing<R>> {
+    Text(HandedText<'a, R, K>),
     None,
     Closed,
 }
 
-impl<'a, K: Handing> Queue<'a, K> {
+impl<'a, R: Drop, K: Handing<R>> Queue<'a, R, K> {
     /// No text.
-    pub fn new(alloc: Global) -> Queue<'a, K> {
+    pub fn new(alloc: Global) -> Queue<'a, R, K> {
         Queue {
             texts: Mutex::new(Texts {
                 waiting: VecDeque::new(alloc),
@@ -45,7 +45,7 @@ impl<'a, K: Handing> Queue<'a, K> {
     }
 
     /// Puts a text behind those that wait. False where memory is wanting.
-    pub fn put<W: Wait>(&self, rt: &W, text: HandedText<'a, K>) -> bool {
+    pub fn put<W: Wait>(&self, rt: &W, text: HandedText<'a, R, K>) -> bool {
         let is_put = match self.texts.lock(rt).waiting.push_back(text) {
             Ok(()) => true,
             Err(failed) => {
@@ -84,7 +84,7 @@ impl<'a, K: Handing> Queue<'a, K> {
     }
 
     // The text that waits longest, if one does.
-    fn look<W: Wait>(&self, rt: &W) -> Look<'a, K> {
+    fn look<W: Wait>(&self, rt: &W) -> Look<'a, R, K> {
         let mut texts = self.texts.lock(rt);
         match texts.waiting.pop_front() {
             Some(text) => Look::Text(text),
@@ -94,12 +94,12 @@ impl<'a, K: Handing> Queue<'a, K> {
     }
 
     /// The text that waits longest, if one does.
-    pub fn take_now<W: Wait>(&self, rt: &W) -> Option<HandedText<'a, K>> {
+    pub fn take_now<W: Wait>(&self, rt: &W) -> Option<HandedText<'a, R, K>> {
         self.texts.lock(rt).waiting.pop_front()
     }
 
     /// The text that waits longest, as soon as one does; none where no more come.
-    pub fn take<W: Wait>(&self, rt: &W) -> Option<HandedText<'a, K>> {
+    pub fn take<W: Wait>(&self, rt: &W) -> Option<HandedText<'a, R, K>> {
         for _ in 0..LOOKS {
             match self.look(rt) {
                 Look::Text(text) => return Some(text),
@@ -114,7 +114,7 @@ impl<'a, K: Handing> Queue<'a, K> {
     }
 
     /// Keeps what was read of a text until it is collected. False where memory is wanting.
-    pub fn give_back<W: Wait>(&self, rt: &W, read: ReadText<'a, K>) -> bool {
+    pub fn give_back<W: Wait>(&self, rt: &W, read: ReadText<'a, R, K>) -> bool {
         match self.texts.lock(rt).read.push(read) {
             Ok(()) => true,
             Err(failed) => {
@@ -125,7 +125,7 @@ impl<'a, K: Handing> Queue<'a, K> {
     }
 
     /// What was read since this was called before.
-    pub fn collect<W: Wait>(&self, rt: &W, alloc: Global) -> Vec<ReadText<'a, K>> {
+    pub fn collect<W: Wait>(&self, rt: &W, alloc: Global) -> Vec<ReadText<'a, R, K>> {
         std::mem::replace(&mut self.texts.lock(rt).read, Vec::new(alloc))
     }
 }

@@ -1,43 +1,33 @@
-//! Texts that are handed to workers: as they wait to be read, as they were read, and as who handed them out keeps them.
+//! Texts that are handed to workers: as they wait to be read, and as they were read.
 ghost use Rattle.std.specs.Prelude.{◌≡◌, ◌<◌, ℕ, List, IfOk, IfErr, IfSome, length, map};
 ghost use Rattle.std.specs.Arc.{arc_value};
-ghost use Rattle.pl_cells.specs.InitBuffers.{empty_buffers};
-ghost use Rattle.pl_read.specs.Arriving.{CanTake};
-ghost use Rattle.pl_rows.specs.declared.whole_pieces.PieceFrame.{PieceFrame};
-ghost use Rattle.pl_rows.specs.Plan.{states};
-ghost use Rattle.pl_rows.specs.WholePieces.{IsPieceFrame};
 
-use pl_cells::buffer::Buffer;
-use pl_frame::schema::Schema;
-use pl_rows::plan::RangePlan;
-use pl_rows::whole_pieces::{PieceFrame, read_packed};
 use std::alloc::{AllocError, Global};
 use std::marker::{Brand, Model, PhantomData};
 use std::snapshot::Snapshot;
 use std::sync::{Arc, OnceLock, OnceToken, Wait};
 
 /// A cell that is written once, and then shows which bytes a text has. It does not keep them.
-pub(crate) type Cell = OnceLock<Snapshot<Vec<u8>>>;
+pub type Cell = OnceLock<Snapshot<Vec<u8>>>;
 
 /// What shows the bytes of a text, also when its memory is used again.
-pub(crate) type Shown<'a> = OnceToken<'a, Snapshot<Vec<u8>>>;
+pub type Shown<'a> = OnceToken<'a, Snapshot<Vec<u8>>>;
 
 /// A text that several hold.
-pub(crate) type Text = Arc<Vec<u8>, Global>;
+pub type Text = Arc<Vec<u8>, Global>;
 
-/// What all texts of one reading have in common. It is known where code is proved; no value of it is made.
-pub trait Handing {
+/// What all texts of one reading have in common, where `R` is what a worker makes of a text. It is known where code is proved; no value of it is made.
+pub trait Handing<R> {
     ghost use Rattle.std.specs.Prelude.{ℕ, List};
-    ghost use Rattle.pl_rows.specs.declared.whole_pieces.PieceFrame.{PieceFrame};
 
     // The names of the cells that show the texts, in order.
     ghost names: { List ℕ };
 
-    // Read apart, these bytes give these columns.
-    ghost reads: { List ℕ → PieceFrame → Type 0 };
+    // Of these bytes a worker makes this.
+    ghost reads: { List ℕ → R → Type 0 };
 }
 
-impl Handing for Brand {
+impl<R> Handing<R> for Brand {
     ghost use Rattle.std.specs.Prelude.{[]};
 
     ghost names = { [] };
@@ -45,8 +35,8 @@ impl Handing for Brand {
     ghost reads = { λ _ _. Unit {0} };
 }
 
-/// Cells for texts. Refuses want of memory.
-pub(crate) fn make_cells(alloc: Global, count: usize) -> Result<Vec<Cell>, AllocError>
+/// Cells that show texts. Refuses want of memory.
+pub fn make_shown(alloc: Global, count: usize) -> Result<Vec<Cell>, AllocError>
     ensures { IfOk result (λ cells. length cells.items ≡ count) }
 {
     let mut cells = Vec::new(alloc);
@@ -58,14 +48,15 @@ pub(crate) fn make_cells(alloc: Global, count: usize) -> Result<Vec<Cell>, Alloc
 
 /// A text that waits to be read. Contracts see it as its bytes.
 #[derive(Drop)]
-pub(crate) struct HandedText<'a, K: Handing> {
+pub struct HandedText<'a, R: Drop, K: Handing<R>> {
     place: usize,
     shown: Shown<'a>,
     text: Text,
+    read: PhantomData<R>,
     handing: PhantomData<K>,
 }
 
-impl<'a, K: Handing> Model for HandedText<'a, K> {
+impl<'a, R: Drop, K: Handing<R>> Model for HandedText<'a, R, K> {
     ghost use Rattle.std.specs.Prelude.{◌≡◌, ℕ, List, Some, slice_get};
     ghost use Rattle.std.specs.Arc.{arc_value};
 
@@ -76,16 +67,16 @@ impl<'a, K: Handing> Model for HandedText<'a, K> {
     ghost invariant = { λ it. (slice_get K.names it.place ≡ Some it.shown.of) × ((arc_value it.text).items ≡ it.shown.value.value.items) };
 }
 
-/// What was read of a text. Contracts see it as the bytes of the text.
+/// What was made of a text. Contracts see it as the bytes of the text.
 #[derive(Drop)]
-pub(crate) struct ReadText<'a, K: Handing> {
+pub struct ReadText<'a, R: Drop, K: Handing<R>> {
     place: usize,
     shown: Shown<'a>,
-    read: PieceFrame,
+    read: R,
     handing: PhantomData<K>,
 }
 
-impl<'a, K: Handing> Model for ReadText<'a, K> {
+impl<'a, R: Drop, K: Handing<R>> Model for ReadText<'a, R, K> {
     ghost use Rattle.std.specs.Prelude.{◌≡◌, ℕ, List, Some, slice_get};
 
     ghost Value = { List ℕ };
@@ -95,17 +86,17 @@ impl<'a, K: Handing> Model for ReadText<'a, K> {
     ghost invariant = { λ it. (slice_get K.names it.place ≡ Some it.shown.of) × K.reads it.shown.value.value.items it.read };
 }
 
-/// A text that was handed out and is not linked yet, and what was read of it, if anything. Contracts see it as its bytes.
+/// A text that was handed out, and what was made of it, if that is known. Contracts see it as its bytes.
 #[derive(Drop)]
-pub(crate) struct PendingText<'a, K: Handing> {
+pub struct PendingText<'a, R: Drop, K: Handing<R>> {
     place: usize,
     shown: Shown<'a>,
     text: Text,
-    read: Option<PieceFrame>,
+    read: Option<R>,
     handing: PhantomData<K>,
 }
 
-impl<'a, K: Handing> Model for PendingText<'a, K> {
+impl<'a, R: Drop, K: Handing<R>> Model for PendingText<'a, R, K> {
     ghost use Rattle.std.specs.Prelude.{◌≡◌, ℕ, List, Some, IfSome, slice_get};
     ghost use Rattle.std.specs.Arc.{arc_value};
 
@@ -116,7 +107,7 @@ impl<'a, K: Handing> Model for PendingText<'a, K> {
     ghost invariant = { λ it. (slice_get K.names it.place ≡ Some it.shown.of) × ((arc_value it.text).items ≡ it.shown.value.value.items) × IfSome it.read (K.reads it.shown.value.value.items) };
 }
 
-impl<'a, K: Handing> HandedText<'a, K> {
+impl<'a, R: Drop, K: Handing<R>> HandedText<'a, R, K> {
     /// The text of a place, which its cell shows. Gives the text back where the cell was written already, and where memory is wanting.
     pub fn show<W: Wait>(
         rt: &W,
@@ -124,7 +115,7 @@ impl<'a, K: Handing> HandedText<'a, K> {
         cells: &'a [Cell],
         place: usize,
         text: Vec<u8>,
-    ) -> Result<HandedText<'a, K>, Vec<u8>>
+    ) -> Result<HandedText<'a, R, K>, Vec<u8>>
         requires names { map (λ cell. cell.id) cells.now ≡ K.names }
         requires inside { place < length cells.now }
         ensures shown { IfOk result (λ handed. handed ≡ text.items) }
@@ -136,6 +127,7 @@ impl<'a, K: Handing> HandedText<'a, K> {
                     place,
                     shown,
                     text,
+                    read: PhantomData,
                     handing: PhantomData,
                 }),
                 Err(failed) => Err(failed.value),
@@ -144,47 +136,44 @@ impl<'a, K: Handing> HandedText<'a, K> {
         }
     }
 
-    /// Reads the text by buffers that have no cells, and are left so. None where it can't be read apart, or memory is wanting.
-    pub fn read(
-        self,
-        alloc: Global,
-        buffers: &mut [Buffer],
-        schema: &Schema,
-        plan: &RangePlan<'_>,
-    ) -> Option<ReadText<'a, K>>
-        requires can { CanTake plan.now schema.now }
-        requires empty { states buffers.old ≡ empty_buffers plan.now.dialect.quote_char plan.now.options.encoding schema.now plan.now.projection.places.now }
-        requires meant { (text : List ℕ) (read : PieceFrame) → IsPieceFrame plan.now schema.now text read → K.reads text read }
-        ensures { IfSome result (λ _. states buffers.new ≡ states buffers.old) }
+    /// Its bytes.
+    pub fn as_slice(&self) -> &[u8]
+        ensures { result.now ≡ self.now }
+    {
+        self.text.as_slice()
+    }
+
+    /// The same text, of which this was made.
+    pub fn read_as(self, read: R) -> ReadText<'a, R, K>
+        requires { K.reads self read }
+        ensures { result ≡ self.entry }
     {
         let HandedText {
             place,
             shown,
-            text,
+            text: _,
+            read: _,
             handing: _,
         } = self;
-        match read_packed(alloc, buffers, schema, text.as_slice(), plan) {
-            Ok(Some(read)) => Some(ReadText {
-                place,
-                shown,
-                read,
-                handing: PhantomData,
-            }),
-            _ => None,
+        ReadText {
+            place,
+            shown,
+            read,
+            handing: PhantomData,
         }
     }
 }
 
-impl<'a, K: Handing> ReadText<'a, K> {
+impl<'a, R: Drop, K: Handing<R>> ReadText<'a, R, K> {
     /// The place of the cell that shows the text.
     pub fn place(&self) -> usize {
         self.place
     }
 }
 
-impl<'a, K: Handing> PendingText<'a, K> {
+impl<'a, R: Drop, K: Handing<R>> PendingText<'a, R, K> {
     /// A text that is handed out. Refuses only want of memory.
-    pub fn of(handed: &HandedText<'a, K>) -> Result<PendingText<'a, K>, AllocError>
+    pub fn of(handed: &HandedText<'a, R, K>) -> Result<PendingText<'a, R, K>, AllocError>
         ensures { IfOk result (λ pending. pending ≡ handed.now) }
     {
         let text = Arc::try_clone(&handed.text)?;
@@ -202,13 +191,13 @@ impl<'a, K: Handing> PendingText<'a, K> {
         self.place
     }
 
-    /// Whether it is known what was read of it.
+    /// Whether it is known what was made of it.
     pub fn is_read(&self) -> bool {
         self.read.is_some()
     }
 
-    /// Keeps what was read of a text, where it is this one.
-    pub fn keep(&mut self, other: ReadText<'a, K>)
+    /// Keeps what was made of a text, where it is this one.
+    pub fn keep(&mut self, other: ReadText<'a, R, K>)
         ensures { self.new ≡ self.old }
     {
         let ReadText {
@@ -223,8 +212,8 @@ impl<'a, K: Handing> PendingText<'a, K> {
         }
     }
 
-    /// Its bytes, and what was read of them.
-    pub fn into_parts(self) -> (Text, Option<PieceFrame>)
+    /// Its bytes, and what was made of them.
+    pub fn into_parts(self) -> (Text, Option<R>)
         ensures text { (arc_value result.0).items ≡ self.entry }
         ensures read { IfSome result.1 (K.reads self.entry) }
     {

@@ -341,7 +341,11 @@ fn read_in_line<'q, 'a, K: Handing<PieceFrame> + Send + Sync, W: Threads + Wait 
 /// text, where that is not all. What can't be linked is taken back. Tells whether there is none.
 ///
 /// Refuses a source that fails, and want of memory.
-pub(crate) fn read_and_link<K: Handing<PieceFrame> + Send + Sync, W: Threads + Wait + Sync, So: Source>(
+pub(crate) fn read_and_link<
+    K: Handing<PieceFrame> + Send + Sync,
+    W: Threads + Wait + Sync,
+    So: Source,
+>(
     rt: &W,
     alloc: Global,
     workers: usize,

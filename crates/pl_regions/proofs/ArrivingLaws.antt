@@ -12,6 +12,7 @@ use Rattle.pl_frame.specs.Schema.{Entry}
 use Rattle.pl_text.specs.FrameText.{WriteOptions}
 use Rattle.pl_frame.proofs.Known.{Consumes-append}
 use Rattle.pl_scan.specs.Dialect.{marks_of, comment_of}
+use Rattle.pl_intake.specs.Handed.{HasHanded}
 use Rattle.pl_intake.specs.Intake.{HasGiven, HasGainedAll}
 use Rattle.pl_intake.specs.declared.intake.Intake.{Intake}
 use Rattle.pl_intake.proofs.IntakeLaws.{HasGiven-nothing}
@@ -21,7 +22,7 @@ use Rattle.pl_verbatim.specs.PrintedTexts.{IsTextPrinted}
 use Rattle.pl_verbatim.proofs.PrintingLaws.{IsTextPrinted-nil, IsTextPrinted-append}
 use Rattle.pl_regions.proofs.RegionLaws.{unread, lines-joined, text-pushed}
 use Rattle.pl_regions.proofs.LimitLaws.{front-longer, decided}
-use Rattle.pl_regions.specs.Arriving.{AreAllPrinted, IsPrintedOn, HasPrinted, IsFrontArrived, HasAllCome, IsArrivalOf, HasArrived}
+use Rattle.pl_regions.specs.Arriving.{AreAllPrinted, IsFrontKept, IsPrintedUpTo, HasInLine, HasPrinted, IsFrontArrived, HasAllCome, IsArrivalOf, HasArrived}
 use Rattle.pl_regions.specs.Limits.{without_limit, IsFull}
 use Rattle.pl_regions.specs.Printing.{IsLeftBehind, IsPrintedFront}
 use Rattle.pl_regions.specs.declared.front.Front.{Front}
@@ -61,32 +62,54 @@ AreAllPrinted-none plan schema o kept end rows lines = record {
       (subst (IsTextPrinted plan schema o [] 0) (sym (ap (λ l. concat (map (λ text. text.items) l)) lines)) (IsTextPrinted-nil plan schema o));
 }
 
--- the front of a text behind others, and what is left of it taken back
-pub IsPrintedOn-front : (plan : RangePlan) (schema : List Entry) (o : WriteOptions) (before text left : List ℕ) (intake next : Intake) (old : Kept) (part : Front) (kept : Kept)
-    → IsDialect (marks_of plan.dialect) (comment_of plan.dialect) → AreAllPrinted plan schema o before old → IsPrintedFront plan schema o text part → left ≡ drop part.end text
-    → kept.end ≡ old.end + part.end → kept.rows ≡ old.rows + part.rows
-    → concat (map (λ text. text.items) kept.lines.items) ≡ concat (map (λ text. text.items) old.lines.items) ++ concat (map cow_slice_items part.lines.items)
-    → next.rest.items ≡ left ++ intake.rest.items → next.size ≡ intake.size → next.is_ended ≡ intake.is_ended → IsPrintedOn plan schema o (before ++ text) intake next kept
-IsPrintedOn-front plan schema o before text left intake next old part kept apart all printed left_is end rows lines rest size ended =
+-- the front of a text behind others, and what is left of it
+pub IsPrintedUpTo-front : (plan : RangePlan) (schema : List Entry) (o : WriteOptions) (before text left : List ℕ) (old part kept : Kept)
+    → IsDialect (marks_of plan.dialect) (comment_of plan.dialect) → AreAllPrinted plan schema o before old → IsFrontKept plan schema o text part → left ≡ drop part.end text
+    → kept.end ≡ old.end + part.end → kept.rows ≡ old.rows + part.rows → kept.lines.items ≡ old.lines.items ++ part.lines.items → IsPrintedUpTo plan schema o (before ++ text) left kept
+IsPrintedUpTo-front plan schema o before text left old part kept apart all printed left_is end rows lines =
     let here = take part.end text in
     let both =
-    IsTextPrinted-append plan schema o before here old.rows part.rows (concat (map (λ text. text.items) old.lines.items)) (concat (map cow_slice_items part.lines.items)) apart all.is printed.front in
+    IsTextPrinted-append plan schema o before here old.rows part.rows (concat (map (λ text. text.items) old.lines.items)) (concat (map (λ text. text.items) part.lines.items)) apart all.is printed.front in
     record {
-      printed = before ++ here;
+      front = before ++ here;
       is = record {
         end_is = omega (arith, end, all.end_is, length-append before here, length-take part.end text, printed.within);
         is = subst (λ (n : ℕ). IsTextPrinted plan schema o (before ++ here) n (concat (map (λ text. text.items) kept.lines.items))) (sym rows)
-            (subst (IsTextPrinted plan schema o (before ++ here) (old.rows + part.rows)) (sym lines) both);
+            (subst (IsTextPrinted plan schema o (before ++ here) (old.rows + part.rows)) (sym (lines-joined (λ (t : Vec ℕ Global). t.items) old.lines.items part.lines.items kept.lines.items lines)) both);
       };
-      are = append_assoc before text intake.rest.items
-          ∙ ap (λ l. before ++ (l ++ intake.rest.items)) (sym (take-append-drop part.end text))
-          ∙ ap (λ l. before ++ l) (append_assoc here (drop part.end text) intake.rest.items)
-          ∙ ap (λ l. before ++ (here ++ (l ++ intake.rest.items))) (sym left_is)
-          ∙ ap (λ l. before ++ (here ++ l)) (sym rest)
-          ∙ sym (append_assoc before here next.rest.items);
-      size_is = size;
-      ended_is = ended;
+      are = ap (λ l. before ++ l) (sym (take-append-drop part.end text)) ∙ sym (append_assoc before here (drop part.end text)) ∙ ap (λ l. (before ++ here) ++ l) (sym left_is);
     }
+
+-- none of a text behind others: all of it is left
+pub IsPrintedUpTo-none : (plan : RangePlan) (schema : List Entry) (o : WriteOptions) (before text left : List ℕ) (kept : Kept) → AreAllPrinted plan schema o before kept → left ≡ text → IsPrintedUpTo plan schema o (before ++ text) left kept
+IsPrintedUpTo-none plan schema o before text left kept all left_is = record {
+  front = before;
+  is = all;
+  are = ap (λ l. before ++ l) (sym left_is);
+}
+
+-- all of a text is printed, and nothing stands behind it
+pub IsPrintedUpTo-all : (plan : RangePlan) (schema : List Entry) (o : WriteOptions) (text : List ℕ) (kept : Kept) → AreAllPrinted plan schema o text kept → IsPrintedUpTo plan schema o text ([] ++ concat []) kept
+IsPrintedUpTo-all plan schema o text kept is = record { front = text; is = is; are = sym (append-nil text) }
+
+-- the first of the texts behind is printed up to a place, and the others stay behind that
+pub IsPrintedUpTo-next : (plan : RangePlan) (schema : List Entry) (o : WriteOptions) (text one left : List ℕ) (others : List (List ℕ)) (old kept : Kept) (up : IsPrintedUpTo plan schema o text (one ++ concat others) old)
+    → IsPrintedUpTo plan schema o (up.front ++ one) left kept → IsPrintedUpTo plan schema o text (left ++ concat others) kept
+IsPrintedUpTo-next plan schema o text one left others old kept up next = record {
+  front = next.front;
+  is = next.is;
+  are = up.are ∙ sym (append_assoc up.front one (concat others)) ∙ ap (λ l. l ++ concat others) next.are ∙ append_assoc next.front left (concat others);
+}
+
+-- texts were handed out behind it
+pub IsPrintedUpTo-handed : (plan : RangePlan) (schema : List Entry) (o : WriteOptions) (text left : List ℕ) (old more new : List (List ℕ)) (kept : Kept) → IsPrintedUpTo plan schema o text (left ++ concat old) kept → new ≡ old ++ more
+    → IsPrintedUpTo plan schema o (text ++ concat more) (left ++ concat new) kept
+IsPrintedUpTo-handed plan schema o text left old more new kept up are = record {
+  front = up.front;
+  is = up.is;
+  are = ap (λ l. l ++ concat more) up.are ∙ append_assoc up.front (left ++ concat old) (concat more)
+      ∙ ap (λ l. up.front ++ l) (append_assoc left (concat old) (concat more) ∙ ap (λ l. left ++ l) (sym (concat-append old more) ∙ ap concat (sym are)));
+}
 
 -- nothing came, and nothing was printed
 pub HasPrinted-none : (plan : RangePlan) (schema : List Entry) (o : WriteOptions) (before : Option (List ℕ)) (limit : ℕ) (intake : Intake) (kept : Kept) → intake.size ≤ limit → (intake.is_ended ≡ true → IsAtEnd before)
@@ -97,26 +120,63 @@ HasPrinted-none plan schema o before limit intake kept within ended end rows lin
   is = AreAllPrinted-none plan schema o kept end rows lines;
 }
 
--- a text more came, and the front of it was printed
-pub HasPrinted-more : (plan : RangePlan) (schema : List Entry) (o : WriteOptions) (before now after : Option (List ℕ)) (limit : ℕ) (first intake next last : Intake) (old kept : Kept) (text : List ℕ)
-    → (has : HasPrinted plan schema o before now limit first intake old) → HasGiven now after limit intake next text → IsPrintedOn plan schema o (has.text ++ text) next last kept
-    → HasPrinted plan schema o before after limit first last kept
-HasPrinted-more plan schema o before now after limit first intake next last old kept text has given on =
-    let both = HasGiven-more before now after limit first intake next has.text text has.given given in
+-- none of the texts that were printed has one behind it
+pub HasInLine-first : (plan : RangePlan) (schema : List Entry) (o : WriteOptions) (before now : Option (List ℕ)) (limit : ℕ) (first intake : Intake) (kept : Kept) (left : List ℕ) (pending : List (List ℕ))
+    → HasPrinted plan schema o before now limit first intake kept → left ≡ [] → pending ≡ [] → HasInLine plan schema o before now limit first intake kept left pending
+HasInLine-first plan schema o before now limit first intake kept left pending has none empty = record {
+  text = has.text;
+  given = has.given;
+  is = subst (λ (l : List ℕ). IsPrintedUpTo plan schema o has.text l kept) (sym (ap (λ l. l ++ concat pending) none ∙ ap concat empty)) (IsPrintedUpTo-all plan schema o has.text kept has.is);
+}
+
+-- more of them are printed
+pub HasInLine-printed : (plan : RangePlan) (schema : List Entry) (o : WriteOptions) (before now : Option (List ℕ)) (limit : ℕ) (first intake : Intake) (old kept : Kept) (left after : List ℕ) (pending others : List (List ℕ))
+    → HasInLine plan schema o before now limit first intake old left pending
+    → ((text : List ℕ) → IsPrintedUpTo plan schema o text (left ++ concat pending) old → IsPrintedUpTo plan schema o text (after ++ concat others) kept)
+    → HasInLine plan schema o before now limit first intake kept after others
+HasInLine-printed plan schema o before now limit first intake old kept left after pending others has more = record { text = has.text; given = has.given; is = more has.text has.is }
+
+-- texts came, and were handed out
+pub HasInLine-handed : (plan : RangePlan) (schema : List Entry) (o : WriteOptions) (before now after : Option (List ℕ)) (limit : ℕ) (first intake next : Intake) (kept : Kept) (left : List ℕ) (old new : List (List ℕ))
+    → HasInLine plan schema o before now limit first intake kept left old → HasHanded now after limit intake next old new → HasInLine plan schema o before after limit first next kept left new
+HasInLine-handed plan schema o before now after limit first intake next kept left old new has handed = record {
+  text = has.text ++ concat handed.more;
+  given = HasGiven-more before now after limit first intake next has.text (concat handed.more) has.given handed.given;
+  is = IsPrintedUpTo-handed plan schema o has.text left old handed.more new kept has.is handed.are;
+}
+
+-- what stands behind them was taken back
+pub HasInLine-back : (plan : RangePlan) (schema : List Entry) (o : WriteOptions) (before now : Option (List ℕ)) (limit : ℕ) (first intake next : Intake) (kept : Kept) (left : List ℕ) (pending : List (List ℕ))
+    → HasInLine plan schema o before now limit first intake kept left pending → next.rest.items ≡ (left ++ concat pending) ++ intake.rest.items → next.size ≡ intake.size → next.is_ended ≡ intake.is_ended
+    → HasPrinted plan schema o before now limit first next kept
+HasInLine-back plan schema o before now limit first intake next kept left pending has rest size ended =
+    let up = has.is in
     record {
-      text = on.printed;
+      text = up.front;
       given = record {
-        bytes = both.bytes;
+        bytes = has.given.bytes;
         gained = record {
-          came = both.gained.came;
-          size_is = on.size_is ∙ both.gained.size_is;
-          within = omega (arith, on.size_is, both.gained.within);
-          ended = λ is. both.gained.ended (sym on.ended_is ∙ is);
+          came = has.given.gained.came;
+          size_is = size ∙ has.given.gained.size_is;
+          within = omega (arith, size, has.given.gained.within);
+          ended = λ is. has.given.gained.ended (sym ended ∙ is);
         };
-        are = both.are ∙ on.are;
+        are = has.given.are ∙ ap (λ l. l ++ intake.rest.items) up.are ∙ append_assoc up.front (left ++ concat pending) intake.rest.items ∙ ap (λ l. up.front ++ l) (sym rest);
       };
-      is = on.is;
+      is = up.is;
     }
+
+-- a text more came, the front of it was printed, and what is left of it was taken back
+pub HasPrinted-more : (plan : RangePlan) (schema : List Entry) (o : WriteOptions) (before now after : Option (List ℕ)) (limit : ℕ) (first intake next last : Intake) (old kept : Kept) (text left : List ℕ)
+    → (has : HasPrinted plan schema o before now limit first intake old) → HasGiven now after limit intake next text → IsPrintedUpTo plan schema o (has.text ++ text) left kept
+    → last.rest.items ≡ left ++ next.rest.items → last.size ≡ next.size → last.is_ended ≡ next.is_ended → HasPrinted plan schema o before after limit first last kept
+HasPrinted-more plan schema o before now after limit first intake next last old kept text left has given up rest size ended =
+    let line : HasInLine plan schema o before after limit first next kept left [] = record {
+      text = has.text ++ text;
+      given = HasGiven-more before now after limit first intake next has.text text has.given given;
+      is = subst (λ (l : List ℕ). IsPrintedUpTo plan schema o (has.text ++ text) l kept) (sym (append-nil left)) up;
+    } in
+    HasInLine-back plan schema o before after limit first next last kept left [] line (rest ∙ ap (λ l. l ++ next.rest.items) (sym (append-nil left))) size ended
 
 -- ---- what came of a source
 

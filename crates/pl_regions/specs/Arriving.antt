@@ -44,14 +44,6 @@ pub record IsPrintedUpTo (plan : RangePlan) (schema : List Entry) (o : WriteOpti
   pub is : AreAllPrinted plan schema o front kept
   pub are : text ≡ front ++ left
 
--- the lines of the front of a text, and what stands behind that was taken back
-pub record IsPrintedOn (plan : RangePlan) (schema : List Entry) (o : WriteOptions) (text : List ℕ) (intake next : Intake) (kept : Kept) : Type 0 where
-  pub printed : List ℕ
-  pub is : AreAllPrinted plan schema o printed kept
-  pub are : text ++ intake.rest.items ≡ printed ++ next.rest.items
-  pub size_is : next.size ≡ intake.size
-  pub ended_is : next.is_ended ≡ intake.is_ended
-
 -- what came of a source, behind what was kept of it before, and is not kept: these are the lines of it
 pub record HasPrinted (plan : RangePlan) (schema : List Entry) (o : WriteOptions) (before now : Option (List ℕ)) (limit : ℕ) (intake next : Intake) (kept : Kept) : Type 0 where
   pub text : List ℕ

@@ -416,11 +416,7 @@ fn print_in_line<'q, 'a, K: Handing<Kept> + Send + Sync, W: Threads + Wait + Syn
 /// reads the source; the other workers start after the first text, where that is not all. What is not kept is taken back. Tells whether there is none.
 ///
 /// Refuses as `read_all` does, with those bytes that came before counted in.
-pub(crate) fn print_and_keep<
-    K: Handing<Kept> + Send + Sync,
-    W: Threads + Wait + Sync,
-    So: Source,
->(
+pub(crate) fn print_and_keep<K: Handing<Kept> + Send + Sync, W: Threads + Wait + Sync, So: Source>(
     rt: &W,
     alloc: Global,
     workers: usize,

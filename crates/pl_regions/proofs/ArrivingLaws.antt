@@ -25,7 +25,6 @@ use Rattle.pl_regions.proofs.LimitLaws.{front-longer, decided}
 use Rattle.pl_regions.specs.Arriving.{AreAllPrinted, IsFrontKept, IsPrintedUpTo, HasInLine, HasPrinted, IsFrontArrived, HasAllCome, IsArrivalOf, HasArrived}
 use Rattle.pl_regions.specs.Limits.{without_limit, IsFull}
 use Rattle.pl_regions.specs.Printing.{IsLeftBehind, IsPrintedFront}
-use Rattle.pl_regions.specs.declared.front.Front.{Front}
 use Rattle.pl_regions.specs.declared.arriving.Arrival.{Arrival}
 use Rattle.pl_regions.specs.declared.kept.Arrived.{Arrived}
 use Rattle.pl_regions.specs.declared.kept.Kept.{Kept}

@@ -119,7 +119,7 @@ fn print_lent<'a, W: Threads + Wait + Sync, So: Source>(
     }
 }
 
-// Reads the texts of a source and prints them, by one worker text by text, by several round by round, each in the memory of those before it.
+// Reads the texts of a source and prints them, by one worker text by text, by several side by side, each in the memory of one before it.
 //
 // Refuses as `read_all` does, with those bytes that came before counted in.
 fn print_kept<'a, W: Threads + Wait + Sync, So: Source>(

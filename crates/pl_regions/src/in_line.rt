@@ -1,5 +1,5 @@
 //! Texts of a source, printed by workers while those behind them come, whose lines are kept as soon as all before them are.
-ghost use Rattle.std.specs.Prelude.{◌≡◌, ◌<◌, ◌≤◌, ◌×◌, ℕ, List, Option, true, IfOk, IfSome, OnOk, IsErrOf, length, map};
+ghost use Rattle.std.specs.Prelude.{◌≡◌, ◌<◌, ◌≤◌, ℕ, List, Option, true, IfOk, IfSome, OnOk, IsErrOf, length, map};
 ghost use Rattle.std.specs.Io.KnownBytes.{IsAtEnd};
 ghost use Rattle.std.specs.Thread.{IsSync};
 ghost use Rattle.pl_frame.specs.Causes.{Rose};
@@ -144,10 +144,9 @@ fn hand_and_print<'a, K: Handing<Kept>, W: Wait, So: Source>(
     let mut place = 1;
     let mut is_open = true;
     for _ in rt.forever() {
-        line.pending.keep(queue.collect(rt, alloc));
-        if line.keep(alloc, most).is_err() {
+        let Ok(()) = line.keep(alloc, queue.collect(rt, alloc), most) else {
             return Err(ReadAllFault::OutOfMemory);
-        }
+        };
         if !line.left.is_empty() {
             queue.stop(rt);
             return Ok(());
@@ -405,8 +404,7 @@ fn print_in_line<'q, 'a, K: Handing<Kept> + Send + Sync, W: Threads + Wait + Syn
         queue: _,
         mut line,
     } = printing;
-    line.pending.keep(queue.collect(rt, alloc));
-    match line.keep(alloc, most) {
+    match line.keep(alloc, queue.collect(rt, alloc), most) {
         Ok(()) => Ok(line),
         Err(_) => Err(ReadAllFault::OutOfMemory),
     }
@@ -441,7 +439,7 @@ pub(crate) fn print_and_keep<K: Handing<Kept> + Send + Sync, W: Threads + Wait +
     requires means { (text : List ℕ) (front : Kept) → K.reads text front → IsFrontKept plan.now schema.now (cell_options options.now) text front }
     requires within { intake.old.size ≤ limit }
     requires few { IfSome most (λ most. kept.rows ≤ most) }
-    ensures printed { (before : Option (List ℕ)) (first : Intake) → HasPrinted plan.now schema.now (cell_options options.now) before (So.left source.old) limit first intake.old kept.entry
+    ensures printed { (before : Option (List ℕ)) (first : Intake) → HasPrinted plan.now schema.now (cell_options options.now) before (So.left source.old) limit first intake.old kept
         → IfOk result (λ r. HasPrinted plan.now schema.now (cell_options options.now) before (So.left source.new) limit first intake.new r.0) }
     ensures few { IfOk result (λ r. IfSome most (λ most. r.0.rows ≤ most)) }
     ensures too_long { IsErrOf result ReadAllFault.TooLong → IsPastLimit (So.left source.old) (So.left source.new) limit intake.old.size }

@@ -70,7 +70,8 @@ fn print_next<So: Source>(
     if intake.put_back(left).is_err() {
         return Err(ReadAllFault::OutOfMemory);
     }
-    if is_all { Ok(Some(text)) } else { Ok(None) }
+    let room = if is_all { Some(text) } else { None };
+    Ok(room)
 }
 
 /// Reads texts of a source and prints them, one after another, until it has no more, or one is not printed to its end or has too many rows: what is

@@ -109,7 +109,7 @@ pub(crate) fn keep_front(
     requires inside { front.end ≤ length text.now }
     requires few { IfSome most (λ most. kept.old.rows ≤ most) }
     ensures printed { (plan : RangePlan) (schema : List Entry) (o : WriteOptions) (before : List ℕ) → IsDialect (marks_of plan.dialect) (comment_of plan.dialect)
-        → AreAllPrinted plan schema o before kept.old → IsFrontKept plan schema o text.now front.entry
+        → AreAllPrinted plan schema o before kept.old → IsFrontKept plan schema o text.now front
         → IfOk result (λ left. IsPrintedUpTo plan schema o (before ++ text.now) left.items kept.new) }
     ensures few { OnOk result (IfSome most (λ most. kept.new.rows ≤ most)) }
 {

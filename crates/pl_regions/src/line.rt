@@ -1,16 +1,17 @@
 //! Texts of a source in their order: those whose lines are kept, and behind them those that were handed out.
-ghost use Rattle.std.specs.Prelude.{◌≡◌, ◌++◌, [], ◌≤◌, ℕ, List, IfOk, IfSome, OnOk, length};
+ghost use Rattle.std.specs.Prelude.{◌≡◌, ◌++◌, [], ◌≤◌, ℕ, List, Option, IfOk, IfSome, OnOk, length};
 ghost use Rattle.std.specs.List.{concat};
 ghost use Rattle.pl_frame.specs.Dialect.{IsDialect};
 ghost use Rattle.pl_frame.specs.Schema.{Entry};
 ghost use Rattle.pl_scan.specs.Dialect.{marks_of, comment_of};
 ghost use Rattle.pl_text.specs.FrameText.{WriteOptions};
 ghost use Rattle.pl_rows.specs.declared.plan.RangePlan.{RangePlan};
-ghost use Rattle.pl_regions.specs.Arriving.{IsFrontKept, IsPrintedUpTo};
+ghost use Rattle.pl_intake.specs.declared.intake.Intake.{Intake};
+ghost use Rattle.pl_regions.specs.Arriving.{HasInLine, IsFrontKept, IsPrintedUpTo};
 ghost use Rattle.pl_regions.specs.declared.kept.Kept.{Kept};
 
 use crate::kept::{Kept, keep_front};
-use pl_intake::handed::Handing;
+use pl_intake::handed::{Handing, ReadText};
 use pl_intake::intake::Intake;
 use pl_intake::pending::Pending;
 use std::alloc::{AllocError, Global};
@@ -63,9 +64,8 @@ impl<'a, K: Handing<Kept>> Line<'a, K> {
         Ok(())
     }
 
-    /// Keeps the lines of texts as long as they are known and nothing is left of one, but no more rows than a number, if there is one. Refuses only want
-    /// of memory.
-    pub fn keep(&mut self, alloc: Global, most: Option<usize>) -> Result<(), AllocError>
+    // Keeps the lines of texts as long as they are known and nothing is left of one.
+    fn keep_known(&mut self, alloc: Global, most: Option<usize>) -> Result<(), AllocError>
         requires inside { (text : List ℕ) (front : Kept) → K.reads text front → front.end ≤ length text }
         requires few { IfSome most (λ most. self.old.kept.rows ≤ most) }
         ensures line { (plan : RangePlan) (schema : List Entry) (o : WriteOptions) (text : List ℕ) → IsDialect (marks_of plan.dialect) (comment_of plan.dialect)
@@ -80,6 +80,27 @@ impl<'a, K: Handing<Kept>> Line<'a, K> {
             }
             self.keep_first(alloc, most)?;
         }
+        Ok(())
+    }
+
+    /// Keeps the lines of texts, of which these were printed meanwhile, as long as they are known and nothing is left of one, but no more rows than a
+    /// number, if there is one. Refuses only want of memory.
+    pub fn keep(
+        &mut self,
+        alloc: Global,
+        printed: Vec<ReadText<'a, Kept, K>>,
+        most: Option<usize>,
+    ) -> Result<(), AllocError>
+        requires inside { (text : List ℕ) (front : Kept) → K.reads text front → front.end ≤ length text }
+        requires few { IfSome most (λ most. self.old.kept.rows ≤ most) }
+        ensures line { (plan : RangePlan) (schema : List Entry) (o : WriteOptions) (before now : Option (List ℕ)) (limit : ℕ) (first intake : Intake) → IsDialect (marks_of plan.dialect) (comment_of plan.dialect)
+            → ((text : List ℕ) (front : Kept) → K.reads text front → IsFrontKept plan schema o text front)
+            → HasInLine plan schema o before now limit first intake self.old.kept self.old.left.items self.old.pending
+            → OnOk result (HasInLine plan schema o before now limit first intake self.new.kept self.new.left.items self.new.pending) }
+        ensures few { OnOk result (IfSome most (λ most. self.new.kept.rows ≤ most)) }
+    {
+        self.pending.keep(printed);
+        self.keep_known(alloc, most)?;
         Ok(())
     }
 

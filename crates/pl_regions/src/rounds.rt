@@ -64,7 +64,7 @@ fn print_round<W: Threads + Wait + Sync, So: Source>(
     requires size { 0 < piece_size }
     requires within { intake.old.size ≤ limit }
     requires few { IfSome most (λ most. kept.rows ≤ most) }
-    ensures printed { (before : Option (List ℕ)) (first : Intake) → HasPrinted plan.now schema.now (cell_options options.now) before (So.left source.old) limit first intake.old kept.entry
+    ensures printed { (before : Option (List ℕ)) (first : Intake) → HasPrinted plan.now schema.now (cell_options options.now) before (So.left source.old) limit first intake.old kept
         → IfOk result (λ r. HasPrinted plan.now schema.now (cell_options options.now) before (So.left source.new) limit first intake.new r.0) }
     ensures few { IfOk result (λ r. IfSome most (λ most. r.0.rows ≤ most)) }
     ensures too_long { IsErrOf result ReadAllFault.TooLong → IsPastLimit (So.left source.old) (So.left source.new) limit intake.old.size }

@@ -14,11 +14,11 @@ loop-init g c = record {
   later = omega arith;
 }
 
-pub returns-in_err-print_round-clause-too_long : goal.returns-in_err-print_round-clause-too_long
-returns-in_err-print_round-clause-too_long g c = λ fault. IsTooLong-behind _ _ _ _ _ _ _ c.loop.invariant.printed.given (c.in_err-print_round.ensures.too_long (search rules))
+pub returns-in_err-after-clause-too_long : goal.returns-in_err-after-clause-too_long
+returns-in_err-after-clause-too_long g c = λ fault. IsTooLong-behind _ _ _ _ _ _ _ c.loop.invariant.printed.given (c.in_err-after.ensures.too_long (search rules))
 
-pub returns-in_err-print_round-clause-failed : goal.returns-in_err-print_round-clause-failed
-returns-in_err-print_round-clause-failed g c = λ fault. HasStopped-behind _ _ _ _ _ _ _ c.loop.invariant.printed.given (c.in_err-print_round.ensures.failed (search rules))
+pub returns-in_err-after-clause-failed : goal.returns-in_err-after-clause-failed
+returns-in_err-after-clause-failed g c = λ fault. HasStopped-behind _ _ _ _ _ _ _ c.loop.invariant.printed.given (c.in_err-after.ensures.failed (search rules))
 
-pub returns-then-not-branch-clause-printed : goal.returns-then-not-branch-clause-printed
-returns-then-not-branch-clause-printed g c = c.in_ok-print_round.ensures.printed (g.So.Source.left c.args.source.now) c.args.intake.now c.loop.invariant.printed
+pub returns-then-not-is_all-clause-printed : goal.returns-then-not-is_all-clause-printed
+returns-then-not-is_all-clause-printed g c = c.in_ok-after.ensures.printed (g.So.Source.left c.args.source.now) c.args.intake.now c.loop.invariant.printed

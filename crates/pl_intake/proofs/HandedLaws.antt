@@ -1,5 +1,5 @@
 -- Texts of a source that are handed to workers.
-use Rattle.std.proofs.Common.{◌≡◌, ℕ, ◌≤◌, List, [], ◌++◌, Option, sym, ◌∙◌, arith, append-nil}
+use Rattle.std.proofs.Common.{◌≡◌, ℕ, List, [], ◌++◌, Option, sym, ◌∙◌, arith, append-nil}
 use Rattle.pl_intake.specs.Intake.{HasGiven}
 use Rattle.pl_intake.specs.Handed.{HasHanded}
 use Rattle.pl_intake.specs.declared.intake.Intake.{Intake}

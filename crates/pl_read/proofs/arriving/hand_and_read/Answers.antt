@@ -54,7 +54,7 @@ loop-preserved-else-not-give_back g c =
     let some = c.loop.invariant.some in
     let back = written_back c.loop.buffers.items c.read_text.new.buffers c.loop.buffers.len (omega (arith, c.loop.buffers.ok, c.deref_mut.ensures.len)) (omega (arith, c.read_text.auto.buffers, c.deref_mut.ensures.len, c.loop.buffers.ok)) in
     record {
-      empty = ap states back ∙ c.in-Some.ensures ∙ ap states c.deref_mut.ensures.value ∙ c.loop.invariant.empty;
+      empty = ap states back ∙ c.in-Some-read_text.ensures ∙ ap states c.deref_mut.ensures.value ∙ c.loop.invariant.empty;
       some = (some.0, step some.0 some.1);
       line = λ before first has.
           HasInLine-linked plan schema before (left c.loop.source) first c.loop.intake old.linked line.linked old.left.items line.left.items old.pending line.pending (c.loop.invariant.line before first has) step;

@@ -10,4 +10,4 @@ empty_buffers-requires-clause-places g c = rising-below 0 (length c.args.schema.
 pub loop-preserved : goal.loop-preserved
 loop-preserved g c =
     let back = written_back c.loop.buffers.items c.read_text.new.buffers c.loop.buffers.len (omega (arith, c.loop.buffers.ok, c.deref_mut.ensures.len)) (omega (arith, c.read_text.auto.buffers, c.deref_mut.ensures.len, c.loop.buffers.ok)) in
-    ap states back ∙ c.in-Some.ensures ∙ ap states c.deref_mut.ensures.value ∙ c.loop.invariant
+    ap states back ∙ c.in-Some-read_text.ensures ∙ ap states c.deref_mut.ensures.value ∙ c.loop.invariant

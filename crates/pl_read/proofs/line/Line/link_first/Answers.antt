@@ -17,8 +17,8 @@ link_behind-requires-clause-read g c =
     (some-meant (g.K.Handing.reads one) (IsPieceFrame plan schema c.as_slice.result.now) read (λ frame reads. subst (λ (t : List ℕ). IsPieceFrame plan schema t frame) (sym text) (c.requires.meant one frame reads))
     c.in-Some.ensures.read)
 
-pub returns-clause-0 : goal.returns-clause-0
-returns-clause-0 g c = λ text up.
+pub returns : goal.returns
+returns g c = λ text up.
     let plan = c.args.plan.now in
     let schema = c.args.schema.now in
     let one : List ℕ = (arc_value c.in-Some.text).items in

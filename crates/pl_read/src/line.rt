@@ -1,5 +1,5 @@
 //! Texts of a source in their order: those that are linked, and behind them those that were handed out and are not linked yet.
-ghost use Rattle.std.specs.Prelude.{◌≡◌, ◌++◌, ◌∷◌, [], ℕ, List, IfOk, OnOk};
+ghost use Rattle.std.specs.Prelude.{◌≡◌, ◌++◌, [], ℕ, List, IfOk, OnOk};
 ghost use Rattle.std.specs.List.{concat};
 ghost use Rattle.pl_read.specs.Arriving.{CanTake, IsLinkedUpTo};
 ghost use Rattle.pl_rows.specs.declared.whole_pieces.PieceFrame.{PieceFrame};

@@ -1,5 +1,5 @@
 //! Texts of a source, read and printed by workers: each text is printed while those behind it are read.
-ghost use Rattle.std.specs.Prelude.{◌≡◌, ◌++◌, ◌<◌, ◌≤◌, ℕ, List, Option, true, false, All, IfOk, IfSome, OnOk, IsErrOf, drop, length, map};
+ghost use Rattle.std.specs.Prelude.{◌≡◌, ◌++◌, ◌<◌, ◌≤◌, ℕ, List, Option, true, false, All, IfOk, IfSome, OnOk, IsErrOf, length, map};
 ghost use Rattle.pl_intake.specs.declared.intake.Intake.{Intake};
 ghost use Rattle.std.specs.Io.KnownBytes.{IsAtEnd};
 ghost use Rattle.std.specs.List.{concat};
@@ -12,7 +12,6 @@ ghost use Rattle.pl_intake.specs.Intake.{HasGiven, HasStopped, IsPastLimit};
 ghost use Rattle.pl_intake.specs.Texts.{AreSetIn};
 ghost use Rattle.pl_regions.specs.Arriving.{IsFrontArrived, IsTaken};
 ghost use Rattle.pl_regions.specs.Limits.{without_limit};
-ghost use Rattle.pl_regions.specs.Printing.{IsPrintedFront};
 ghost use Rattle.pl_regions.specs.Regions.{ArePlaced, IsRegionOf};
 
 use crate::front::{CutFront, Front, front_of};

@@ -4,7 +4,7 @@ ghost use Rattle.std.specs.Io.KnownBytes.{IsAtEnd};
 ghost use Rattle.std.specs.Thread.{IsSync};
 ghost use Rattle.pl_frame.specs.Causes.{Rose};
 ghost use Rattle.pl_intake.specs.declared.intake.Intake.{Intake};
-ghost use Rattle.pl_intake.specs.Intake.{HasGiven, HasStopped, IsPastLimit};
+ghost use Rattle.pl_intake.specs.Intake.{HasStopped, IsPastLimit};
 ghost use Rattle.pl_write.specs.Options.{cell_options};
 ghost use Rattle.pl_verbatim.specs.PrintedTexts.{CanPrint};
 ghost use Rattle.pl_verbatim.specs.Verbatim.{IsVerbatimOf};

@@ -1,5 +1,5 @@
 -- Texts that are printed while those behind them are read.
-use Rattle.std.proofs.Common.{◌≡◌, ℕ, ◌+◌, ◌<◌, ◌≤◌, ◌^◌, true, false, List, [], ◌∷◌, ◌++◌, length, take, drop, map, Option, Vec, Global, refl, sym, ◌∙◌, ap, subst, arith, length-append, length-take, append_assoc, append-nil}
+use Rattle.std.proofs.Common.{◌≡◌, ℕ, ◌+◌, ◌<◌, ◌≤◌, ◌^◌, true, List, [], ◌∷◌, ◌++◌, length, take, drop, map, Option, Vec, Global, refl, sym, ◌∙◌, ap, subst, arith, length-append, length-take, append_assoc, append-nil}
 use Rattle.std.specs.Cow.{cow_slice_items}
 use Rattle.std.specs.Io.KnownBytes.{IsAtEnd}
 use Rattle.std.specs.List.{concat}
@@ -20,12 +20,12 @@ use Rattle.pl_intake.proofs.TextLaws.{came-whole, HasGiven-more}
 use Rattle.pl_rows.specs.declared.plan.RangePlan.{RangePlan}
 use Rattle.pl_verbatim.specs.PrintedTexts.{IsTextPrinted}
 use Rattle.pl_verbatim.proofs.PrintingLaws.{IsTextPrinted-nil, IsTextPrinted-append}
-use Rattle.pl_regions.proofs.RegionLaws.{unread, lines-joined, text-pushed}
+use Rattle.pl_regions.proofs.RegionLaws.{lines-joined, text-pushed}
 use Rattle.pl_regions.proofs.LimitLaws.{front-longer, decided}
-use Rattle.pl_regions.specs.Arriving.{AreAllPrinted, IsFrontKept, IsPrintedUpTo, HasInLine, HasPrinted, IsFrontArrived, HasAllCome, IsArrivalOf, HasArrived}
+use Rattle.pl_regions.specs.Arriving.{AreAllPrinted, IsFrontKept, IsPrintedUpTo, HasInLine, HasPrinted, IsFrontArrived, HasAllCome, HasArrived}
+use Rattle.pl_regions.specs.declared.printing.PrintedRows.{PrintedRows}
 use Rattle.pl_regions.specs.Limits.{without_limit, IsFull}
-use Rattle.pl_regions.specs.Printing.{IsLeftBehind, IsPrintedFront}
-use Rattle.pl_regions.specs.declared.arriving.Arrival.{Arrival}
+use Rattle.pl_regions.specs.Printing.{IsLeftBehind, IsPrinted, IsPrintedFront}
 use Rattle.pl_regions.specs.declared.kept.Arrived.{Arrived}
 use Rattle.pl_regions.specs.declared.kept.Kept.{Kept}
 
@@ -180,36 +180,21 @@ HasPrinted-more plan schema o before now after limit first intake next last old 
 -- ---- what came of a source
 
 -- a front of texts, and all that is left of them and of what stands behind them
-pub arrived-whole : (plan : RangePlan) (schema : List Entry) (o : WriteOptions) (longest : ℕ) (text rest : List ℕ) (arrived : Arrived) → IsPrintedFront (without_limit plan) schema o text arrived.front
-    → arrived.left.items ≡ drop arrived.front.end (text ++ rest) → arrived.is_long ≡ false → length (text ++ rest) ≤ longest → IsFrontArrived plan schema o longest (text ++ rest) arrived
-arrived-whole plan schema o longest text rest arrived printed left not_long short = record {
+pub arrived-whole : (plan : RangePlan) (schema : List Entry) (o : WriteOptions) (text rest : List ℕ) (arrived : Arrived) → IsPrintedFront (without_limit plan) schema o text arrived.front
+    → arrived.left.items ≡ drop arrived.front.end (text ++ rest) → IsFrontArrived plan schema o (text ++ rest) arrived
+arrived-whole plan schema o text rest arrived printed left = record {
   text = text ++ rest;
   within = omega arith;
   decides = λ printed is. is;
   printed = front-longer (without_limit plan) schema o text rest arrived.front.end arrived.front.rows (concat (map cow_slice_items arrived.front.lines.items)) printed;
   left_is = left;
-  long = λ is. absurd (cc);
-  short = λ is. short;
-}
-
--- the same where nothing was printed of it, since it is too long
-pub arrived-long : (plan : RangePlan) (schema : List Entry) (o : WriteOptions) (longest : ℕ) (records : List ℕ) (arrived : Arrived) → arrived.front.end ≡ 0 → arrived.front.rows ≡ 0 → arrived.front.lines.items ≡ []
-    → arrived.left.items ≡ records → arrived.is_long ≡ true → IsFrontArrived plan schema o longest records arrived
-arrived-long plan schema o longest records arrived end rows lines left is_long = record {
-  text = records;
-  within = omega arith;
-  decides = λ printed is. is;
-  printed = unread (without_limit plan) schema o records arrived.front.end arrived.front.rows _ end rows (ap (λ (l : List (CowSlice ℕ Global)). concat (map cow_slice_items l)) lines);
-  left_is = left ∙ sym (ap (λ (k : ℕ). drop k records) end);
-  long = λ is. left;
-  short = λ is. absurd (cc);
 }
 
 -- the same where the first of the texts reach the limit, and only these are left
-pub arrived-full : (plan : RangePlan) (schema : List Entry) (o : WriteOptions) (longest : ℕ) (texts : List (List ℕ)) (rest : List ℕ) (arrived : Arrived) (count : ℕ) → IsDialect (marks_of plan.dialect) (comment_of plan.dialect)
+pub arrived-full : (plan : RangePlan) (schema : List Entry) (o : WriteOptions) (texts : List (List ℕ)) (rest : List ℕ) (arrived : Arrived) (count : ℕ) → IsDialect (marks_of plan.dialect) (comment_of plan.dialect)
     → IsFull (without_limit plan) schema o plan.limit texts arrived.front count → arrived.left.items ≡ drop arrived.front.end (concat (take count texts) ++ [])
-    → arrived.is_long ≡ false → length (concat texts ++ rest) ≤ longest → IsFrontArrived plan schema o longest (concat texts ++ rest) arrived
-arrived-full plan schema o longest texts rest arrived count apart full left not_long short =
+    → IsFrontArrived plan schema o (concat texts ++ rest) arrived
+arrived-full plan schema o texts rest arrived count apart full left =
     let text = concat (take count texts) in
     let behind = concat (drop count texts) in
     let whole : concat texts ++ rest ≡ text ++ (behind ++ rest) =
@@ -220,30 +205,28 @@ arrived-full plan schema o longest texts rest arrived count apart full left not_
       decides = decided plan schema o (concat texts ++ rest) text (behind ++ rest) full.number apart full.most_is full.many whole;
       printed = full.is;
       left_is = left ∙ ap (drop arrived.front.end) (append-nil text);
-      long = λ is. absurd (cc);
-      short = λ is. short;
     }
 
 -- all bytes came, and a front of them was printed
-pub HasAllCome-front : (plan : RangePlan) (schema : List Entry) (o : WriteOptions) (longest : ℕ) (before now after : Option (List ℕ)) (limit : ℕ) (intake next last : Intake) (text rest : List ℕ) (arrived : Arrived)
-    → HasGiven before now limit intake next text → HasGainedAll now after limit next last → rest ≡ last.rest.items → IsFrontArrived plan schema o longest (text ++ rest) arrived
-    → HasAllCome plan schema o longest before after limit intake arrived
-HasAllCome-front plan schema o longest before now after limit intake next last text rest arrived one two kept is =
+pub HasAllCome-front : (plan : RangePlan) (schema : List Entry) (o : WriteOptions) (before now after : Option (List ℕ)) (limit : ℕ) (intake next last : Intake) (text rest : List ℕ) (arrived : Arrived)
+    → HasGiven before now limit intake next text → HasGainedAll now after limit next last → rest ≡ last.rest.items → IsFrontArrived plan schema o (text ++ rest) arrived
+    → HasAllCome plan schema o before after limit intake arrived
+HasAllCome-front plan schema o before now after limit intake next last text rest arrived one two kept is =
     let whole = came-whole before now after limit intake next last text rest one two kept in
     record {
       bytes = one.bytes ++ two.bytes;
       came = Consumes-append before now after one.bytes two.bytes one.gained.came two.gained.came;
       end = two.end;
       within = omega (arith, one.gained.size_is, two.gained.size_is, two.gained.within, length-append one.bytes two.bytes);
-      is = subst (λ t. IsFrontArrived plan schema o longest t arrived) whole is;
+      is = subst (λ t. IsFrontArrived plan schema o t arrived) whole is;
     }
 
 -- all bytes came, those that are not kept were printed, and all others are left
 pub HasAllCome-kept : (plan : RangePlan) (schema : List Entry) (o : WriteOptions) (before now after : Option (List ℕ)) (limit : ℕ) (intake next last : Intake) (kept : Kept) (arrived : Arrived) → length intake.rest.items ≤ intake.size
     → HasPrinted (without_limit plan) schema o before now limit intake next kept → HasGainedAll now after limit next last → arrived.front.end ≡ kept.end → arrived.front.rows ≡ kept.rows
-    → concat (map cow_slice_items arrived.front.lines.items) ≡ concat (map (λ text. text.items) kept.lines.items) → arrived.left.items ≡ last.rest.items → arrived.is_long ≡ false
-    → HasAllCome plan schema o limit before after limit intake arrived
-HasAllCome-kept plan schema o before now after limit intake next last kept arrived held has two end rows lines left not_long =
+    → concat (map cow_slice_items arrived.front.lines.items) ≡ concat (map (λ text. text.items) kept.lines.items) → arrived.left.items ≡ last.rest.items
+    → HasAllCome plan schema o before after limit intake arrived
+HasAllCome-kept plan schema o before now after limit intake next last kept arrived held has two end rows lines left =
     let rest = last.rest.items in
     let size : arrived.front.end ≡ length has.text = end ∙ has.is.end_is in
     let front : take arrived.front.end (has.text ++ rest) ≡ has.text = ap (λ (n : ℕ). take n (has.text ++ rest)) size ∙ take-append_seam has.text rest in
@@ -251,7 +234,7 @@ HasAllCome-kept plan schema o before now after limit intake next last kept arriv
     let own : IsTextPrinted all schema o has.text arrived.front.rows (concat (map cow_slice_items arrived.front.lines.items)) =
     subst (λ (n : ℕ). IsTextPrinted all schema o has.text n (concat (map cow_slice_items arrived.front.lines.items))) (sym rows) (subst (IsTextPrinted all schema o has.text kept.rows) (sym lines) has.is.is) in
     let whole = came-whole before now after limit intake next last has.text rest has.given two refl in
-    HasAllCome-front plan schema o limit before now after limit intake next last has.text rest arrived has.given two refl
+    HasAllCome-front plan schema o before now after limit intake next last has.text rest arrived has.given two refl
     (record {
       text = has.text ++ rest;
       within = omega arith;
@@ -261,48 +244,26 @@ HasAllCome-kept plan schema o before now after limit intake next last kept arriv
         front = subst (λ t. IsTextPrinted all schema o t arrived.front.rows (concat (map cow_slice_items arrived.front.lines.items))) (sym front) own;
       };
       left_is = left ∙ sym (drop_at has.text rest arrived.front.end (sym size));
-      long = λ is. absurd (cc);
-      short = λ is.
-          omega (arith, ap length whole, length-append intake.rest.items (has.given.bytes ++ two.bytes), length-append has.given.bytes two.bytes, held, has.given.gained.size_is, two.gained.size_is, two.gained.within);
     })
 
--- where not more comes than a number, not more comes than one that is no less
-pub HasAllCome-longer : (plan : RangePlan) (schema : List Entry) (o : WriteOptions) (less longest : ℕ) (before now : Option (List ℕ)) (limit : ℕ) (intake : Intake) (arrived : Arrived) → less ≤ longest
-    → HasAllCome plan schema o less before now limit intake arrived → HasAllCome plan schema o longest before now limit intake arrived
-HasAllCome-longer plan schema o less longest before now limit intake arrived more come = record {
-  bytes = come.bytes;
-  came = come.came;
-  end = come.end;
-  within = come.within;
-  is = record {
-    text = come.is.text;
-    within = come.is.within;
-    decides = come.is.decides;
-    printed = come.is.printed;
-    left_is = come.is.left_is;
-    long = come.is.long;
-    short = λ is. let few = come.is.short is in omega (arith, few, more);
-  };
-}
-
 -- the records fit 64 bits
-pub small-come : (plan : RangePlan) (schema : List Entry) (o : WriteOptions) (longest : ℕ) (before now : Option (List ℕ)) (limit : ℕ) (intake : Intake) (arrived : Arrived) → limit < 2 ^ 64 → length intake.rest.items ≤ intake.size
-    → (come : HasAllCome plan schema o longest before now limit intake arrived) → length (intake.rest.items ++ come.bytes) < 2 ^ 64
-small-come plan schema o longest before now limit intake arrived fits held come = omega (arith, fits, held, come.within, length-append intake.rest.items come.bytes)
+pub small-come : (plan : RangePlan) (schema : List Entry) (o : WriteOptions) (before now : Option (List ℕ)) (limit : ℕ) (intake : Intake) (arrived : Arrived) → limit < 2 ^ 64 → length intake.rest.items ≤ intake.size
+    → (come : HasAllCome plan schema o before now limit intake arrived) → length (intake.rest.items ++ come.bytes) < 2 ^ 64
+small-come plan schema o before now limit intake arrived fits held come = omega (arith, fits, held, come.within, length-append intake.rest.items come.bytes)
 
 -- what is left behind the front
-pub left-of-front : (plan : RangePlan) (schema : List Entry) (o : WriteOptions) (longest : ℕ) (records : List ℕ) (arrived : Arrived) → length records < 2 ^ 64
-    → (is : IsFrontArrived plan schema o longest records arrived) → IsLeftBehind (without_limit plan) schema o is.text arrived.front arrived.left.items
-left-of-front plan schema o longest records arrived small is = record {
+pub left-of-front : (plan : RangePlan) (schema : List Entry) (o : WriteOptions) (records : List ℕ) (arrived : Arrived) → length records < 2 ^ 64
+    → (is : IsFrontArrived plan schema o records arrived) → IsLeftBehind (without_limit plan) schema o is.text arrived.front arrived.left.items
+left-of-front plan schema o records arrived small is = record {
   small = omega (arith, small, is.within);
   printed = is.printed;
   left_is = is.left_is;
 }
 
 -- all bytes came, and this is what came of them
-pub HasArrived-of : (plan : RangePlan) (schema : List Entry) (o : WriteOptions) (longest : ℕ) (before now : Option (List ℕ)) (limit : ℕ) (intake : Intake) (arrived : Arrived) (arrival : Arrival)
-    → (come : HasAllCome plan schema o longest before now limit intake arrived) → IsArrivalOf plan schema o longest (intake.rest.items ++ come.bytes) arrival → HasArrived plan schema o longest before now limit intake arrival
-HasArrived-of plan schema o longest before now limit intake arrived arrival come is = record {
+pub HasArrived-of : (plan : RangePlan) (schema : List Entry) (o : WriteOptions) (before now : Option (List ℕ)) (limit : ℕ) (intake : Intake) (arrived : Arrived) (printed : PrintedRows)
+    → (come : HasAllCome plan schema o before now limit intake arrived) → IsPrinted plan schema o (intake.rest.items ++ come.bytes) printed → HasArrived plan schema o before now limit intake printed
+HasArrived-of plan schema o before now limit intake arrived printed come is = record {
   bytes = come.bytes;
   came = come.came;
   end = come.end;

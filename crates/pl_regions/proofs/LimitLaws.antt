@@ -6,6 +6,8 @@ use Rattle.std.specs.declared.borrow.CowSlice.{CowSlice}
 use Rattle.std.specs.List.{concat, list_any}
 use Rattle.std.proofs.lemmas.List.{take-append-drop, take-append-le, take_all, take_rest}
 use Rattle.pl_frame.specs.Dialect.{IsDialect}
+use Rattle.pl_frame.specs.Frame.{height_of}
+use Rattle.pl_frame.specs.FrameParts.{stacked}
 use Rattle.pl_frame.specs.Schema.{Entry}
 use Rattle.pl_text.specs.FrameText.{WriteOptions}
 use Rattle.pl_scan.specs.Dialect.{marks_of, comment_of}
@@ -26,7 +28,7 @@ use Rattle.pl_verbatim.specs.PrintedTexts.{CanPrint, IsTextPrinted, IsFrontPrint
 use Rattle.pl_verbatim.proofs.PrintingLaws.{level-text}
 use Rattle.pl_regions.specs.Limits.{without_limit, HasRows, IsDecidedBy}
 use Rattle.pl_regions.specs.Printing.{IsLeftBehind, IsPrinted, IsPrintedFront}
-use Rattle.pl_regions.proofs.PrintingLaws.{left-behind}
+use Rattle.pl_regions.proofs.PrintingLaws.{left-behind, text-high}
 use Rattle.pl_regions.proofs.RegionLaws.{unread}
 use Rattle.pl_regions.specs.declared.front.Front.{Front}
 use Rattle.pl_regions.specs.declared.printing.PrintedRows.{PrintedRows}
@@ -101,6 +103,18 @@ first-end plan schema o records left front read can last is few range =
     ∙ sym both.1
     ∙ ap (range_end plan columns) (take-append-drop front.end records)
 
+-- the columns that are left
+first-columns : (plan : RangePlan) (schema : List Entry) (o : WriteOptions) (records left : List ℕ) (front : Front) (read : RangeColumns) → plan.last ≡ true
+    → IsLeftBehind (without_limit plan) schema o records front left → IsRangeRead (plan_behind plan front.rows true) schema left read
+    → read.columns.items ≡ range_frame (plan_behind plan (length (rows (marks_of plan.dialect) (comment_of plan.dialect) (take front.end records))) plan.last) schema (drop front.end records)
+first-columns plan schema o records left front read last is range =
+    let rest = drop front.end records in
+    let n = length (rows (marks_of plan.dialect) (comment_of plan.dialect) (take front.end records)) in
+    range.columns
+    ∙ ap (range_frame (plan_behind plan front.rows true) schema) is.left_is
+    ∙ ap (λ (k : ℕ). range_frame (plan_behind plan k true) schema rest) is.printed.front.count_is
+    ∙ ap (λ t. range_frame (plan_behind plan n t) schema rest) (sym last)
+
 -- all lines
 pub first-lines : (plan : RangePlan) (schema : List Entry) (o : WriteOptions) (records left : List ℕ) (front : Front) (read : RangeColumns) → CanPrint (without_limit plan) schema → plan.last ≡ true
     → IsLeftBehind (without_limit plan) schema o records front left → IfSome plan.limit (λ limit. front.rows ≤ limit) → IsRangeRead (plan_behind plan front.rows true) schema left read
@@ -112,15 +126,25 @@ first-lines plan schema o records left front read can last is few range =
     let n = length (rows (marks_of plan.dialect) (comment_of plan.dialect) text) in
     let p = plan_behind plan n plan.last in
     let both = range-after plan schema text rest can.dialect (sound-first plan schema text is.printed.front.sound) (few-first plan schema o records left front is few) in
-    let columns_are : read.columns.items ≡ range_frame p schema rest =
-    range.columns
-    ∙ ap (range_frame (plan_behind plan front.rows true) schema) is.left_is
-    ∙ ap (λ (k : ℕ). range_frame (plan_behind plan k true) schema rest) is.printed.front.count_is
-    ∙ ap (λ t. range_frame (plan_behind plan n t) schema rest) (sym last) in
+    let columns_are = first-columns plan schema o records left front read last is range in
     let same = same-rows (rules_of plan) (entries_in schema places) (rows (marks_of plan.dialect) (comment_of plan.dialect) text) (rows_read p (columns_in schema places) rest) in
     (λ j. is.printed.front.lines_are j ++ all_lines o (columns_are j))
     ∙ sym (lines-stacked o (text_frame plan schema text) (range_frame p schema rest) same (level-text plan schema text))
     ∙ ap (all_lines o) (sym both.0 ∙ ap (range_frame plan schema) (take-append-drop front.end records))
+
+-- all rows
+pub first-high : (plan : RangePlan) (schema : List Entry) (o : WriteOptions) (records left : List ℕ) (front : Front) (read : RangeColumns) → CanPrint (without_limit plan) schema → plan.last ≡ true
+    → IsLeftBehind (without_limit plan) schema o records front left → IfSome plan.limit (λ limit. front.rows ≤ limit) → IsRangeRead (plan_behind plan front.rows true) schema left read
+    → height_of (range_frame plan schema records) ≤ front.rows + height_of read.columns.items
+first-high plan schema o records left front read can last is few range =
+    let text = take front.end records in
+    let rest = drop front.end records in
+    let n = length (rows (marks_of plan.dialect) (comment_of plan.dialect) text) in
+    let p = plan_behind plan n plan.last in
+    let both = range-after plan schema text rest can.dialect (sound-first plan schema text is.printed.front.sound) (few-first plan schema o records left front is few) in
+    let columns_are : read.columns.items ≡ range_frame p schema rest = first-columns plan schema o records left front read last is range in
+    let frame : range_frame plan schema records ≡ stacked (text_frame plan schema text) (range_frame p schema rest) = ap (range_frame plan schema) (sym (take-append-drop front.end records)) ∙ both.0 in
+    omega (arith, ap height_of frame, ap height_of columns_are, text-high (without_limit plan) schema o text front.rows _ (range_frame p schema rest) is.printed.front)
 
 -- the number of a row that has a fault is one of 64 bits
 pub first-fits : (plan : RangePlan) (schema : List Entry) (o : WriteOptions) (records left : List ℕ) (front : Front) (read : RangeColumns) → CanPrint (without_limit plan) schema
@@ -158,6 +182,7 @@ printed-by-rows plan schema o text records printed same is =
     record {
       end_is = is.end_is ∙ sym same_end;
       lines_are = λ sound. is.lines_are sound ∙ ap (all_lines o) (sym same_frame);
+      rows_are = λ sound. omega (arith, is.rows_are sound, ap height_of same_frame);
     }
 
 -- A limit that is at least the number of bytes is not reached, since there are no more rows than bytes.
@@ -175,6 +200,7 @@ all-printed plan schema o records printed dialect few is =
     record {
       end_is = is.end_is ∙ sym same_end;
       lines_are = λ sound. is.lines_are sound ∙ ap (all_lines o) (sym same_frame);
+      rows_are = λ sound. omega (arith, is.rows_are sound, ap height_of same_frame);
     }
 
 -- ---- a limit that a text reaches

@@ -3,9 +3,10 @@ use Rattle.std.proofs.Common.{◌≡◌, ℕ, true, not, None, ◌+◌, ◌<◌,
 use Rattle.std.specs.Cow.{cow_slice_items}
 use Rattle.std.specs.List.{concat, list_any}
 use Rattle.std.specs.Prelude.{filter}
-use Rattle.std.proofs.lemmas.List.{append-nil, take-append-drop, drop-drop, drop_more}
+use Rattle.std.proofs.lemmas.List.{append-nil, length-append, take-append-drop, drop-drop, drop_more}
 use Rattle.pl_frame.specs.Dialect.{IsDialect}
-use Rattle.pl_frame.specs.Frame.{HaveHeight, height_of}
+use Rattle.pl_frame.specs.Frame.{ColumnValue, HaveHeight, height_of}
+use Rattle.pl_frame.specs.FrameParts.{stacked}
 use Rattle.pl_frame.specs.Schema.{Entry}
 use Rattle.pl_text.specs.FrameText.{WriteOptions}
 use Rattle.pl_scan.specs.Dialect.{marks_of, comment_of}
@@ -22,10 +23,10 @@ use Rattle.pl_rows.proofs.RangeLaws.{rows-nil}
 use Rattle.pl_table.specs.Rows.{Row, rows}
 use Rattle.pl_rows.specs.WholePieces.{text_frame}
 use Rattle.pl_rows.proofs.FrameLaws.{have_height}
-use Rattle.pl_rows.proofs.SoundTextLaws.{range-behind, same-columns-range, row-fits}
+use Rattle.pl_rows.proofs.SoundTextLaws.{height-text, range-behind, same-columns-range, row-fits}
 use Rattle.pl_write.specs.Batches.{all_lines}
 use Rattle.pl_write.proofs.StackLaws.{lines-stacked}
-use Rattle.pl_verbatim.specs.PrintedTexts.{CanPrint, IsFrontPrinted}
+use Rattle.pl_verbatim.specs.PrintedTexts.{CanPrint, IsFrontPrinted, IsTextPrinted}
 use Rattle.pl_verbatim.proofs.PrintingLaws.{level, level-text, IsTextPrinted-nil}
 use Rattle.pl_regions.proofs.RegionLaws.{front-behind, lines-joined, few-printed}
 use Rattle.pl_regions.specs.Printing.{IsLeftBehind, IsPrinted, IsPrintedFront}
@@ -107,6 +108,37 @@ whole-lines plan schema o records left front read can last is range =
     ∙ sym (lines-stacked o (text_frame plan schema text) (range_frame plan schema rest) (same-columns-range plan schema text rest) (level-text plan schema text))
     ∙ ap (all_lines o) (sym both.0 ∙ ap (range_frame plan schema) (take-append-drop front.end records))
 
+-- ---- how many rows
+
+-- columns have no more rows than their height says
+height-most : (n : ℕ) (columns : List ColumnValue) → HaveHeight n columns → height_of columns ≤ n
+height-most n [] have = omega arith
+height-most n (c ∷ cs) have = omega (arith, have.0)
+
+stacked-high : (columns others : List ColumnValue) → height_of (stacked columns others) ≤ height_of columns + height_of others
+stacked-high [] others = omega arith
+stacked-high (c ∷ cs) [] = omega arith
+stacked-high (c ∷ cs) (d ∷ ds) = omega (arith, length-append c.values d.values)
+
+-- the rows of a text that was printed, and of columns behind it
+pub text-high : (plan : RangePlan) (schema : List Entry) (o : WriteOptions) (text : List ℕ) (count : ℕ) (lines : List ℕ) (rest : List ColumnValue) → IsTextPrinted plan schema o text count lines
+    → height_of (stacked (text_frame plan schema text) rest) ≤ count + height_of rest
+text-high plan schema o text count lines rest is =
+    omega (arith, stacked-high (text_frame plan schema text) rest, height-most _ (text_frame plan schema text) (height-text plan schema text), is.count_is)
+
+-- all rows
+pub whole-rows : (plan : RangePlan) (schema : List Entry) (o : WriteOptions) (records left : List ℕ) (front : Front) (read : RangeColumns) → CanPrint plan schema → plan.last ≡ true
+    → IsLeftBehind plan schema o records front left → IsRangeRead plan schema left read → height_of (range_frame plan schema records) ≤ front.rows + height_of read.columns.items
+whole-rows plan schema o records left front read can last is range =
+    let text = take front.end records in
+    let rest = drop front.end records in
+    let both = range-behind plan schema text rest can.unlimited last can.dialect is.printed.front.sound in
+    let columns_are : read.columns.items ≡ range_frame plan schema rest = range.columns ∙ ap (range_frame plan schema) is.left_is in
+    let frame : range_frame plan schema records ≡ stacked (text_frame plan schema text) (range_frame plan schema rest) = ap (range_frame plan schema) (sym (take-append-drop front.end records)) ∙ both.0 in
+    omega (arith, ap height_of frame, ap height_of columns_are, text-high plan schema o text front.rows _ (range_frame plan schema rest) is.printed.front)
+
+-- ---- no bytes
+
 -- a range without bytes has no rows
 no-rows : (plan : RangePlan) → plan.limit ≡ None → rows_of plan [] ≡ []
 no-rows plan unlimited =
@@ -129,10 +161,18 @@ none-lines plan schema o unlimited =
     ∙ ap (λ (given : List Row). all_lines o (frame_of_rows rules entries given)) (sym (rows-nil (marks_of plan.dialect) (comment_of plan.dialect)))
     ∙ sym (IsTextPrinted-nil plan schema o).lines_are
 
+none-high : (plan : RangePlan) (schema : List Entry) → plan.limit ≡ None → height_of (range_frame plan schema []) ≤ 0
+none-high plan schema unlimited =
+    let rules = rules_of plan in
+    let places = plan.projection.places.now in
+    let entries = entries_in schema places in
+    let same = ap (λ (given : List Row). height_of (frame_of_rows rules entries (sound_rows rules (columns_in schema places) (filter (is_judged plan) given)))) (no-rows plan unlimited) in
+    omega (arith, same, height-most 0 (frame_of_rows rules entries []) (have_height rules [] entries))
+
 -- where nothing is left behind a front, that is all
 pub none-left : (plan : RangePlan) (schema : List Entry) (o : WriteOptions) (records : List ℕ) (front : Front) (printed : PrintedRows) → CanPrint plan schema → plan.last ≡ true
-    → IsLeftBehind plan schema o records front [] → printed.end ≡ end.Closed → printed.lines.items ≡ front.lines.items → IsPrinted plan schema o records printed
-none-left plan schema o records front printed can last is closed same =
+    → IsLeftBehind plan schema o records front [] → printed.end ≡ end.Closed → printed.lines.items ≡ front.lines.items → printed.rows ≡ front.rows → IsPrinted plan schema o records printed
+none-left plan schema o records front printed can last is closed same rows =
     let columns = columns_in schema plan.projection.places.now in
     let text = take front.end records in
     let rest = drop front.end records in
@@ -151,6 +191,10 @@ none-left plan schema o records front printed can last is closed same =
           ∙ ap (λ (l : List ℕ). all_lines o (text_frame plan schema text) ++ l) (sym none)
           ∙ sym (lines-stacked o (text_frame plan schema text) (range_frame plan schema rest) (same-columns-range plan schema text rest) (level-text plan schema text))
           ∙ ap (all_lines o) (sym both.0 ∙ ap (range_frame plan schema) (take-append-drop front.end records));
+      rows_are = λ sound.
+          let frame : range_frame plan schema records ≡ stacked (text_frame plan schema text) (range_frame plan schema rest) = ap (range_frame plan schema) (sym (take-append-drop front.end records)) ∙ both.0 in
+          let empty : height_of (range_frame plan schema rest) ≡ height_of (range_frame plan schema []) = ap (λ (t : List ℕ). height_of (range_frame plan schema t)) (sym is.left_is) in
+          omega (arith, rows, ap height_of frame, empty, none-high plan schema can.unlimited, text-high plan schema o text front.rows _ (range_frame plan schema rest) is.printed.front);
     }
 
 -- the number of a row that has a fault is one of 64 bits

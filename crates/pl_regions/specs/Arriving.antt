@@ -1,5 +1,5 @@
 -- Texts that are printed while those behind them are read (docs/workers.md, "From a source to regions").
-use Rattle.std.specs.Prelude.{◌≡◌, true, false, ◌+◌, ◌<◌, ◌≤◌, ℕ, List, ◌++◌, length, map, drop, Option, slice_index_or}
+use Rattle.std.specs.Prelude.{◌≡◌, ◌+◌, ◌<◌, ◌≤◌, ℕ, List, ◌++◌, length, map, drop, Option, slice_index_or}
 use Rattle.std.specs.List.{concat}
 use Rattle.std.specs.Sync.OnceLock.{Named}
 use Rattle.std.specs.Io.KnownBytes.{Consumes, IsAtEnd}
@@ -14,8 +14,7 @@ use Rattle.pl_intake.specs.Intake.{HasGiven}
 use Rattle.pl_intake.specs.declared.intake.Intake.{Intake}
 use Rattle.pl_regions.specs.declared.kept.Kept.{Kept}
 use Rattle.pl_regions.specs.declared.kept.Arrived.{Arrived}
-use Rattle.pl_regions.specs.declared.arriving.Arrival.{Arrival}
-use Rattle.pl_regions.specs.declared.arriving.Arrival.TheVariants as arrival
+use Rattle.pl_regions.specs.declared.printing.PrintedRows.{PrintedRows}
 use Rattle.pl_regions.specs.declared.taken.Taken.{Taken}
 
 -- ---- cells
@@ -59,33 +58,26 @@ pub record HasInLine (plan : RangePlan) (schema : List Entry) (o : WriteOptions)
 
 -- ---- what came of a source
 
--- A text that decides about data was printed in front, without a limit, and this is left of it: all of the data, where that is too long.
-pub record IsFrontArrived (plan : RangePlan) (schema : List Entry) (o : WriteOptions) (longest : ℕ) (records : List ℕ) (arrived : Arrived) : Type 0 where
+-- a text that decides about data was printed in front, without a limit, and this is left of it
+pub record IsFrontArrived (plan : RangePlan) (schema : List Entry) (o : WriteOptions) (records : List ℕ) (arrived : Arrived) : Type 0 where
   pub text : List ℕ
   pub within : length text ≤ length records
   pub decides : IsDecidedBy plan schema o records text
   pub printed : IsPrintedFront (without_limit plan) schema o text arrived.front
   pub left_is : arrived.left.items ≡ drop arrived.front.end text
-  pub long : arrived.is_long ≡ true → arrived.left.items ≡ records
-  pub short : arrived.is_long ≡ false → length records ≤ longest
 
 -- All bytes that were left of a source came. A front of these bytes, behind those that were kept, was printed, and what matters is left of them.
-pub record HasAllCome (plan : RangePlan) (schema : List Entry) (o : WriteOptions) (longest : ℕ) (before now : Option (List ℕ)) (limit : ℕ) (intake : Intake) (arrived : Arrived) : Type 0 where
+pub record HasAllCome (plan : RangePlan) (schema : List Entry) (o : WriteOptions) (before now : Option (List ℕ)) (limit : ℕ) (intake : Intake) (arrived : Arrived) : Type 0 where
   pub bytes : List ℕ
   pub came : Consumes before now bytes
   pub end : IsAtEnd now
   pub within : intake.size + length bytes ≤ limit
-  pub is : IsFrontArrived plan schema o longest (intake.rest.items ++ bytes) arrived
+  pub is : IsFrontArrived plan schema o (intake.rest.items ++ bytes) arrived
 
--- data whose rows were printed, of no more bytes than a number, or the data itself
-abbrev pub IsArrivalOf : RangePlan → List Entry → WriteOptions → ℕ → List ℕ → Arrival → Type 0
-IsArrivalOf plan schema o longest records (arrival.Printed printed) = (length records ≤ longest) × IsPrinted plan schema o records printed
-IsArrivalOf plan schema o longest records (arrival.Records bytes) = bytes.items ≡ records
-
--- All bytes that were left of a source came. This is what came of these bytes, behind those that were kept.
-pub record HasArrived (plan : RangePlan) (schema : List Entry) (o : WriteOptions) (longest : ℕ) (before now : Option (List ℕ)) (limit : ℕ) (intake : Intake) (arrival : Arrival) : Type 0 where
+-- All bytes that were left of a source came. The rows of these bytes, behind those that were kept, were printed.
+pub record HasArrived (plan : RangePlan) (schema : List Entry) (o : WriteOptions) (before now : Option (List ℕ)) (limit : ℕ) (intake : Intake) (printed : PrintedRows) : Type 0 where
   pub bytes : List ℕ
   pub came : Consumes before now bytes
   pub end : IsAtEnd now
   pub within : intake.size + length bytes ≤ limit
-  pub is : IsArrivalOf plan schema o longest (intake.rest.items ++ bytes) arrival
+  pub is : IsPrinted plan schema o (intake.rest.items ++ bytes) printed

@@ -1,7 +1,8 @@
 -- All rows of data, read and printed (docs/regions.md, "From an input to regions").
-use Rattle.std.specs.Prelude.{◌≡◌, ℕ, ◌<◌, ◌^◌, false, List, length, drop, map}
+use Rattle.std.specs.Prelude.{◌≡◌, ℕ, ◌<◌, ◌≤◌, ◌^◌, false, List, length, drop, map}
 use Rattle.std.specs.Cow.{cow_slice_items}
 use Rattle.std.specs.List.{concat}
+use Rattle.pl_frame.specs.Frame.{height_of}
 use Rattle.pl_frame.specs.Schema.{Entry}
 use Rattle.pl_text.specs.FrameText.{WriteOptions}
 use Rattle.pl_rows.specs.Columns.{columns_in}
@@ -23,7 +24,8 @@ pub record IsLeftBehind (plan : RangePlan) (schema : List Entry) (o : WriteOptio
   pub printed : IsPrintedFront plan schema o records front
   pub left_is : left ≡ drop front.end records
 
--- data was read, which ended where it has to, and where no row has a fault, these are the lines of all rows
+-- data was read, which ended where it has to, and where no row has a fault, these are the lines of all rows, and there are no more than these
 pub record IsPrinted (plan : RangePlan) (schema : List Entry) (o : WriteOptions) (records : List ℕ) (printed : PrintedRows) : Type 0 where
   pub end_is : printed.end ≡ range_end plan (columns_in schema plan.projection.places.now) records
   pub lines_are : is_fault printed.end ≡ false → concat (map cow_slice_items printed.lines.items) ≡ all_lines o (range_frame plan schema records)
+  pub rows_are : is_fault printed.end ≡ false → height_of (range_frame plan schema records) ≤ printed.rows

@@ -7,8 +7,9 @@ ghost use Rattle.pl_write.specs.Options.{cell_options};
 ghost use Rattle.pl_verbatim.specs.PrintedTexts.{CanPrint};
 ghost use Rattle.pl_verbatim.specs.Verbatim.{IsVerbatimOf};
 ghost use Rattle.pl_intake.specs.Intake.{HasStopped, IsPastLimit};
-ghost use Rattle.pl_regions.specs.Arriving.{HasAllCome, HasArrived, IsArrivalOf, IsFrontArrived};
+ghost use Rattle.pl_regions.specs.Arriving.{HasAllCome, HasArrived, IsFrontArrived};
 ghost use Rattle.pl_regions.specs.Limits.{without_limit};
+ghost use Rattle.pl_regions.specs.Printing.{IsPrinted};
 
 use crate::beside::{front_decided, read_and_print};
 use crate::first_rows::{print_rows, print_rows_left};
@@ -32,8 +33,7 @@ use std::thread::Threads;
 // A limit of rows is near, where records of this many times the first bytes seem to reach it.
 const NEAR: usize = 16;
 
-// Prints what is left of what came, which is put into a cell of its own, or gives it back, where it is too long. Refuses want of memory, and so
-// where the cell holds something.
+// Prints what is left of what came, which is put into a cell of its own. Refuses want of memory, and so where the cell holds something.
 fn print_left<'a, W: Threads + Wait + Sync>(
     rt: &W,
     alloc: Global,
@@ -44,33 +44,24 @@ fn print_left<'a, W: Threads + Wait + Sync>(
     plan: &RangePlan<'_>,
     options: &SerializeOptions,
     piece_size: usize,
-    longest: usize,
-) -> Result<Arrival<'a>, AllocError>
+) -> Result<PrintedRows<'a>, AllocError>
     requires workers { 0 < workers }
     requires can { CanPrint (without_limit plan.now) schema.now }
     requires last { plan.now.last ≡ true }
     requires size { 0 < piece_size }
     requires few { IfSome plan.now.limit (λ limit. arrived.front.rows ≤ limit) }
-    requires left { (records : List ℕ) × (length records < 2 ^ 64) × IsFrontArrived plan.now schema.now (cell_options options.now) longest records arrived }
-    ensures { (records : List ℕ) → length records < 2 ^ 64 → IsFrontArrived plan.now schema.now (cell_options options.now) longest records arrived.entry
-        → IfOk result (IsArrivalOf plan.now schema.now (cell_options options.now) longest records) }
+    requires left { (records : List ℕ) × (length records < 2 ^ 64) × IsFrontArrived plan.now schema.now (cell_options options.now) records arrived }
+    ensures { (records : List ℕ) → length records < 2 ^ 64 → IsFrontArrived plan.now schema.now (cell_options options.now) records arrived.entry
+        → IfOk result (IsPrinted plan.now schema.now (cell_options options.now) records) }
 {
-    let Arrived {
-        front,
-        left,
-        is_long,
-    } = arrived;
-    if is_long {
-        return Ok(Arrival::Records(left));
-    }
+    let Arrived { front, left } = arrived;
     let Ok(token) = last.set(rt, left) else {
         return Err(AllocError);
     };
     let left = last.value(&token).as_slice();
-    let printed = print_rows_left(
+    print_rows_left(
         rt, alloc, workers, front, left, schema, plan, options, piece_size,
-    )?;
-    Ok(Arrival::Printed(printed))
+    )
 }
 
 // Reads the texts of a source into cells, and prints them meanwhile. Answers what came, and what shows that of a front of the cells.
@@ -89,7 +80,6 @@ fn print_lent<'a, W: Threads + Wait + Sync, So: Source>(
     options: &SerializeOptions,
     verbatim: &Verbatim,
     piece_size: usize,
-    longest: usize,
 ) -> Result<Arrived<'a>, ReadAllFault>
     requires can { CanPrint (without_limit plan.now) schema.now }
     requires verbatim { IsVerbatimOf (without_limit plan.now) schema.now (cell_options options.now) verbatim.now }
@@ -97,7 +87,7 @@ fn print_lent<'a, W: Threads + Wait + Sync, So: Source>(
     requires within { intake.old.size ≤ limit }
     requires ended { intake.old.is_ended ≡ true → IsAtEnd (So.left source.old) }
     ensures few { IfOk result (λ arrived. IfSome plan.now.limit (λ limit. arrived.front.rows ≤ limit)) }
-    ensures arrived { IfOk result (HasAllCome plan.now schema.now (cell_options options.now) longest (So.left source.old) (So.left source.new) limit intake.old) }
+    ensures arrived { IfOk result (HasAllCome plan.now schema.now (cell_options options.now) (So.left source.old) (So.left source.new) limit intake.old) }
     ensures too_long { IsErrOf result ReadAllFault.TooLong → IsPastLimit (So.left source.old) (So.left source.new) limit intake.old.size }
     ensures failed { IsErrOf result ReadAllFault.Source → HasStopped (So.left source.old) (So.left source.new) limit intake.old.size }
     ensures cause { IsErrOf result ReadAllFault.Source → Rose (So.faults source.old) (So.faults source.new) }
@@ -111,9 +101,7 @@ fn print_lent<'a, W: Threads + Wait + Sync, So: Source>(
     )?;
     intake.read_on(source, limit)?;
     let rest = intake.rest();
-    match front_decided(
-        alloc, cells, &tokens, all, rest, schema, plan, options, longest,
-    ) {
+    match front_decided(alloc, cells, &tokens, all, rest, schema, plan, options) {
         Ok(arrived) => Ok(arrived),
         Err(_) => Err(ReadAllFault::OutOfMemory),
     }
@@ -142,7 +130,7 @@ fn print_kept<'a, W: Threads + Wait + Sync, So: Source>(
     requires held { length intake.old.rest.items ≤ intake.old.size }
     requires ended { intake.old.is_ended ≡ true → IsAtEnd (So.left source.old) }
     ensures few { IfOk result (λ arrived. IfSome plan.now.limit (λ limit. arrived.front.rows ≤ limit)) }
-    ensures arrived { IfOk result (HasAllCome plan.now schema.now (cell_options options.now) limit (So.left source.old) (So.left source.new) limit intake.old) }
+    ensures arrived { IfOk result (HasAllCome plan.now schema.now (cell_options options.now) (So.left source.old) (So.left source.new) limit intake.old) }
     ensures too_long { IsErrOf result ReadAllFault.TooLong → IsPastLimit (So.left source.old) (So.left source.new) limit intake.old.size }
     ensures failed { IsErrOf result ReadAllFault.Source → HasStopped (So.left source.old) (So.left source.new) limit intake.old.size }
     ensures cause { IsErrOf result ReadAllFault.Source → Rose (So.faults source.old) (So.faults source.new) }
@@ -156,11 +144,7 @@ fn print_kept<'a, W: Threads + Wait + Sync, So: Source>(
     intake.read_on(source, limit)?;
     let left = std::mem::replace(intake, Intake::new(alloc)).into_rest();
     match front_of_kept(alloc, kept) {
-        Ok(front) => Ok(Arrived {
-            front,
-            left,
-            is_long: false,
-        }),
+        Ok(front) => Ok(Arrived { front, left }),
         Err(_) => Err(ReadAllFault::OutOfMemory),
     }
 }
@@ -182,9 +166,7 @@ fn print_texts<'a, W: Threads + Wait + Sync, So: Source>(
     options: &SerializeOptions,
     verbatim: &Verbatim,
     piece_size: usize,
-    longest: usize,
 ) -> Result<Arrived<'a>, ReadAllFault>
-    requires kept { is_lent ≡ false → limit ≤ longest }
     requires can { CanPrint (without_limit plan.now) schema.now }
     requires verbatim { IsVerbatimOf (without_limit plan.now) schema.now (cell_options options.now) verbatim.now }
     requires size { 0 < piece_size }
@@ -192,7 +174,7 @@ fn print_texts<'a, W: Threads + Wait + Sync, So: Source>(
     requires held { length intake.old.rest.items ≤ intake.old.size }
     requires ended { intake.old.is_ended ≡ true → IsAtEnd (So.left source.old) }
     ensures few { IfOk result (λ arrived. IfSome plan.now.limit (λ limit. arrived.front.rows ≤ limit)) }
-    ensures arrived { IfOk result (HasAllCome plan.now schema.now (cell_options options.now) longest (So.left source.old) (So.left source.new) limit intake.old) }
+    ensures arrived { IfOk result (HasAllCome plan.now schema.now (cell_options options.now) (So.left source.old) (So.left source.new) limit intake.old) }
     ensures too_long { IsErrOf result ReadAllFault.TooLong → IsPastLimit (So.left source.old) (So.left source.new) limit intake.old.size }
     ensures failed { IsErrOf result ReadAllFault.Source → HasStopped (So.left source.old) (So.left source.new) limit intake.old.size }
     ensures cause { IsErrOf result ReadAllFault.Source → Rose (So.faults source.old) (So.faults source.new) }
@@ -201,7 +183,7 @@ fn print_texts<'a, W: Threads + Wait + Sync, So: Source>(
     if is_lent {
         return print_lent(
             rt, alloc, workers, cells, intake, source, limit, schema, plan, options, verbatim,
-            piece_size, longest,
+            piece_size,
         );
     }
     print_kept(
@@ -224,15 +206,14 @@ fn print_whole<'a, W: Threads + Wait + Sync, So: Source>(
     plan: &RangePlan<'_>,
     options: &SerializeOptions,
     piece_size: usize,
-    longest: usize,
-) -> Result<Arrival<'a>, ReadAllFault>
+) -> Result<PrintedRows<'a>, ReadAllFault>
     requires workers { 0 < workers }
     requires can { CanPrint (without_limit plan.now) schema.now }
     requires last { plan.now.last ≡ true }
     requires size { 0 < piece_size }
     requires within { intake.old.size ≤ limit }
     requires ended { intake.old.is_ended ≡ true → IsAtEnd (So.left source.old) }
-    ensures arrived { IfOk result (HasArrived plan.now schema.now (cell_options options.now) longest (So.left source.old) (So.left source.new) limit intake.old) }
+    ensures arrived { IfOk result (HasArrived plan.now schema.now (cell_options options.now) (So.left source.old) (So.left source.new) limit intake.old) }
     ensures too_long { IsErrOf result ReadAllFault.TooLong → IsPastLimit (So.left source.old) (So.left source.new) limit intake.old.size }
     ensures failed { IsErrOf result ReadAllFault.Source → HasStopped (So.left source.old) (So.left source.new) limit intake.old.size }
     ensures cause { IsErrOf result ReadAllFault.Source → Rose (So.faults source.old) (So.faults source.new) }
@@ -240,9 +221,6 @@ fn print_whole<'a, W: Threads + Wait + Sync, So: Source>(
 {
     intake.read_on(source, limit)?;
     let records = std::mem::replace(intake, Intake::new(alloc)).into_rest();
-    if records.len() > longest {
-        return Ok(Arrival::Records(records));
-    }
     let Ok(token) = last.set(rt, records) else {
         return Err(ReadAllFault::OutOfMemory);
     };
@@ -250,16 +228,9 @@ fn print_whole<'a, W: Threads + Wait + Sync, So: Source>(
     match print_rows(
         rt, alloc, workers, records, schema, plan, options, piece_size,
     ) {
-        Ok(printed) => Ok(Arrival::Printed(printed)),
+        Ok(printed) => Ok(printed),
         Err(_) => Err(ReadAllFault::OutOfMemory),
     }
-}
-
-/// What came of a source: the rows of its records, printed, or where they are too long to be printed, the records themselves.
-#[derive(Drop)]
-pub enum Arrival<'a> {
-    Printed(PrintedRows<'a>),
-    Records(Vec<u8>),
 }
 
 // Whether a limit of rows is near, where so many rows stand in the first bytes of the records.
@@ -281,8 +252,6 @@ fn is_near(limit: Option<usize>, rows: usize) -> bool {
 ///
 /// The first text is read before the other workers start. Where a source has no more, there are none.
 ///
-/// Where the records have more bytes than `longest`, which is below the limit, they are not printed but given back; so all texts are kept then.
-///
 /// Refuses as `read_all` does, with those bytes that came before counted in. A last cell that holds something already counts as out of memory.
 pub fn print_arriving<'a, W: Threads + Wait + Sync, So: Source>(
     rt: &W,
@@ -297,8 +266,7 @@ pub fn print_arriving<'a, W: Threads + Wait + Sync, So: Source>(
     plan: &RangePlan<'_>,
     options: &SerializeOptions,
     piece_size: usize,
-    longest: usize,
-) -> Result<Arrival<'a>, ReadAllFault>
+) -> Result<PrintedRows<'a>, ReadAllFault>
     requires workers { 0 < workers }
     requires can { CanPrint (without_limit plan.now) schema.now }
     requires last { plan.now.last ≡ true }
@@ -306,7 +274,7 @@ pub fn print_arriving<'a, W: Threads + Wait + Sync, So: Source>(
     requires within { intake.old.size ≤ limit }
     requires held { length intake.old.rest.items ≤ intake.old.size }
     requires ended { intake.old.is_ended ≡ true → IsAtEnd (So.left source.old) }
-    ensures arrived { IfOk result (HasArrived plan.now schema.now (cell_options options.now) longest (So.left source.old) (So.left source.new) limit intake.old) }
+    ensures arrived { IfOk result (HasArrived plan.now schema.now (cell_options options.now) (So.left source.old) (So.left source.new) limit intake.old) }
     ensures too_long { IsErrOf result ReadAllFault.TooLong → IsPastLimit (So.left source.old) (So.left source.new) limit intake.old.size }
     ensures failed { IsErrOf result ReadAllFault.Source → HasStopped (So.left source.old) (So.left source.new) limit intake.old.size }
     ensures cause { IsErrOf result ReadAllFault.Source → Rose (So.faults source.old) (So.faults source.new) }
@@ -320,22 +288,31 @@ pub fn print_arriving<'a, W: Threads + Wait + Sync, So: Source>(
     let look = look_at(
         alloc, rest, schema, &unlimited, options, &verbatim, piece_size,
     );
-    let are_kept = look.are_lent || longest < limit;
-    if is_near(plan.limit, look.rows) || are_kept && workers == 1 {
+    if is_near(plan.limit, look.rows) || look.are_lent && workers == 1 {
         return print_whole(
             rt, alloc, workers, last, intake, source, limit, schema, plan, options, piece_size,
-            longest,
         );
     }
     make_room(alloc);
     let arrived = print_texts(
-        rt, alloc, workers, are_kept, cells, intake, source, limit, schema, plan, options,
-        &verbatim, piece_size, longest,
+        rt,
+        alloc,
+        workers,
+        look.are_lent,
+        cells,
+        intake,
+        source,
+        limit,
+        schema,
+        plan,
+        options,
+        &verbatim,
+        piece_size,
     )?;
     match print_left(
-        rt, alloc, workers, last, arrived, schema, plan, options, piece_size, longest,
+        rt, alloc, workers, last, arrived, schema, plan, options, piece_size,
     ) {
-        Ok(arrival) => Ok(arrival),
+        Ok(printed) => Ok(printed),
         Err(_) => Err(ReadAllFault::OutOfMemory),
     }
 }

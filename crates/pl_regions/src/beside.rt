@@ -84,26 +84,9 @@ fn places_of<'a>(
     Ok(places)
 }
 
-// Whether texts and what stands behind them are longer than a number of bytes.
-fn are_longer(texts: &[&[u8]], rest: &[u8], longest: usize) -> bool
-    ensures { result ≡ false → length (concat (map (λ text. text.now) texts.now) ++ rest.now) ≤ longest }
-{
-    let mut room = longest;
-    for text in texts {
-        match room.checked_sub(text.len()) {
-            Some(less) => room = less,
-            None => return true,
-        }
-    }
-    if rest.len() > room {
-        return true;
-    }
-    false
-}
-
 /// The front of the texts that these tokens show, whose regions were taken, with no more rows than the limit, and what is left of them and of what
-/// stands behind them, as far as it matters: where the texts reach the limit, what stands behind those that do is left out. Where they are longer
-/// than a number of bytes, all is left. Refuses only want of memory.
+/// stands behind them, as far as it matters: where the texts reach the limit, what stands behind those that do is left out. Refuses only want of
+/// memory.
 pub(crate) fn front_decided<'a>(
     alloc: Global,
     cells: &'a [OnceLock<Vec<u8>>],
@@ -113,25 +96,16 @@ pub(crate) fn front_decided<'a>(
     schema: &Schema,
     plan: &RangePlan<'_>,
     options: &SerializeOptions,
-    longest: usize,
 ) -> Result<Arrived<'a>, AllocError>
     requires can { CanPrint (without_limit plan.now) schema.now }
     requires set { AreSetIn cells.now tokens.now.items }
     requires taken { All (λ taken. All (IsTaken (without_limit plan.now) schema.now (cell_options options.now) cells.now) taken.items) all.items }
-    ensures arrived { IfOk result (IsFrontArrived plan.now schema.now (cell_options options.now) longest (concat (map (λ token. token.value.items) tokens.now.items) ++ rest.now)) }
+    ensures arrived { IfOk result (IsFrontArrived plan.now schema.now (cell_options options.now) (concat (map (λ token. token.value.items) tokens.now.items) ++ rest.now)) }
     ensures few { IfOk result (λ arrived. IfSome plan.now.limit (λ limit. arrived.front.rows ≤ limit)) }
 {
     let unlimited = without_limit(plan);
     let own = texts_of(alloc, cells, tokens)?;
     let texts = own.as_slice();
-    if are_longer(texts, rest, longest) {
-        let records = left_behind(alloc, texts, rest, 0)?;
-        return Ok(Arrived {
-            front: Front::new(alloc),
-            left: records,
-            is_long: true,
-        });
-    }
     let places = places_of(alloc, cells, tokens, all, schema, &unlimited, options)?;
     let CutFront { front, full } = front_of(
         alloc, texts, places, schema, &unlimited, options, plan.limit,
@@ -142,14 +116,12 @@ pub(crate) fn front_decided<'a>(
         return Ok(Arrived {
             front: Front { end, rows, lines },
             left: first,
-            is_long: false,
         });
     }
     let left = left_behind(alloc, texts, rest, end)?;
     Ok(Arrived {
         front: Front { end, rows, lines },
         left,
-        is_long: false,
     })
 }
 

@@ -9,7 +9,7 @@ use crate::front::{Front, make_room};
 use crate::limits::without_limit;
 use crate::printing::{
     PrintedRows, guess_front, join_fronts, lines_of, print_front, print_rest, push_text,
-    range_front,
+    range_front, rows_with,
 };
 use pl_frame::schema::Schema;
 use pl_rows::columns::read_columns;
@@ -157,10 +157,11 @@ fn print_behind<'a>(
     let read = read_columns(alloc, schema, left, &behind)?;
     let end = end_behind(rows, read.end);
     if let RangeEnd::Fault { .. } = end {
-        return Ok(PrintedRows { lines, end });
+        return Ok(PrintedRows { lines, rows, end });
     }
+    let rows = rows_with(rows, &read.columns)?;
     push_text(&mut lines, lines_of(alloc, &read.columns, options)?)?;
-    Ok(PrintedRows { lines, end })
+    Ok(PrintedRows { lines, rows, end })
 }
 
 // Reads and prints what is left of data behind a front that was printed: by workers as far as rows before the limit seem to go, and from there on as

@@ -22,13 +22,11 @@ use pl_write::row_printer::RowPrinter;
 use std::alloc::{AllocError, Global};
 use std::borrow::CowSlice;
 
-/// What came of a source and was printed: the front of the records, and what is left of them behind it; and whether that is all of them, since they
-/// are too long to be printed.
+/// What came of a source and was printed: the front of the records, and what is left of them behind it.
 #[derive(Drop)]
 pub(crate) struct Arrived<'a> {
     pub(crate) front: Front<'a>,
     pub(crate) left: Vec<u8>,
-    pub(crate) is_long: bool,
 }
 
 /// The lines of all rows of texts that follow one another, or of the front of one: how many bytes these have, how many rows, and their lines.

@@ -28,10 +28,11 @@ use std::borrow::CowSlice;
 use std::sync::Wait;
 use std::thread::Threads;
 
-/// What came of data: where its reading ended, and where that is behind all rows, their lines, one text behind the other.
+/// What came of data: where its reading ended, and where that is behind all rows, their lines, one text behind the other, and how many there are.
 #[derive(Drop)]
 pub struct PrintedRows<'a> {
     pub lines: Vec<CowSlice<'a, u8, Global>>,
+    pub rows: usize,
     pub end: RangeEnd,
 }
 
@@ -163,6 +164,20 @@ pub(crate) fn lines_of(
     Ok(lines)
 }
 
+// So many rows and those of columns. Refuses more than numbers of 64 bits count, as want of memory.
+pub(crate) fn rows_with(rows: usize, columns: &[Column]) -> Result<usize, AllocError>
+    ensures { IfOk result (λ all. all ≡ rows + height_of columns.now) }
+{
+    let more = match columns {
+        [] => 0,
+        [first, ..] => first.len(),
+    };
+    match rows.checked_add(more) {
+        Some(all) => Ok(all),
+        None => Err(AllocError),
+    }
+}
+
 // Appends a text to others, where it has bytes. Refuses only want of memory.
 pub(crate) fn push_text<'a>(
     lines: &mut Vec<CowSlice<'a, u8, Global>>,
@@ -198,15 +213,16 @@ fn print_last<'a>(
     } = front;
     if left.is_empty() {
         let end = RangeEnd::Closed;
-        return Ok(PrintedRows { lines, end });
+        return Ok(PrintedRows { lines, rows, end });
     }
     let read = read_columns(alloc, schema, left, plan)?;
     let end = end_behind(rows, read.end);
     if let RangeEnd::Fault { .. } = end {
-        return Ok(PrintedRows { lines, end });
+        return Ok(PrintedRows { lines, rows, end });
     }
+    let rows = rows_with(rows, &read.columns)?;
     push_text(&mut lines, lines_of(alloc, &read.columns, options)?)?;
-    Ok(PrintedRows { lines, end })
+    Ok(PrintedRows { lines, rows, end })
 }
 
 /// Reads and prints what is left of data behind a front that was printed: by workers, as ranges that begin and end where items do, and from the

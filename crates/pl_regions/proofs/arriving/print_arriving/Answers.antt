@@ -8,7 +8,7 @@ print_left-requires-clause-left g c κs within =
     let left = g.So.Source.left in
     let come = c.in_ok-arrived.ensures.arrived in (
       c.args.intake.now.rest.items ++ come.bytes,
-      small-come c.args.plan.now c.args.schema.now (cell_options c.args.options.now) c.args.longest (left c.args.source.now) (left c.print_texts.new.source) c.args.limit c.args.intake.now c.in_ok-arrived.arrived (omega arith) c.requires.held come,
+      small-come c.args.plan.now c.args.schema.now (cell_options c.args.options.now) (left c.args.source.now) (left c.print_texts.new.source) c.args.limit c.args.intake.now c.in_ok-arrived.arrived (omega arith) c.requires.held come,
       come.is,
     )
 
@@ -16,6 +16,6 @@ pub returns-in-Ok-print_left-clause-arrived : goal.returns-in-Ok-print_left-clau
 returns-in-Ok-print_left-clause-arrived g c =
     let left = g.So.Source.left in
     let come = c.in_ok-arrived.ensures.arrived in
-    HasArrived-of c.args.plan.now c.args.schema.now (cell_options c.args.options.now) c.args.longest (left c.args.source.now) (left c.print_texts.new.source) c.args.limit c.args.intake.now c.in_ok-arrived.arrived c.in-Ok-print_left.arrival come
+    HasArrived-of c.args.plan.now c.args.schema.now (cell_options c.args.options.now) (left c.args.source.now) (left c.print_texts.new.source) c.args.limit c.args.intake.now c.in_ok-arrived.arrived c.in-Ok-print_left.printed come
     (c.in-Ok-print_left.ensures (c.args.intake.now.rest.items ++ come.bytes)
-    (small-come c.args.plan.now c.args.schema.now (cell_options c.args.options.now) c.args.longest (left c.args.source.now) (left c.print_texts.new.source) c.args.limit c.args.intake.now c.in_ok-arrived.arrived (omega arith) c.requires.held come) come.is)
+    (small-come c.args.plan.now c.args.schema.now (cell_options c.args.options.now) (left c.args.source.now) (left c.print_texts.new.source) c.args.limit c.args.intake.now c.in_ok-arrived.arrived (omega arith) c.requires.held come) come.is)

@@ -1,4 +1,4 @@
-use Rattle.std.proofs.Common.{rules, refl, subst}
+use Rattle.std.proofs.Common.{rules, subst}
 use Rattle.pl_write.specs.Options.{cell_options}
 use Rattle.pl_intake.proofs.IntakeLaws.{IsTooLong-behind, HasStopped-behind}
 use Rattle.pl_regions.specs.Arriving.{HasPrinted}
@@ -22,4 +22,4 @@ returns-in-Ok-clause-arrived g c =
     c.without_limit-unlimited.ensures c.in_ok-kept.ensures.printed in
     HasAllCome-kept plan schema o (left c.args.source.now) (left c.print_again.new.source) (left c.read_on.new.source) c.args.limit c.args.intake.now
     c.print_again.new.intake c.read_on.new.self c.in_ok-kept.kept _ c.requires.held printed c.in_ok-read_on.ensures.all
-    c.in-Ok.ensures.end c.in-Ok.ensures.rows c.in-Ok.ensures.lines (search rules) refl
+    c.in-Ok.ensures.end c.in-Ok.ensures.rows c.in-Ok.ensures.lines (search rules)

@@ -15,6 +15,6 @@ returns-in_err-read_on-clause-failed g c = λ fault. HasStopped-behind _ _ _ _ _
 pub returns-in-Ok-clause-arrived : goal.returns-in-Ok-clause-arrived
 returns-in-Ok-clause-arrived g c =
     let left = g.So.Source.left in
-    HasAllCome-front c.args.plan.now c.args.schema.now (cell_options c.args.options.now) c.args.longest (left c.args.source.now) (left c.read_and_print.new.source) (left c.read_on.new.source) c.args.limit c.args.intake.now
+    HasAllCome-front c.args.plan.now c.args.schema.now (cell_options c.args.options.now) (left c.args.source.now) (left c.read_and_print.new.source) (left c.read_on.new.source) c.args.limit c.args.intake.now
     c.read_and_print.new.intake c.read_on.new.self (concat (values_of c.in_ok-tokens.tokens.items)) c.rest-rest.result.now c.in-Ok.arrived
     c.in_ok-tokens.ensures.given c.in_ok-read_on.ensures.all c.rest-rest.ensures c.in-Ok.ensures.arrived

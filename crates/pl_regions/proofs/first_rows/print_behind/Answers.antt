@@ -1,4 +1,4 @@
-use Rattle.std.proofs.Common.{◌≡◌, ◌++◌, true, map, sym, ◌∙◌, ap, subst}
+use Rattle.std.proofs.Common.{◌≡◌, ◌++◌, arith, true, map, sym, ◌∙◌, ap, subst}
 use Rattle.std.specs.Cow.{cow_slice_items}
 use Rattle.std.specs.List.{concat}
 use Rattle.pl_frame.specs.Frame.{HaveHeight, height_of}
@@ -6,7 +6,7 @@ use Rattle.pl_rows.specs.Pieces.{plan_behind, is_fault}
 use Rattle.pl_rows.specs.Ranges.{IsRangeRead}
 use Rattle.pl_write.specs.Batches.{all_lines}
 use Rattle.pl_write.specs.Options.{cell_options}
-use Rattle.pl_regions.proofs.LimitLaws.{first-end, first-lines, first-fits}
+use Rattle.pl_regions.proofs.LimitLaws.{first-end, first-high, first-lines, first-fits}
 use Rattle.pl_regions.proofs.PrintingLaws.{level-range}
 use Rattle.pl_regions.proofs.first_rows.print_behind.Goals as goal
 
@@ -25,12 +25,13 @@ returns-in-Fault c = λ records is.
     record {
       end_is = c.end_behind-end.ensures ∙ first-end plan schema o records c.args.left.now c.args.front c.in_ok-read.read c.requires.can c.requires.last is c.requires.few read;
       lines_are = λ sound. absurd (cc);
+      rows_are = λ sound. absurd (cc);
     }
 
 pub lines_of-requires : goal.lines_of-requires
 lines_of-requires c =
     let read = subst (λ p. IsRangeRead p c.args.schema.now c.args.left.now c.in_ok-read.read) c.plan_behind-behind.ensures c.in_ok-read.ensures in
-    subst (λ columns. HaveHeight (height_of columns) columns) (sym c.deref.ensures.value) (level-range (plan_behind c.args.plan.now c.args.front.rows true) c.args.schema.now c.args.left.now c.in_ok-read.read read)
+    subst (λ columns. HaveHeight (height_of columns) columns) (sym c.deref-2.ensures.value) (level-range (plan_behind c.args.plan.now c.args.front.rows true) c.args.schema.now c.args.left.now c.in_ok-read.read read)
 
 pub returns : goal.returns
 returns c = λ records is.
@@ -43,6 +44,8 @@ returns c = λ records is.
       end_is = c.end_behind-end.ensures ∙ first-end plan schema o records c.args.left.now c.args.front c.in_ok-read.read c.requires.can c.requires.last is c.requires.few read;
       lines_are = λ sound.
           c.in_ok-push_text.ensures
-          ∙ ap (λ l. before ++ l) (c.in_ok-lines_of.ensures ∙ ap (all_lines o) c.deref.ensures.value)
+          ∙ ap (λ l. before ++ l) (c.in_ok-lines_of.ensures ∙ ap (all_lines o) c.deref-2.ensures.value)
           ∙ first-lines plan schema o records c.args.left.now c.args.front c.in_ok-read.read c.requires.can c.requires.last is c.requires.few read;
+      rows_are = λ sound.
+          omega (arith, first-high plan schema o records c.args.left.now c.args.front c.in_ok-read.read c.requires.can c.requires.last is c.requires.few read, c.in_ok-rows.ensures, ap height_of c.deref.ensures.value);
     }

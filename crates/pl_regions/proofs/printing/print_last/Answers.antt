@@ -7,7 +7,7 @@ use Rattle.pl_rows.specs.Pieces.{is_fault}
 use Rattle.pl_write.specs.Batches.{all_lines}
 use Rattle.pl_write.specs.Options.{cell_options}
 use Rattle.pl_regions.specs.Printing.{IsLeftBehind}
-use Rattle.pl_regions.proofs.PrintingLaws.{none-left, whole-end, whole-lines, fault-fits, level-range}
+use Rattle.pl_regions.proofs.PrintingLaws.{none-left, whole-end, whole-lines, whole-rows, fault-fits, level-range}
 use Rattle.pl_regions.proofs.printing.print_last.Goals as goal
 
 -- a text of no bytes
@@ -21,7 +21,7 @@ returns-then-is_empty c = λ records is.
     let schema = c.args.schema.now in
     let o = cell_options c.args.options.now in
     let none : c.args.left.now ≡ [] = nothing c.args.left.now (grind (arith, nat_tests, c.is_empty.ensures, c.if-is_empty.true)) in
-    none-left plan schema o records c.args.front _ c.requires.can c.requires.last (subst (IsLeftBehind plan schema o records c.args.front) none is) refl refl
+    none-left plan schema o records c.args.front _ c.requires.can c.requires.last (subst (IsLeftBehind plan schema o records c.args.front) none is) refl refl refl
 
 pub end_behind-end-requires : goal.end_behind-end-requires
 end_behind-end-requires c =
@@ -36,11 +36,12 @@ returns-in-Fault c = λ records is.
     record {
       end_is = c.end_behind-end.ensures ∙ whole-end plan schema o records c.args.left.now c.args.front c.in_ok-read.read c.requires.can c.requires.last is c.in_ok-read.ensures;
       lines_are = λ sound. absurd (cc);
+      rows_are = λ sound. absurd (cc);
     }
 
 pub lines_of-requires : goal.lines_of-requires
 lines_of-requires c =
-    subst (λ columns. HaveHeight (height_of columns) columns) (sym c.deref.ensures.value) (level-range c.args.plan.now c.args.schema.now c.args.left.now c.in_ok-read.read c.in_ok-read.ensures)
+    subst (λ columns. HaveHeight (height_of columns) columns) (sym c.deref-2.ensures.value) (level-range c.args.plan.now c.args.schema.now c.args.left.now c.in_ok-read.read c.in_ok-read.ensures)
 
 pub returns : goal.returns
 returns c = λ records is.
@@ -52,6 +53,8 @@ returns c = λ records is.
       end_is = c.end_behind-end.ensures ∙ whole-end plan schema o records c.args.left.now c.args.front c.in_ok-read.read c.requires.can c.requires.last is c.in_ok-read.ensures;
       lines_are = λ sound.
           c.in_ok-push_text.ensures
-          ∙ ap (λ l. before ++ l) (c.in_ok-lines_of.ensures ∙ ap (all_lines o) c.deref.ensures.value)
+          ∙ ap (λ l. before ++ l) (c.in_ok-lines_of.ensures ∙ ap (all_lines o) c.deref-2.ensures.value)
           ∙ whole-lines plan schema o records c.args.left.now c.args.front c.in_ok-read.read c.requires.can c.requires.last is c.in_ok-read.ensures;
+      rows_are = λ sound.
+          omega (arith, whole-rows plan schema o records c.args.left.now c.args.front c.in_ok-read.read c.requires.can c.requires.last is c.in_ok-read.ensures, c.in_ok-rows.ensures, ap height_of c.deref.ensures.value);
     }

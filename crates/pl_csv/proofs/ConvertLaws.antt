@@ -56,7 +56,7 @@ use Rattle.pl_write.specs.Printed.{printed_text}
 use Rattle.pl_write.specs.declared.options.CsvWriterOptions.{CsvWriterOptions}
 use Rattle.pl_write.proofs.PrintedLaws.{lines-alone, printed-is-text}
 use Rattle.pl_verbatim.specs.PrintedTexts.{CanPrint}
-use Rattle.pl_csv.specs.Converting.{AreNumberable, AreUnnumbered, HasTextOf, IsPrintedRead, IsRowByRow}
+use Rattle.pl_csv.specs.Converting.{AreNumberable, AreUnnumbered, HasTextOf, HaveCodes, IsPrintedRead, IsRowByRow}
 use Rattle.pl_csv.proofs.CodeLaws.{codes-few, few-rows-in}
 use Rattle.pl_csv.specs.Sources.{ArePrintedOf}
 use Rattle.pl_csv.specs.Transcoding.{HasAsciiQuote, IsUnread}
@@ -112,29 +112,23 @@ numbers-none o write schema records plain = by o.row_index plain.numbered
     by (Some index) is = ap (λ t. when t (error.ComputeError (compute_fault.Index index.offset (length (rows_in o records))))) (few index.offset is.fits)
 
 index-none : (o : CsvReadOptions) (write : CsvWriterOptions) (schema : List Entry) (records : List ℕ) → IsRowByRow o write schema records
-    → index_past o.row_index (length (rows_in o records)) (data_columns o schema records) ≡ None
-index-none o write schema records plain =
-    first_some-behind (numbers_past o.row_index (length (rows_in o records))) (map codes_past (data_columns o schema records)) (numbers-none o write schema records plain) ∙ by plain.coded
+    → HaveCodes schema (projected o schema) (length (rows_in o records)) → index_past o.row_index (length (rows_in o records)) (data_columns o schema records) ≡ None
+index-none o write schema records plain codes =
+    first_some-behind (numbers_past o.row_index (length (rows_in o records))) (map codes_past (data_columns o schema records)) (numbers-none o write schema records plain) ∙ by codes
   where
-    by : (list_any (λ place. is_categorical (entry_at schema place).1) (projected o schema) ≡ false) ⊎ (length records ≤ 2 ^ 32) → first_some (map codes_past (data_columns o schema records)) ≡ None
+    by : HaveCodes schema (projected o schema) (length (rows_in o records)) → first_some (map codes_past (data_columns o schema records)) ≡ None
     by (inl none) = codes-none (rules_of o schema) (rows_in o records) schema (projected o schema) none
-    by (inr few) = codes-few (rules_of o schema) (rows_in o records) schema (projected o schema) (omega (arith, few, few-rows-in o records))
+    by (inr few) = codes-few (rules_of o schema) (rows_in o records) schema (projected o schema) few
 
--- rows may be printed as they are read where their lines can be numbered and the codes of their categories fit, or there are none
+-- rows may be printed as they are read where their lines can be numbered
 pub row-by-row : (read : CsvReadOptions) (write : CsvWriterOptions) (schema : List Entry) (places : List ℕ) (amount : ℕ) → places ≡ projected read schema
     → IfSome read.row_index (λ index. AreNumberable write (length places) index.offset amount)
-    → (amount ≤ 2 ^ 32) ⊎ (list_any (λ place. is_categorical (entry_at schema place).1) places ≡ false)
     → (records : List ℕ) → length records ≤ amount → IsRowByRow read write schema records
-row-by-row read write schema places amount is can coded records small = record { numbered = by read.row_index can; coded = codes coded }
+row-by-row read write schema places amount is can records small = record { numbered = by read.row_index can }
   where
     by : (i : Option RowIndex) → IfSome i (λ index. AreNumberable write (length places) index.offset amount) → IfSome i (λ index. AreNumberable write (length (projected read schema)) index.offset (length records))
     by None can = tt
     by (Some index) can = record { can = can.can; some = omega (arith, ap length is, can.some); fits = omega (arith, can.fits, small) }
-
-    codes : (amount ≤ 2 ^ 32) ⊎ (list_any (λ place. is_categorical (entry_at schema place).1) places ≡ false)
-        → (list_any (λ place. is_categorical (entry_at schema place).1) (projected read schema) ≡ false) ⊎ (length records ≤ 2 ^ 32)
-    codes (inl few) = inr (omega (arith, few, small))
-    codes (inr none) = inl (subst (λ (l : List ℕ). list_any (λ place. is_categorical (entry_at schema place).1) l ≡ false) is none)
 
 -- ---- a range without bytes
 
@@ -181,15 +175,16 @@ pub none-is-frame : (plan : RangePlan) (o : CsvReadOptions) (schema : List Entry
 none-is-frame plan o schema write records printed is =
     subst (λ (columns : List ColumnValue). IsFrame (with_index o.row_index (height_of columns) columns)) (sym (none-columns plan o schema is.can.plan_is)) (IsFrame-indexed o schema [] is.can.distinct is.can.free)
 
+-- where data was read to its end, no row has a fault
+no-fault-end : (e : RangeEnd) → (e ≡ end.Closed) ⊎ (e ≡ end.Open) → is_fault e ≡ false
+no-fault-end e (inl closed) = ap is_fault closed
+no-fault-end e (inr opened) = ap is_fault opened
+
 -- the lines of all rows without a row index
 lines-all : (plan : RangePlan) (o : CsvReadOptions) (schema : List Entry) (write : CsvWriterOptions) (records : List ℕ) (printed : PrintedRows) → ArePrintedOf plan o schema write records printed
     → (printed.end ≡ end.Closed) ⊎ (printed.end ≡ end.Open)
     → concat (map cow_slice_items printed.lines.items) ≡ all_lines (cell_options write.serialize_options) (range_frame plan schema records)
 lines-all plan o schema write records printed is ended = is.is.lines_are (no-fault-end printed.end ended)
-  where
-    no-fault-end : (e : RangeEnd) → (e ≡ end.Closed) ⊎ (e ≡ end.Open) → is_fault e ≡ false
-    no-fault-end e (inl closed) = ap is_fault closed
-    no-fault-end e (inr opened) = ap is_fault opened
 
 -- the text of columns without a row index
 plain-text : (plan : RangePlan) (o : CsvReadOptions) (schema : List Entry) (write : CsvWriterOptions) (records : List ℕ) (printed : PrintedRows)
@@ -277,13 +272,21 @@ data-text plan o schema write records printed made is ended lines_are numbers_ar
         subst (λ (n : Option ℕ). MatchOption n (text ≡ text_of_frame (frame_options write) frame) (λ offset. AreUnnumbered write offset made frame)) (sym some)
         (numbered-text plan o schema write records printed index made is ended can lines_are here)
 
+-- there are codes for the categories of all rows that were printed, where there are for so many rows
+codes-of : (plan : RangePlan) (o : CsvReadOptions) (schema : List Entry) (write : CsvWriterOptions) (records : List ℕ) (printed : PrintedRows) → ArePrintedOf plan o schema write records printed
+    → (printed.end ≡ end.Closed) ⊎ (printed.end ≡ end.Open) → HaveCodes schema plan.projection.places.now printed.rows → HaveCodes schema (projected o schema) (length (rows_in o records))
+codes-of plan o schema write records printed is ended (inl none) = inl (subst (λ (l : List ℕ). list_any (λ place. is_categorical (entry_at schema place).1) l ≡ false) is.can.plan_is.places_are none)
+codes-of plan o schema write records printed is ended (inr few) =
+    let whole = columns-at plan o schema records printed.end is.can.plan_is is.is.end_is ended in
+    inr (omega (arith, few, is.is.rows_are (no-fault-end printed.end ended), ap height_of whole, height-is o schema records is.can.some))
+
 -- no cause
 pub data-sound : (plan : RangePlan) (o : CsvReadOptions) (schema : List Entry) (write : CsvWriterOptions) (records : List ℕ) (printed : PrintedRows) → ArePrintedOf plan o schema write records printed
-    → (printed.end ≡ end.Closed) ⊎ (printed.end ≡ end.Open) → data_cause o schema records ≡ None
-data-sound plan o schema write records printed is ended =
+    → (printed.end ≡ end.Closed) ⊎ (printed.end ≡ end.Open) → HaveCodes schema plan.projection.places.now printed.rows → data_cause o schema records ≡ None
+data-sound plan o schema write records printed is ended codes =
     let none = no-fault-at plan o schema records printed.end is.can.plan_is is.is.end_is ended in
     let sound : faulty_record o schema records ≡ None = ap (option_map (λ found. error.ComputeError (compute_fault.Record found.0 found.1.0 found.1.1))) none in
-    first_some-behind (faulty_record o schema records) _ sound ∙ first_some-one _ ∙ index-none o write schema records is.plain
+    first_some-behind (faulty_record o schema records) _ sound ∙ first_some-one _ ∙ index-none o write schema records is.plain (codes-of plan o schema write records printed is ended codes)
 
 -- the first cause
 pub data-fault : (plan : RangePlan) (o : CsvReadOptions) (schema : List Entry) (write : CsvWriterOptions) (records : List ℕ) (printed : PrintedRows) (row column : ℕ) (kind : FaultKind)

@@ -1,10 +1,10 @@
 -- What came of a source, and what was converted of it.
-use Rattle.std.proofs.Common.{◌≡◌, ℕ, true, ◌+◌, ◌≤◌, ◌^◌, List, [], ◌++◌, length, take, drop, refl, sym, ◌∙◌, ap, subst, inl, inr, arith, append_assoc, length-append}
+use Rattle.std.proofs.Common.{◌≡◌, ℕ, true, ◌+◌, ◌≤◌, ◌^◌, List, [], ◌++◌, length, drop, refl, sym, ◌∙◌, ap, subst, inl, inr, arith, append_assoc, length-append}
 use Rattle.std.specs.Prelude.{Option, unwrap_or, None, Result, Ok, Err, IfOk, OnOk, IfErr, IsErrOf, MatchResult}
 use Rattle.std.specs.Result.{is_ok}
 use Rattle.std.specs.Option.{option_copied}
 use Rattle.std.specs.Io.KnownBytes.{Consumes, IsAtEnd}
-use Rattle.std.proofs.lemmas.List.{drop-append-le, take-append-drop}
+use Rattle.std.proofs.lemmas.List.{drop-append-le}
 use Rattle.pl_frame.specs.Causes.{Rose}
 use Rattle.pl_frame.specs.Schema.{Entry, HaveDistinctNames}
 use Rattle.pl_frame.specs.declared.error.PolarsError.{PolarsError}
@@ -74,11 +74,11 @@ come-ahead before now end rest bytes size limit is size_is limit_is came ended w
 }
 
 -- what tells the records of an input tells them of one behind it
-pub IsReadAhead-longer : (read : CsvReadOptions) (write : CsvWriterOptions) (longest : ℕ) (first more longer : List ℕ) (prepared : Prepared) → longer ≡ first ++ more → IsReadAhead read write longest first prepared → IsReadAhead read write longest longer prepared
-IsReadAhead-longer read write longest first more longer prepared is ahead =
-    subst (λ text. IsReadAhead read write longest text prepared) (sym is) (record {
+pub IsReadAhead-longer : (read : CsvReadOptions) (write : CsvWriterOptions) (first more longer : List ℕ) (prepared : Prepared) → longer ≡ first ++ more → IsReadAhead read write first prepared → IsReadAhead read write longer prepared
+IsReadAhead-longer read write first more longer prepared is ahead =
+    subst (λ text. IsReadAhead read write text prepared) (sym is) (record {
       within = omega (arith, ahead.within, length-append first more);
-      is = λ rest. subst (λ input. IsReadBy read write longest input prepared) (sym (append_assoc first more rest)) (ahead.is (more ++ rest));
+      is = λ rest. subst (λ input. IsReadBy read write input prepared) (sym (append_assoc first more rest)) (ahead.is (more ++ rest));
     })
 
 -- where bytes were skipped, the records begin within what is kept
@@ -114,12 +114,12 @@ unprinted read write before now (unconverted.Polars fault) same (inr is) =
 -- ---- what is printed of an input whose rows were prepared ahead
 
 -- it means a frame that can be written, and its text was printed; or it means none
-pub read-or-unread : (read : CsvReadOptions) (write : CsvWriterOptions) (longest : ℕ) (input records : List ℕ) (prepared : Prepared) (result : Result Printed PolarsError) → MayReadAhead read write → IsReadBy read write longest input prepared
+pub read-or-unread : (read : CsvReadOptions) (write : CsvWriterOptions) (input records : List ℕ) (prepared : Prepared) (result : Result Printed PolarsError) → MayReadAhead read write → IsReadBy read write input prepared
     → records ≡ drop prepared.start input
     → IfOk result (λ printed. HasTextOf write printed (data_frame read prepared.schema records))
     → OnOk result (data_cause read prepared.schema records ≡ None) → IfErr result (IsFault (data_cause read prepared.schema records))
     → MatchResult result (IsPrintedRead read write input) (IsUnread read (settled_schema read input) input write)
-read-or-unread read write longest input records prepared result may by records_are text none fault =
+read-or-unread read write input records prepared result may by records_are text none fault =
     let schema : List Entry = settled_schema read input in
     let is = by.is in
     let cause : data_cause read prepared.schema records ≡ late_cause read schema input =
@@ -136,25 +136,17 @@ read-or-unread read write longest input records prepared result may by records_a
     (subst (λ (f : Option PolarsError). IfErr result (IsFault f)) cause fault)
 
 -- data whose rows were prepared ahead can be read
-pub can-ahead : (read : CsvReadOptions) (write : CsvWriterOptions) (longest : ℕ) (input : List ℕ) (prepared : Prepared) (plan : RangePlan) → MayRead read → IsReadBy read write longest input prepared → IsPlanOf plan read prepared.schema
+pub can-ahead : (read : CsvReadOptions) (write : CsvWriterOptions) (input : List ℕ) (prepared : Prepared) (plan : RangePlan) → MayRead read → IsReadBy read write input prepared → IsPlanOf plan read prepared.schema
     → option_copied plan.options.null_values ≡ prepared.null_values → HaveDistinctNames prepared.schema → CanReadData plan read prepared.schema (drop prepared.start input)
-can-ahead read write longest input prepared plan may by is nulls distinct =
+can-ahead read write input prepared plan may by is nulls distinct =
     can-read read input (drop prepared.start input) prepared plan may (IsPrepared-own read (settled_schema read input) input prepared by.is) is nulls distinct (omega arith)
 
 -- and is printed where its rows are
-pub printed-ahead : (read : CsvReadOptions) (write : CsvWriterOptions) (longest : ℕ) (rest kept bytes : List ℕ) (prepared : Prepared) (plan : RangePlan) (printed : PrintedRows) → MayRead read → IsReadAhead read write longest rest prepared
-    → IsPlanOf plan read prepared.schema → option_copied plan.options.null_values ≡ prepared.null_values → HaveDistinctNames prepared.schema → kept ≡ drop prepared.start rest → length (kept ++ bytes) ≤ longest
+pub printed-ahead : (read : CsvReadOptions) (write : CsvWriterOptions) (rest kept bytes : List ℕ) (prepared : Prepared) (plan : RangePlan) (printed : PrintedRows) → MayRead read → IsReadAhead read write rest prepared
+    → IsPlanOf plan read prepared.schema → option_copied plan.options.null_values ≡ prepared.null_values → HaveDistinctNames prepared.schema → kept ≡ drop prepared.start rest → length (kept ++ bytes) ≤ 2 ^ 36
     → IsPrinted plan prepared.schema (cell_options write.serialize_options) (kept ++ bytes) printed → ArePrintedOf plan read prepared.schema write (kept ++ bytes) printed
-printed-ahead read write longest rest kept bytes prepared plan printed may ahead is nulls distinct kept_is small lines =
+printed-ahead read write rest kept bytes prepared plan printed may ahead is nulls distinct kept_is small lines =
     let by = ahead.is bytes in
     let records = records-ahead prepared.start rest bytes kept ahead.within kept_is in
-    let can = can-ahead read write longest (rest ++ bytes) prepared plan may by is nulls distinct in
+    let can = can-ahead read write (rest ++ bytes) prepared plan may by is nulls distinct in
     record { can = subst (CanReadData plan read prepared.schema) (sym records) can; plain = by.plain (kept ++ bytes) small; is = lines }
-
--- what was skipped, and what came behind it, is the input
-pub joined-ahead : (start : ℕ) (rest kept bytes records : List ℕ) → kept ≡ drop start rest → records ≡ kept ++ bytes → rest ++ bytes ≡ take start rest ++ records
-joined-ahead start rest kept bytes records kept_is records_are =
-    ap (λ (l : List ℕ). l ++ bytes) (sym (take-append-drop start rest))
-    ∙ append_assoc (take start rest) (drop start rest) bytes
-    ∙ ap (λ (l : List ℕ). take start rest ++ (l ++ bytes)) (sym kept_is)
-    ∙ ap (λ (l : List ℕ). take start rest ++ l) (sym records_are)

@@ -24,11 +24,13 @@ pub record AreNumberable (write : CsvWriterOptions) (width offset amount : ℕ) 
   pub some : 0 < width
   pub fits : offset + amount ≤ 2 ^ 64
 
--- The rows of data may be printed as they are read: where there is a row index, their lines can be numbered afterwards; and there is no column of
--- categories, whose codes would have to be counted, or the data has no more bytes than there are codes of 32 bits.
+-- the rows of data may be printed as they are read: where there is a row index, their lines can be numbered afterwards
 pub record IsRowByRow (read : CsvReadOptions) (write : CsvWriterOptions) (schema : List Entry) (records : List ℕ) : Type 0 where
   pub numbered : IfSome read.row_index (λ index. AreNumberable write (length (projected read schema)) index.offset (length records))
-  pub coded : (list_any (λ place. is_categorical (entry_at schema place).1) (projected read schema) ≡ false) ⊎ (length records ≤ 2 ^ 32)
+
+-- there are codes for all categories of so many rows: no column is read that has any, or there are no more rows than codes of 32 bits
+abbrev pub HaveCodes : List Entry → List ℕ → ℕ → Type 0
+HaveCodes schema places rows = (list_any (λ place. is_categorical (entry_at schema place).1) places ≡ false) ⊎ (rows ≤ 2 ^ 32)
 
 -- the lines of all rows of a frame were printed without the row index that it begins with, and the columns that are left have its names and no rows
 pub record AreUnnumbered (write : CsvWriterOptions) (offset : ℕ) (printed : Printed) (frame : List ColumnValue) : Type 0 where

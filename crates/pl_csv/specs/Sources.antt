@@ -18,11 +18,9 @@ use Rattle.pl_regions.specs.Printing.{IsPrinted}
 use Rattle.pl_rows.specs.declared.plan.RangePlan.{RangePlan}
 use Rattle.pl_write.specs.Options.{cell_options}
 use Rattle.pl_write.specs.declared.options.CsvWriterOptions.{CsvWriterOptions}
-use Rattle.pl_csv.specs.Converting.{IsPrintedRead, IsRowByRow}
+use Rattle.pl_csv.specs.Converting.{IsRowByRow}
 use Rattle.pl_csv.specs.Transcoding.{HasAsciiQuote, IsUnread, IsConverted, IsTranscodeFault}
 use Rattle.pl_csv.specs.Views.{SourceView, Views}
-use Rattle.pl_csv.specs.declared.convert_source.Ahead.{Ahead}
-use Rattle.pl_csv.specs.declared.convert_source.Ahead.TheVariants as ahead
 use Rattle.pl_csv.specs.declared.convert_source.Unconverted.{Unconverted}
 use Rattle.pl_csv.specs.declared.convert_source.Unconverted.TheVariants as unconverted
 
@@ -91,17 +89,16 @@ pub record MayReadAhead (read : CsvReadOptions) (write : CsvWriterOptions) : Typ
   pub given : IsSome read.schema
   pub lines : read.skip_lines ≡ 0
 
--- what the rows of an input are read by: no cause against it stands before those of its rows, and these may be printed as they are read, where they
--- have no more bytes than a number
-pub record IsReadBy (read : CsvReadOptions) (write : CsvWriterOptions) (longest : ℕ) (input : List ℕ) (prepared : Prepared) : Type 0 where
+-- what the rows of an input are read by: no cause against it stands before those of its rows, and these may be printed as they are read
+pub record IsReadBy (read : CsvReadOptions) (write : CsvWriterOptions) (input : List ℕ) (prepared : Prepared) : Type 0 where
   pub is : IsPrepared read (settled_schema read input) input prepared
   pub sound : opening_cause read (settled_schema read input) input ≡ None
-  pub plain : (records : List ℕ) → length records ≤ longest → IsRowByRow read write prepared.schema records
+  pub plain : (records : List ℕ) → length records ≤ 2 ^ 36 → IsRowByRow read write prepared.schema records
 
 -- a front of an input tells what the rows are read by, whatever stands behind it; they begin within it
-pub record IsReadAhead (read : CsvReadOptions) (write : CsvWriterOptions) (longest : ℕ) (first : List ℕ) (prepared : Prepared) : Type 0 where
+pub record IsReadAhead (read : CsvReadOptions) (write : CsvWriterOptions) (first : List ℕ) (prepared : Prepared) : Type 0 where
   pub within : prepared.start ≤ length first
-  pub is : (rest : List ℕ) → IsReadBy read write longest (first ++ rest) prepared
+  pub is : (rest : List ℕ) → IsReadBy read write (first ++ rest) prepared
 
 -- ---- data whose rows were printed
 
@@ -110,8 +107,3 @@ pub record ArePrintedOf (plan : RangePlan) (read : CsvReadOptions) (schema : Lis
   pub can : CanReadData plan read schema records
   pub plain : IsRowByRow read write schema records
   pub is : IsPrinted plan schema (cell_options write.serialize_options) records printed
-
--- what came of an input that begins with these bytes: it was printed, or this is what stands behind them
-abbrev pub IsAheadOf : CsvReadOptions → CsvWriterOptions → List ℕ → List ℕ → Ahead → Type 0
-IsAheadOf read write head input (ahead.Printed printed) = IsPrintedRead read write input printed
-IsAheadOf read write head input (ahead.Records records) = input ≡ head ++ records.items

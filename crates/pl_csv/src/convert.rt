@@ -21,7 +21,7 @@ ghost use Rattle.pl_rows.specs.Ranges.{range_frame};
 ghost use Rattle.pl_verbatim.specs.PrintedTexts.{CanPrint};
 ghost use Rattle.pl_write.specs.Options.{frame_options};
 ghost use Rattle.pl_write.specs.Writing.{AppendsPrefix};
-ghost use Rattle.pl_csv.specs.Converting.{AreNumberable, AreUnnumbered, HasTextOf, IsPrintedRead, IsRowByRow};
+ghost use Rattle.pl_csv.specs.Converting.{AreNumberable, AreUnnumbered, HasTextOf, HaveCodes, IsPrintedRead, IsRowByRow};
 ghost use Rattle.pl_csv.specs.Sources.{ArePrintedOf};
 ghost use Rattle.pl_csv.specs.Transcoding.{IsUnread, IsConverted, IsTranscodeFault};
 ghost use Rattle.pl_csv.specs.Views.{sink_view};
@@ -53,8 +53,8 @@ use std::borrow::CowSlice;
 use std::sync::Wait;
 use std::thread::Threads;
 
-/// So many categories have codes of 32 bits.
-pub(crate) const CODES: usize = 1 << 32;
+// So many categories have codes of 32 bits.
+const CODES: usize = 1 << 32;
 
 /// What was read of an input: the lines of its first rows, the number of the first one where their numbers are still to be put in front, and the
 /// frame of the others.
@@ -95,7 +95,7 @@ fn is_numberable(index: &RowIndex, write: &CsvWriterOptions, width: usize, amoun
     width > 0 && can_number(&write.serialize_options) && index.offset <= u64::MAX - amount as u64
 }
 
-// The same where a row index is asked.
+// Whether rows may be printed as they are read: the same where a row index is asked.
 fn are_numberable(
     read: &CsvReadOptions,
     write: &CsvWriterOptions,
@@ -110,8 +110,15 @@ fn are_numberable(
     }
 }
 
-/// Whether rows may be printed as they are read, of whatever data of no more than so many bytes. It has no more rows, so where there are as many codes
-/// of categories, all of them fit.
+// Whether there are codes for all categories that are read of so many rows, of which there are no more than rows.
+fn have_codes(schema: &Schema, places: &[usize], rows: usize) -> bool
+    requires { (k : ℕ) → k < length places.now → slice_index places.now k < length schema.now }
+    ensures { OnTrue result (HaveCodes schema.now places.now rows) }
+{
+    rows <= CODES || !have_categories(schema, places)
+}
+
+/// Whether rows may be printed as they are read, of whatever data of no more than so many bytes.
 pub(crate) fn is_row_by_row(
     read: &CsvReadOptions,
     write: &CsvWriterOptions,
@@ -121,16 +128,21 @@ pub(crate) fn is_row_by_row(
     requires { prepared.now.places.items ≡ projected read.now prepared.now.schema }
     ensures { OnTrue result ((records : List ℕ) → length records ≤ amount → IsRowByRow read.now write.now prepared.now.schema records) }
 {
-    if !are_numberable(read, write, prepared.places.len(), amount) {
-        return false;
-    }
-    if amount <= CODES {
-        return true;
-    }
-    if have_categories(&prepared.schema, &prepared.places) {
-        return false;
-    }
-    true
+    are_numberable(read, write, prepared.places.len(), amount)
+}
+
+// The same where all of the data is there, and can be read to a frame instead: there must be codes for the categories of as many rows as bytes.
+fn is_short_enough(
+    read: &CsvReadOptions,
+    write: &CsvWriterOptions,
+    prepared: &Prepared,
+    amount: usize,
+) -> bool
+    requires { prepared.now.places.items ≡ projected read.now prepared.now.schema }
+    ensures { OnTrue result ((records : List ℕ) → length records ≤ amount → IsRowByRow read.now write.now prepared.now.schema records) }
+{
+    have_codes(&prepared.schema, &prepared.places, amount)
+        && is_row_by_row(read, write, prepared, amount)
 }
 
 // The number of the first row, where a row index is asked.
@@ -160,7 +172,8 @@ fn frame_of_none(
     }
 }
 
-/// What data is whose rows were printed. Refuses the first cause against it, and want of memory.
+/// What data is whose rows were printed. Refuses the first cause against it, and want of memory; and so more rows than there are codes, where a column
+/// of categories is read: how many categories they have is not known of what was printed.
 pub(crate) fn read_printed<'a>(
     alloc: Global,
     rows: PrintedRows<'a>,
@@ -175,16 +188,24 @@ pub(crate) fn read_printed<'a>(
     ensures sound { (records : List ℕ) → ArePrintedOf plan.now read.now schema.now write.now records rows.entry → OnOk result (data_cause read.now schema.now records ≡ None) }
     ensures refused { (records : List ℕ) → ArePrintedOf plan.now read.now schema.now write.now records rows.entry → IfErr result (IsFault (data_cause read.now schema.now records)) }
 {
-    match rows.end {
+    let PrintedRows {
+        lines,
+        rows: count,
+        end,
+    } = rows;
+    match end {
         RangeEnd::Fault { row, column, kind } => {
             Err(PolarsError::ComputeError(ComputeFault::Record { row, column, kind }))
         }
         RangeEnd::Closed | RangeEnd::Open => {
+            if !have_codes(schema, plan.projection.places, count) {
+                return Err(PolarsError::OutOfMemory);
+            }
             let Ok(rest) = frame_of_none(alloc, read, schema, plan) else {
                 return Err(PolarsError::OutOfMemory);
             };
             Ok(Printed {
-                lines: rows.lines,
+                lines,
                 numbers: first_number(read),
                 rest,
             })
@@ -235,7 +256,7 @@ fn print_by<'a, W: Threads + Wait + Sync>(
     ensures refused { IfErr result (IsFault (data_cause read.now prepared.now.schema (drop prepared.now.start input.now))) }
 {
     let records = &input[prepared.start..];
-    if is_row_by_row(read, write, prepared, records.len()) {
+    if is_short_enough(read, write, prepared, records.len()) {
         let plan = plan_of(read, prepared);
         let schema = &prepared.schema;
         return print_data(

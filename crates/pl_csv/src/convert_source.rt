@@ -2,13 +2,12 @@
 ghost use Rattle.std.specs.Prelude.{◌≡◌, ℕ, ◌^◌, ◌≤◌, ◌++◌, List, Option, length, take, true, IfOk, OnOk, IfErr, IfSome};
 ghost use Rattle.std.specs.Bool.{OnTrue};
 ghost use Rattle.std.specs.Io.KnownBytes.{IsAtEnd};
-ghost use Rattle.pl_read.specs.Projection.{projected};
-ghost use Rattle.pl_csv.specs.Converting.{IsRowByRow};
-ghost use Rattle.pl_csv.specs.Sources.{HasCome, IsSourceConverted, IsUnconverted, MayReadAhead, IsReadAhead, IsAheadOf, IsKept, IsUnprinted, unread_of};
+ghost use Rattle.pl_csv.specs.Converting.{IsPrintedRead};
+ghost use Rattle.pl_csv.specs.Sources.{HasCome, IsSourceConverted, IsUnconverted, MayReadAhead, IsReadAhead, IsKept, IsUnprinted, unread_of};
 ghost use Rattle.pl_csv.specs.Transcoding.{IsConverted};
 ghost use Rattle.pl_csv.specs.Views.{SourceView, source_view, views};
 
-use crate::convert::{CODES, Printed, convert, is_row_by_row, read_printed, write_printed};
+use crate::convert::{Printed, convert, is_row_by_row, read_printed, write_printed};
 use crate::read_all::{LIMIT, ReadAllFault};
 use crate::worker_space::count_with_space;
 use pl_frame::error::PolarsError;
@@ -21,7 +20,7 @@ use pl_read::checks::check_options;
 use pl_read::preparing::{Prepared, prepare};
 use pl_read::reading::plan_of;
 use pl_read::workers::{piece_size_for, worker_count};
-use pl_regions::arriving::{Arrival, print_arriving};
+use pl_regions::arriving::print_arriving;
 use pl_write::options::CsvWriterOptions;
 use std::alloc::Global;
 use std::sync::{OnceLock, Wait};
@@ -82,41 +81,25 @@ fn reads_ahead(read: &CsvReadOptions, write: &CsvWriterOptions) -> bool
         && check_options(read).is_ok()
 }
 
-// Of how many bytes at most rows may be printed as they are read.
-fn longest_of(read: &CsvReadOptions, write: &CsvWriterOptions, prepared: &Prepared) -> Option<usize>
-    requires { prepared.now.places.items ≡ projected read.now prepared.now.schema }
-    ensures { IfSome result (λ longest. (records : List ℕ) → length records ≤ longest → IsRowByRow read.now write.now prepared.now.schema records) }
-{
-    if is_row_by_row(read, write, prepared, LIMIT) {
-        return Some(LIMIT);
-    }
-    if is_row_by_row(read, write, prepared, CODES) {
-        return Some(CODES);
-    }
-    None
-}
-
 // What the rows of an input are read by that begins with these bytes, where they tell it: they are not all of it, they end with a line end,
-// and the rows begin within them. And of how many bytes at most rows may be printed as they are read.
+// and the rows begin within them.
 fn prepare_ahead(
     alloc: Global,
     first: &[u8],
     is_all: bool,
     read: &CsvReadOptions,
     write: &CsvWriterOptions,
-) -> Option<(Prepared, usize)>
+) -> Option<Prepared>
     requires { MayReadAhead read.now write.now }
-    ensures { IfSome result (λ ahead. IsReadAhead read.now write.now ahead.1 first.now ahead.0) }
+    ensures { IfSome result (IsReadAhead read.now write.now first.now) }
 {
     if is_all || first.len() < 4 || first[first.len() - 1] != read.parse_options.eol_char {
         return None;
     }
     match prepare(alloc, first, read) {
         Ok(prepared) => {
-            if prepared.start < first.len() {
-                if let Some(longest) = longest_of(read, write, &prepared) {
-                    return Some((prepared, longest));
-                }
+            if prepared.start < first.len() && is_row_by_row(read, write, &prepared, LIMIT) {
+                return Some(prepared);
             }
             drop(prepared);
             None
@@ -164,13 +147,6 @@ fn convert_whole<W: Threads + Wait + Sync, So: Source, S: Sink>(
     }
 }
 
-// What came of an input that tells what its rows are read by: it is printed, or where it is too long for that, these are its records.
-#[derive(Drop)]
-enum Ahead<'a> {
-    Printed(Printed<'a>),
-    Records(Vec<u8>),
-}
-
 // What an input is that begins with what was kept, which tells what its rows are read by: they are printed as they come.
 fn print_ahead<'a, W: Threads + Wait + Sync, So: Source>(
     rt: &W,
@@ -179,18 +155,17 @@ fn print_ahead<'a, W: Threads + Wait + Sync, So: Source>(
     last: &'a OnceLock<Vec<u8>>,
     intake: &mut Intake,
     prepared: &Prepared,
-    longest: usize,
     source: &mut So,
     read: &CsvReadOptions,
     write: &CsvWriterOptions,
-) -> Result<Ahead<'a>, Unconverted>
+) -> Result<Printed<'a>, Unconverted>
     requires allowed { MayReadAhead read.now write.now }
-    requires ahead { IsReadAhead read.now write.now longest intake.old.rest.items prepared.now }
+    requires ahead { IsReadAhead read.now write.now intake.old.rest.items prepared.now }
     requires size { intake.old.size ≡ length intake.old.rest.items }
     requires within { intake.old.size ≤ 2 ^ 36 }
     requires ended { intake.old.is_ended ≡ true → IsAtEnd (So.left source.old) }
     ensures printed { (before : SourceView) → IsKept before (source_view (So.left source.old) (So.faults source.old)) intake.old.rest.items
-        → IfOk result (λ ahead. (input : List ℕ) × HasCome before.left (So.left source.new) input × IsAheadOf read.now write.now (take prepared.now.start intake.old.rest.items) input ahead) }
+        → IfOk result (λ printed. (input : List ℕ) × HasCome before.left (So.left source.new) input × IsPrintedRead read.now write.now input printed) }
     ensures refused { (before : SourceView) → IsKept before (source_view (So.left source.old) (So.faults source.old)) intake.old.rest.items
         → IfErr result (IsUnprinted read.now write.now before (source_view (So.left source.new) (So.faults source.new))) }
     ensures later { So.faults source.old ≤ So.faults source.new }
@@ -203,49 +178,14 @@ fn print_ahead<'a, W: Threads + Wait + Sync, So: Source>(
     let options = &write.serialize_options;
     let workers = count_with_space(alloc, worker_count(prepared.n_threads), FIRST);
     let size = piece_size_for(read.chunk_size, plan.projection.places.len());
-    let arrival = match print_arriving(
+    let rows = match print_arriving(
         rt, alloc, workers, cells, last, intake, source, LIMIT, schema, &plan, options, size,
-        longest,
     ) {
-        Ok(arrival) => arrival,
+        Ok(rows) => rows,
         Err(fault) => return Err(unread(fault)),
     };
-    let rows = match arrival {
-        Arrival::Printed(rows) => rows,
-        Arrival::Records(records) => return Ok(Ahead::Records(records)),
-    };
     match read_printed(alloc, rows, read, schema, &plan, write) {
-        Ok(printed) => Ok(Ahead::Printed(printed)),
-        Err(fault) => Err(Unconverted::Polars(fault)),
-    }
-}
-
-// Converts an input of which the first bytes and those behind them are there.
-fn convert_joined<W: Threads + Wait + Sync, S: Sink>(
-    rt: &W,
-    alloc: Global,
-    head: Vec<u8>,
-    records: Vec<u8>,
-    read: &CsvReadOptions,
-    write: &CsvWriterOptions,
-    sink: &mut S,
-) -> Result<(), Unconverted>
-    ensures converted { OnOk result (IsConverted read.now write.now (head.items ++ records.items) (S.received sink.old) (S.received sink.new)) }
-    ensures refused { (left left_now : Option (List ℕ)) (faults faults_now : ℕ) → HasCome left left_now (head.items ++ records.items) → IfErr result (IsUnconverted read.now write.now
-        (views left faults (S.received sink.old) (S.faults sink.old) (S.wants sink.old))
-        (views left_now faults_now (S.received sink.new) (S.faults sink.new) (S.wants sink.new))) }
-    ensures later { S.faults sink.old ≤ S.faults sink.new }
-    ensures later_wants { S.wants sink.old ≤ S.wants sink.new }
-{
-    let mut input = head;
-    if input.extend_from_slice(&records).is_err() {
-        return Err(Unconverted::Polars(PolarsError::OutOfMemory));
-    }
-    drop(records);
-    let converted = convert(rt, alloc, &input, read, write, sink);
-    drop(input);
-    match converted {
-        Ok(()) => Ok(()),
+        Ok(printed) => Ok(printed),
         Err(fault) => Err(Unconverted::Polars(fault)),
     }
 }
@@ -256,14 +196,13 @@ fn convert_ahead<W: Threads + Wait + Sync, So: Source, S: Sink>(
     alloc: Global,
     intake: &mut Intake,
     prepared: &Prepared,
-    longest: usize,
     source: &mut So,
     read: &CsvReadOptions,
     write: &CsvWriterOptions,
     sink: &mut S,
 ) -> Result<(), Unconverted>
     requires allowed { MayReadAhead read.now write.now }
-    requires ahead { IsReadAhead read.now write.now longest intake.old.rest.items prepared.now }
+    requires ahead { IsReadAhead read.now write.now intake.old.rest.items prepared.now }
     requires size { intake.old.size ≡ length intake.old.rest.items }
     requires within { intake.old.size ≤ 2 ^ 36 }
     requires ended { intake.old.is_ended ≡ true → IsAtEnd (So.left source.old) }
@@ -281,18 +220,9 @@ fn convert_ahead<W: Threads + Wait + Sync, So: Source, S: Sink>(
         return Err(Unconverted::Polars(PolarsError::OutOfMemory));
     };
     let last = OnceLock::new();
-    let Ok(head) = Vec::from_slice(alloc, &intake.rest()[..prepared.start]) else {
-        return Err(Unconverted::Polars(PolarsError::OutOfMemory));
-    };
-    let ahead = print_ahead(
-        rt, alloc, &cells, &last, intake, prepared, longest, source, read, write,
+    let printed = print_ahead(
+        rt, alloc, &cells, &last, intake, prepared, source, read, write,
     )?;
-    let printed = match ahead {
-        Ahead::Printed(printed) => printed,
-        Ahead::Records(records) => {
-            return convert_joined(rt, alloc, head, records, read, write, sink);
-        }
-    };
     match write_printed(rt, alloc, &printed, read, write, sink) {
         Ok(()) => Ok(()),
         Err(fault) => Err(Unconverted::Polars(fault)),
@@ -303,7 +233,7 @@ fn convert_ahead<W: Threads + Wait + Sync, So: Source, S: Sink>(
 /// rows are read by, they are printed as they come, by the workers beside the one that reads, or by that one where there is no other: where a
 /// schema is given, no lines are skipped, the rows begin within the first 64 KiB, or within a piece where that is shorter, and don't end there, and
 /// they may be printed without those before them: a row index is put in front of their lines afterwards, where these can be told apart. Where a column
-/// that is read has categories, what came is kept, and where it has more than 2^32 bytes, it is converted as a whole.
+/// that is read has categories, more than 2^32 rows are refused then, as want of memory: how many categories they have is not known.
 ///
 /// Refuses a source that fails, and one that gives more than 2^36 bytes, whatever the input means; then as `convert` does. Before the last
 /// byte came, nothing is written.
@@ -341,18 +271,8 @@ pub fn convert_source<W: Threads + Wait + Sync, So: Source, S: Sink>(
     if intake.put_back(first).is_err() {
         return Err(Unconverted::Polars(PolarsError::OutOfMemory));
     }
-    if let Some((prepared, longest)) = prepared {
-        return convert_ahead(
-            rt,
-            alloc,
-            &mut intake,
-            &prepared,
-            longest,
-            source,
-            read,
-            write,
-            sink,
-        );
+    if let Some(prepared) = prepared {
+        return convert_ahead(rt, alloc, &mut intake, &prepared, source, read, write, sink);
     }
     convert_whole(rt, alloc, intake, source, read, write, sink)
 }

@@ -21,8 +21,8 @@ convert_ahead-requires-clause-ahead g c κs within =
     let rest = c.next_text.new.self.rest.items in
     let back = c.put_back.new.self.rest.items in
     let longer : back ≡ text ++ rest = ok-holds c.put_back.result (back ≡ text ++ rest) c.if-is_err.ensures.negation c.put_back.ensures.rest in
-    IsReadAhead-longer c.args.read.now c.args.write.now c.in-Some-prepared.longest text rest back c.in-Some-prepared.prepared longer
-    (subst (λ front. IsReadAhead c.args.read.now c.args.write.now c.in-Some-prepared.longest front c.in-Some-prepared.prepared) c.deref.ensures.value c.in-Some-prepared.ensures)
+    IsReadAhead-longer c.args.read.now c.args.write.now text rest back c.in-Some-prepared.prepared longer
+    (subst (λ front. IsReadAhead c.args.read.now c.args.write.now front c.in-Some-prepared.prepared) c.deref.ensures.value c.in-Some-prepared.ensures)
 
 pub returns-in-Some-prepared-clause-converted : goal.returns-in-Some-prepared-clause-converted
 returns-in-Some-prepared-clause-converted g c =

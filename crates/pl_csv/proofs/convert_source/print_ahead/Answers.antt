@@ -1,17 +1,19 @@
-use Rattle.std.proofs.Common.{◌≡◌, List, ◌++◌, ◌+◌, ◌≤◌, ◌^◌, [], length, drop, refl, sym, ◌∙◌, ap, subst, inr, arith, length-drop}
+use Rattle.std.proofs.Common.{◌≡◌, List, ◌++◌, ◌+◌, ◌≤◌, ◌^◌, [], length, drop, refl, sym, ◌∙◌, ap, subst, inr, arith, length-append, length-drop, ℕ}
 use Rattle.std.specs.Prelude.{Ok, Err}
 use Rattle.std.specs.Option.{option_map}
 use Rattle.pl_frame.specs.Schema.{Entry}
 use Rattle.pl_cells.specs.NullValues.{compiled_for}
 use Rattle.pl_read.specs.Projection.{projected}
-use Rattle.pl_regions.specs.Arriving.{IsArrivalOf}
-use Rattle.pl_write.specs.Options.{cell_options}
 use Rattle.pl_csv.specs.Sources.{IsUnprinted}
 use Rattle.pl_csv.specs.Views.{source_view}
 use Rattle.pl_csv.proofs.ConvertLaws.{can-print}
 use Rattle.pl_intake.proofs.IntakeLaws.{ok-holds}
-use Rattle.pl_csv.proofs.SourceLaws.{stopped, come-ahead, records-ahead, can-ahead, printed-ahead, read-or-unread, joined-ahead}
+use Rattle.pl_csv.proofs.SourceLaws.{stopped, come-ahead, records-ahead, can-ahead, printed-ahead, read-or-unread}
 use Rattle.pl_csv.proofs.convert_source.print_ahead.Goals as goal
+
+-- what was kept and what came are no more than before bytes were skipped
+few-come : (rest kept bytes : List ℕ) (start : ℕ) → kept ≡ drop start rest → length rest + length bytes ≤ 2 ^ 36 → length (kept ++ bytes) ≤ 2 ^ 36
+few-come rest kept bytes start is small = omega (arith, ap length is, length-drop start rest, length-append kept bytes, small)
 
 pub plan_of-plan-requires-clause-places : goal.plan_of-plan-requires-clause-places
 plan_of-plan-requires-clause-places g c =
@@ -32,7 +34,7 @@ print_arriving-requires-clause-can g c κs within =
     let plan = c.plan_of-plan.result in
     let by = c.requires.ahead.is [] in
     can-print plan read prepared.schema (drop prepared.start input)
-    (can-ahead read write c.args.longest input prepared plan c.requires.allowed.allowed by c.plan_of-plan.ensures.plan c.plan_of-plan.ensures.nulls c.plan_of-plan.ensures.distinct)
+    (can-ahead read write input prepared plan c.requires.allowed.allowed by c.plan_of-plan.ensures.plan c.plan_of-plan.ensures.nulls c.plan_of-plan.ensures.distinct)
 
 pub returns-in-Err-clause-refused : goal.returns-in-Err-clause-refused
 returns-in-Err-clause-refused g c = λ before kept.
@@ -61,12 +63,12 @@ read_printed-requires g c =
     let kept = c.skip.new.self.rest.items in
     let arrived = c.in-Ok.ensures.arrived in
     let kept_is = ok-holds c.skip.result (kept ≡ drop prepared.start rest) c.if-is_err.ensures.negation c.skip.ensures.rest in
-    let lines = subst (IsArrivalOf c.plan_of-plan.result prepared.schema (cell_options c.args.write.now.serialize_options) c.args.longest (kept ++ arrived.bytes)) c.in-Printed.is arrived.is in
+    let few : length (kept ++ arrived.bytes) ≤ 2 ^ 36 = few-come rest kept arrived.bytes prepared.start kept_is (omega (arith, arrived.within, c.skip.ensures.size, c.requires.size)) in
     record {
       printed = (
         kept ++ arrived.bytes,
-        printed-ahead c.args.read.now c.args.write.now c.args.longest rest kept arrived.bytes prepared c.plan_of-plan.result c.in-Printed.rows c.requires.allowed.allowed c.requires.ahead
-            c.plan_of-plan.ensures.plan c.plan_of-plan.ensures.nulls c.plan_of-plan.ensures.distinct kept_is lines.0 lines.1,
+        printed-ahead c.args.read.now c.args.write.now rest kept arrived.bytes prepared c.plan_of-plan.result c.in-Ok.rows c.requires.allowed.allowed c.requires.ahead
+            c.plan_of-plan.ensures.plan c.plan_of-plan.ensures.nulls c.plan_of-plan.ensures.distinct kept_is few arrived.is,
       );
     }
 
@@ -83,13 +85,13 @@ returns-in-Ok-read_printed-clause-printed g c = λ before came.
     let kept_is = ok-holds c.skip.result (kept ≡ drop prepared.start rest) c.if-is_err.ensures.negation c.skip.ensures.rest in
     let small : length rest + length arrived.bytes ≤ 2 ^ 36 = omega (arith, arrived.within, c.skip.ensures.size, c.requires.size) in
     let records = kept ++ arrived.bytes in
-    let lines = subst (IsArrivalOf c.plan_of-plan.result prepared.schema (cell_options write.serialize_options) c.args.longest records) c.in-Printed.is arrived.is in
-    let is = printed-ahead read write c.args.longest rest kept arrived.bytes prepared c.plan_of-plan.result c.in-Printed.rows c.requires.allowed.allowed c.requires.ahead
-    c.plan_of-plan.ensures.plan c.plan_of-plan.ensures.nulls c.plan_of-plan.ensures.distinct kept_is lines.0 lines.1 in
+    let few : length records ≤ 2 ^ 36 = few-come rest kept arrived.bytes prepared.start kept_is small in
+    let is = printed-ahead read write rest kept arrived.bytes prepared c.plan_of-plan.result c.in-Ok.rows c.requires.allowed.allowed c.requires.ahead
+    c.plan_of-plan.ensures.plan c.plan_of-plan.ensures.nulls c.plan_of-plan.ensures.distinct kept_is few arrived.is in
     let input = rest ++ arrived.bytes in (
       input,
       come-ahead before now end rest arrived.bytes (length rest) (2 ^ 36) came refl refl arrived.came arrived.end small,
-      read-or-unread read write c.args.longest input records prepared (Ok c.in-Ok-read_printed.printed) c.requires.allowed (c.requires.ahead.is arrived.bytes)
+      read-or-unread read write input records prepared (Ok c.in-Ok-read_printed.printed) c.requires.allowed (c.requires.ahead.is arrived.bytes)
           (records-ahead prepared.start rest arrived.bytes kept c.requires.ahead.within kept_is) (c.in-Ok-read_printed.ensures.text records is) (c.in-Ok-read_printed.ensures.sound records is) tt,
     )
 
@@ -106,29 +108,13 @@ returns-in-Err-read_printed-clause-refused g c = λ before came.
     let kept_is = ok-holds c.skip.result (kept ≡ drop prepared.start rest) c.if-is_err.ensures.negation c.skip.ensures.rest in
     let small : length rest + length arrived.bytes ≤ 2 ^ 36 = omega (arith, arrived.within, c.skip.ensures.size, c.requires.size) in
     let records = kept ++ arrived.bytes in
-    let lines = subst (IsArrivalOf c.plan_of-plan.result prepared.schema (cell_options write.serialize_options) c.args.longest records) c.in-Printed.is arrived.is in
-    let is = printed-ahead read write c.args.longest rest kept arrived.bytes prepared c.plan_of-plan.result c.in-Printed.rows c.requires.allowed.allowed c.requires.ahead
-    c.plan_of-plan.ensures.plan c.plan_of-plan.ensures.nulls c.plan_of-plan.ensures.distinct kept_is lines.0 lines.1 in
+    let few : length records ≤ 2 ^ 36 = few-come rest kept arrived.bytes prepared.start kept_is small in
+    let is = printed-ahead read write rest kept arrived.bytes prepared c.plan_of-plan.result c.in-Ok.rows c.requires.allowed.allowed c.requires.ahead
+    c.plan_of-plan.ensures.plan c.plan_of-plan.ensures.nulls c.plan_of-plan.ensures.distinct kept_is few arrived.is in
     let input = rest ++ arrived.bytes in
     inr (
       input,
       come-ahead before now end rest arrived.bytes (length rest) (2 ^ 36) came refl refl arrived.came arrived.end small,
-      read-or-unread read write c.args.longest input records prepared (Err c.in-Err-read_printed.fault) c.requires.allowed (c.requires.ahead.is arrived.bytes)
+      read-or-unread read write input records prepared (Err c.in-Err-read_printed.fault) c.requires.allowed (c.requires.ahead.is arrived.bytes)
           (records-ahead prepared.start rest arrived.bytes kept c.requires.ahead.within kept_is) tt tt (c.in-Err-read_printed.ensures.refused records is),
-    )
-
-pub returns-in-Records-clause-printed : goal.returns-in-Records-clause-printed
-returns-in-Records-clause-printed g c = λ before came.
-    let rest = c.args.intake.now.rest.items in
-    let prepared = c.args.prepared.now in
-    let kept = c.skip.new.self.rest.items in
-    let arrived = c.in-Ok.ensures.arrived in
-    let now = source_view (g.So.Source.left c.args.source.now) (g.So.Source.faults c.args.source.now) in
-    let end = source_view (g.So.Source.left c.print_arriving.new.source) (g.So.Source.faults c.print_arriving.new.source) in
-    let kept_is = ok-holds c.skip.result (kept ≡ drop prepared.start rest) c.if-is_err.ensures.negation c.skip.ensures.rest in
-    let small : length rest + length arrived.bytes ≤ 2 ^ 36 = omega (arith, arrived.within, c.skip.ensures.size, c.requires.size) in
-    let records = subst (IsArrivalOf c.plan_of-plan.result prepared.schema (cell_options c.args.write.now.serialize_options) c.args.longest (kept ++ arrived.bytes)) c.in-Records.is arrived.is in (
-      rest ++ arrived.bytes,
-      come-ahead before now end rest arrived.bytes (length rest) (2 ^ 36) came refl refl arrived.came arrived.end small,
-      joined-ahead prepared.start rest kept arrived.bytes c.in-Records.records.items kept_is records,
     )
